@@ -1,0 +1,13 @@
+-- The meaning of a day and its plan, in the report's order. A module uses those above it.
+-- Tables: entries, sums, the first period that passes a test.
+pub mod Sums
+pub mod Find
+-- The problem: a day, its plans, what they cost, which one is wanted (report, section 2; document 01).
+pub mod Day
+pub mod Plan
+-- What is refused, and when; the day file's layout.
+pub mod Refusals
+pub mod File
+-- What a path answers, and what it leaves in lent memory.
+pub mod Outcome
+-- The marked days: a plain search over all plans, the table, its theorem.

@@ -1,0 +1,61 @@
+-- Plans of a day: the conditions that they keep, what they cost, how two of equal cost are told apart, and the plan wanted.
+-- After the report, section 2. A plan is a function from periods to amounts; only its values in the day's periods count.
+-- Main definition: `Optimal`. Assumes nothing.
+use mathlib.Core.Path.{_≡_}
+use Prim.Native.Nat.{ℕ, zero, suc, _+_, _-_, _*_, _≤_, _<_}
+use Rattle.day.specs.Sums.{at, sumTo}
+use Rattle.day.specs.Day.{Day, periods, demandTo}
+
+-- I_i = X_i − R_i, the charge left after i periods; cut off at 0, which condition (2) rules out
+abbrev pub inventory : Day → (ℕ → ℕ) → ℕ → ℕ
+inventory d x i = sumTo x i - demandTo d i
+
+-- p_i(x): nothing for an amount of 0, else the setup cost and the units
+abbrev pub production : Day → ℕ → ℕ → ℕ
+production d k zero = 0
+production d k (suc x) = at (d .setup) k + at (d .unit) k * suc x
+
+-- what one period costs: p_i(x_i) + h_i(I_i), the upkeep paid on what is left at its end
+abbrev pub costAt : Day → (ℕ → ℕ) → ℕ → ℕ
+costAt d x k = production d k (x k) + at (d .holding) k * inventory d x (suc k)
+
+-- sum (1) through the first i periods
+abbrev pub costTo : Day → (ℕ → ℕ) → ℕ → ℕ
+costTo d x i = sumTo (costAt d x) i
+
+-- sum (1)
+abbrev pub cost : Day → (ℕ → ℕ) → ℕ
+cost d x = costTo d x (periods d)
+
+-- conditions (2) to (4) of the report
+pub record Feasible (d : Day) (x : ℕ → ℕ) : Type 0 where
+  -- (2): demand is met on time, R_i ≤ X_i
+  pub served : (k : ℕ) → k < periods d → demandTo d (suc k) ≤ sumTo x (suc k)
+  -- (3): nothing is left at the end, X_n = R_n
+  pub emptied : sumTo x (periods d) ≡ demandTo d (periods d)
+  -- (4): no amount is above its period's capacity
+  pub within : (k : ℕ) → k < periods d → x k ≤ at (d .capacity) k
+
+-- 1 where something is made
+abbrev pub setupAt : ℕ → ℕ
+setupAt zero = 0
+setupAt (suc x) = 1
+
+-- in how many of the first n periods something is made (document 01: starts)
+abbrev pub setups : ℕ → (ℕ → ℕ) → ℕ
+setups n x = sumTo (λ k. setupAt (x k)) n
+
+-- Of two plans of n periods, x has the smaller amount in the last period in which they differ, if they differ:
+-- in a period after which the two are alike, x makes no more than y.
+abbrev pub Smaller : ℕ → (ℕ → ℕ) → (ℕ → ℕ) → Type 0
+Smaller n x y = (k : ℕ) → k < n → ((j : ℕ) → k < j → j < n → x j ≡ y j) → x k ≤ y k
+
+-- x is cheaper than y; or costs as much, and is the smaller
+pub record Precedes (costs : (ℕ → ℕ) → ℕ) (n : ℕ) (x y : ℕ → ℕ) : Type 0 where
+  pub cheap : costs x ≤ costs y
+  pub small : costs x ≡ costs y → Smaller n x y
+
+-- the plan of the day: it keeps the conditions, and precedes every plan that does (demand 3)
+pub record Optimal (d : Day) (x : ℕ → ℕ) : Type 0 where
+  pub feasible : Feasible d x
+  pub first : (y : ℕ → ℕ) → Feasible d y → Precedes (cost d) (periods d) x y

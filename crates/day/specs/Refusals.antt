@@ -1,0 +1,133 @@
+-- What is refused, and when: document 01's conditions 1 to 9, each as a definition, and the number and period of each refusal.
+-- A call's first refusal in order is `first` of a list of these. Conditions 10 to 13 are in `File`.
+-- Assumes nothing.
+use mathlib.Core.Bool.{Bool, true, false, not, _||_}
+use mathlib.Core.List.{List, [], _∷_}
+use mathlib.Core.Option.{Option, none, some, Option·map}
+use Prim.Native.Nat.{ℕ, suc, _+_, _-_, _*_}
+use lib.Dec.{eqb, ltb}
+use lib.ListN.{length}
+use Rattle.day.specs.declared.Refusal.{Refusal}
+use Rattle.day.specs.declared.Refusal.the-variants.{PeriodCount, TableLength, AboveLimit, TotalDemand, ShortArea, FewSlots, Shortage, UnequalCapacities, BindingCapacity, UnknownKind, TruncatedFile, WrongEnd, NoSuchPeriod}
+use Rattle.day.specs.declared.Check.{Check}
+use Rattle.day.specs.declared.Check.the-variants.{Passed, Refused}
+use Rattle.day.specs.Sums.{at}
+use Rattle.day.specs.Find.{find}
+use Rattle.day.specs.Day.{Day, periods, maxPeriods, maxDemand, maxCapacity, maxSetup, maxRate, maxTotal, demandTo, capacityTo, total}
+
+-- document 01's number of a refusal
+abbrev pub numberOf : Refusal → ℕ
+numberOf PeriodCount = 1
+numberOf TableLength = 2
+numberOf (AboveLimit i) = 3
+numberOf TotalDemand = 4
+numberOf ShortArea = 5
+numberOf FewSlots = 6
+numberOf (Shortage i) = 7
+numberOf UnequalCapacities = 8
+numberOf (BindingCapacity i) = 9
+numberOf UnknownKind = 10
+numberOf TruncatedFile = 11
+numberOf WrongEnd = 12
+numberOf NoSuchPeriod = 13
+
+-- the period that it names, counted from 1; 0 where it names none
+abbrev pub periodOf : Refusal → ℕ
+periodOf PeriodCount = 0
+periodOf TableLength = 0
+periodOf (AboveLimit i) = i
+periodOf TotalDemand = 0
+periodOf ShortArea = 0
+periodOf FewSlots = 0
+periodOf (Shortage i) = i
+periodOf UnequalCapacities = 0
+periodOf (BindingCapacity i) = i
+periodOf UnknownKind = 0
+periodOf TruncatedFile = 0
+periodOf WrongEnd = 0
+periodOf NoSuchPeriod = 0
+
+-- the refusal, where its condition holds
+abbrev pub refuse : Bool → Refusal → Option Refusal
+refuse true r = some r
+refuse false r = none
+
+-- the refusal with the first period in which its condition holds; index k is period k + 1
+abbrev pub refuseAt : (ℕ → Refusal) → Option ℕ → Option Refusal
+refuseAt r none = none
+refuseAt r (some k) = some (r (suc k))
+
+-- the first of several
+abbrev pub first : List (Option Refusal) → Option Refusal
+first [] = none
+first (none ∷ rest) = first rest
+first (some r ∷ rest) = some r
+
+-- what a call's tests answer
+abbrev pub checked : Option Refusal → Check
+checked none = Passed
+checked (some r) = Refused r
+
+-- 1: n is 0 or above 96
+abbrev pub badCount : ℕ → Option Refusal
+badCount n = refuse (eqb n 0 || ltb maxPeriods n) PeriodCount
+
+-- 2: a table is not as long as the demand table
+abbrev pub badLengths : Day → Option Refusal
+badLengths d =
+    refuse
+    (not (eqb (length (d .capacity)) (periods d)) || not (eqb (length (d .setup)) (periods d)) || not (eqb (length (d .unit)) (periods d)) || not (eqb (length (d .holding)) (periods d)))
+    TableLength
+
+-- 3: a value above its limit
+abbrev pub aboveLimit : Day → ℕ → Bool
+aboveLimit d k =
+    ltb maxDemand (at (d .demand) k)
+    || ltb maxCapacity (at (d .capacity) k)
+    || ltb maxSetup (at (d .setup) k)
+    || ltb maxRate (at (d .unit) k)
+    || ltb maxRate (at (d .holding) k)
+
+abbrev pub badValue : Day → Option Refusal
+badValue d = refuseAt AboveLimit (find (aboveLimit d) (periods d))
+
+-- 4: R over the day above 4,096
+abbrev pub badTotal : Day → Option Refusal
+badTotal d = refuse (ltb maxTotal (total d)) TotalDemand
+
+-- 5: a work area shorter than the path needs: cost cells, choice cells
+abbrev pub badAreas : (costs needed choices needed′ : ℕ) → Option Refusal
+badAreas costs needed choices needed′ = refuse (ltb costs needed || ltb choices needed′) ShortArea
+
+-- 6: answer slots, or cells of a plan or a table, fewer than needed
+abbrev pub badSlots : (slots needed : ℕ) → Option Refusal
+badSlots slots needed = refuse (ltb slots needed) FewSlots
+
+-- 7: R above C at some period
+abbrev pub short : Day → ℕ → Bool
+short d k = ltb (capacityTo d (suc k)) (demandTo d (suc k))
+
+abbrev pub shortage : Day → Option Refusal
+shortage d = refuseAt Shortage (find (short d) (periods d))
+
+-- 8: capacities differ
+abbrev pub differs : Day → ℕ → Bool
+differs d k = not (eqb (at (d .capacity) k) (at (d .capacity) 0))
+
+abbrev pub anywhere : Option ℕ → Refusal → Option Refusal
+anywhere none r = none
+anywhere (some k) r = some r
+
+abbrev pub unequal : Day → Option Refusal
+unequal d = anywhere (find (differs d) (periods d)) UnequalCapacities
+
+-- 9: a capacity may bind: it is below R over the day less R before its period
+abbrev pub binds : Day → ℕ → Bool
+binds d k = ltb (at (d .capacity) k) (total d - demandTo d k)
+
+abbrev pub binding : Day → Option Refusal
+binding d = refuseAt BindingCapacity (find (binds d) (periods d))
+
+-- the tests that open every call on tables: 1, 2, 3
+abbrev pub badTables : Day → List (Option Refusal) → List (Option Refusal)
+badTables d rest = badCount (periods d) ∷ badLengths d ∷ badValue d ∷ rest

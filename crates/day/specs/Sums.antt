@@ -1,0 +1,48 @@
+-- Entries of tables and sums over the first periods.
+-- Index k is the report's period k + 1, and `sumTo f i` is the sum over the report's periods 1 to i.
+-- Assumes nothing.
+use mathlib.Core.Path.{_≡_, refl}
+use mathlib.Core.List.{List, [], _∷_}
+use mathlib.Core.Logic.{⊎-elim}
+use Prim.Native.Nat.{ℕ, zero, suc, _+_, _≤_, _<_}
+use native.Mathlib.Nat.{eq-or-lt-of-le, le-of-suc-le-suc}
+use native.Mathlib.Omega.{arith}
+use lib.ListN.{getD}
+use lib.Arith.{le-zero}
+
+-- entry k of a table, 0 past its end
+abbrev pub at : List ℕ → ℕ → ℕ
+at l k = getD l k 0
+
+-- f 0 + f 1 + .. + f (i - 1)
+abbrev pub sumTo : (ℕ → ℕ) → ℕ → ℕ
+sumTo f zero = 0
+sumTo f (suc i) = sumTo f i + f i
+
+-- what holds below i and at i holds below i + 1
+pub below : (P : ℕ → Type 0) (i : ℕ) → ((k : ℕ) → k < i → P k) → P i → (k : ℕ) → k < suc i → P k
+below P i all here k l = ⊎-elim (λ (e : k ≡ i). rw e here) (λ lt. all k lt) (eq-or-lt-of-le (le-of-suc-le-suc l))
+
+-- sums of what is alike below n are equal
+pub sum-ext : (f g : ℕ → ℕ) (n : ℕ) → ((k : ℕ) → k < n → f k ≡ g k) → sumTo f n ≡ sumTo g n
+sum-ext f g zero h = refl
+sum-ext f g (suc n) h = omega (arith, sum-ext f g n (λ k l. h k (omega arith)), h n (omega arith))
+
+pub sum-le : (f g : ℕ → ℕ) (n : ℕ) → ((k : ℕ) → k < n → f k ≤ g k) → sumTo f n ≤ sumTo g n
+sum-le f g zero h = omega arith
+sum-le f g (suc n) h = omega (arith, sum-le f g n (λ k l. h k (omega arith)), h n (omega arith))
+
+-- a sum over more periods is no smaller
+pub sum-grows : (f : ℕ → ℕ) (i n : ℕ) → i ≤ n → sumTo f i ≤ sumTo f n
+sum-grows f i zero h = rw (le-zero h) (omega arith)
+sum-grows f i (suc n) h = ⊎-elim (λ (e : i ≡ suc n). rw e (omega arith)) (λ l. omega (arith, sum-grows f i n (le-of-suc-le-suc l))) (eq-or-lt-of-le h)
+
+-- f 0, .. f (n - 1) as a table
+abbrev pub listOf : (ℕ → ℕ) → ℕ → List ℕ
+listOf f zero = []
+listOf f (suc n) = f 0 ∷ listOf (λ k. f (suc k)) n
+
+pub at-listOf : (f : ℕ → ℕ) (n k : ℕ) → k < n → at (listOf f n) k ≡ f k
+at-listOf f zero k l = absurd (omega arith)
+at-listOf f (suc n) zero l = refl
+at-listOf f (suc n) (suc k) l = at-listOf (λ j. f (suc j)) n k (le-of-suc-le-suc l)

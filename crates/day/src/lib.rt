@@ -1,0 +1,81 @@
+//! The types that every call answers with. What they mean is in specs/.
+ghost use mathlib.Core.Path.{_≡_};
+ghost use Rattle.day.specs.Refusals.{numberOf, periodOf};
+
+// Why a call is refused, with the period that it names, where it names one.
+// `numberOf` and `periodOf` give document 01's number and period.
+pub enum Refusal {
+    PeriodCount,
+    TableLength,
+    AboveLimit(usize),
+    TotalDemand,
+    ShortArea,
+    FewSlots,
+    Shortage(usize),
+    UnequalCapacities,
+    BindingCapacity(usize),
+    UnknownKind,
+    TruncatedFile,
+    WrongEnd,
+    NoSuchPeriod,
+}
+
+impl Refusal {
+    pub fn number(self) -> u64
+        ensures { λ r. ⌜ r ≡ numberOf self ⌝ }
+    {
+        match self {
+            Refusal::PeriodCount => 1,
+            Refusal::TableLength => 2,
+            Refusal::AboveLimit(_) => 3,
+            Refusal::TotalDemand => 4,
+            Refusal::ShortArea => 5,
+            Refusal::FewSlots => 6,
+            Refusal::Shortage(_) => 7,
+            Refusal::UnequalCapacities => 8,
+            Refusal::BindingCapacity(_) => 9,
+            Refusal::UnknownKind => 10,
+            Refusal::TruncatedFile => 11,
+            Refusal::WrongEnd => 12,
+            Refusal::NoSuchPeriod => 13,
+        }
+    }
+
+    pub fn period(self) -> usize
+        ensures { λ r. ⌜ r ≡ periodOf self ⌝ }
+    {
+        match self {
+            Refusal::PeriodCount => 0,
+            Refusal::TableLength => 0,
+            Refusal::AboveLimit(i) => i,
+            Refusal::TotalDemand => 0,
+            Refusal::ShortArea => 0,
+            Refusal::FewSlots => 0,
+            Refusal::Shortage(i) => i,
+            Refusal::UnequalCapacities => 0,
+            Refusal::BindingCapacity(i) => i,
+            Refusal::UnknownKind => 0,
+            Refusal::TruncatedFile => 0,
+            Refusal::WrongEnd => 0,
+            Refusal::NoSuchPeriod => 0,
+        }
+    }
+}
+
+// What the tests of a call say: it goes on, or the first refusal.
+pub enum Check {
+    Passed,
+    Refused(Refusal),
+}
+
+// A plan's cost and its setups (document 01: starts).
+pub struct Totals {
+    pub cost: u64,
+    pub setups: u64,
+}
+
+// What a path answers; the plan itself is in the lent slots.
+pub enum Answer {
+    Refused(Refusal),
+    Planned(Totals),
+}
