@@ -49,6 +49,11 @@ none-found P (suc n) e k l = go (find P n) (none-found P n) (P n) refl e
     go none rec true r s = let z : _≡_ {A = ℕ} 0 1 = cc in absurd (omega arith)
     go none rec false r s = below (λ (j : ℕ). P j ≡ false) n (rec refl) r k l
 
+-- where nothing passes, nothing is found
+pub nothing-found : (P : ℕ → Bool) (n : ℕ) → ((k : ℕ) → k < n → P k ≡ false) → find P n ≡ none
+nothing-found P zero h = refl
+nothing-found P (suc n) h = find-none P n (nothing-found P n (λ k l. h k (omega arith))) (h n (omega arith))
+
 -- what is found is the first that passes
 pub some-found : (P : ℕ → Bool) (n k : ℕ) → find P n ≡ some k → Found P n k
 some-found P zero k e = let z : _≡_ {A = ℕ} 0 1 = cc in absurd (omega arith)

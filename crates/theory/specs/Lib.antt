@@ -18,3 +18,5 @@ pub mod Uncapped
 pub mod WagnerWhitin
 pub mod FlorianKlein
 pub mod Loads
+pub mod Demands
+pub mod Agreement
