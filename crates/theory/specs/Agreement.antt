@@ -1,8 +1,8 @@
 -- Any two paths agree on a day of both their kinds: the short paths give what the full path gives.
 -- Main statements, demand 3: `uncapped-agrees`, `equal-agrees`. Assumes nothing.
 use mathlib.Core.Path.{_≡_, refl, sym, ap, ap₂, _∙_}
-use mathlib.Core.List.{List, [], _∷_}
-use mathlib.Core.Option.{Option, none, some}
+use mathlib.Core.List.{[], _∷_}
+use mathlib.Core.Option.{Option, none}
 use Prim.Native.Nat.{ℕ, _≤_, _<_}
 use native.Mathlib.Omega.{arith}
 use borrow.Author.Tests.{le-ltb}
@@ -14,7 +14,7 @@ use Rattle.day.specs.declared.Answer.the-variants.{Refused, Planned}
 use Rattle.day.specs.Sums.{at, sum-ext}
 use Rattle.day.specs.Day.{Day, periods}
 use Rattle.day.specs.Plan.{setupAt}
-use Rattle.day.specs.Refusals.{first, badTables, badCount, badLengths, badValue, badTotal, badAreas, badSlots, shortage, unequal, binding}
+use Rattle.day.specs.Refusals.{first, badTables, badTotal, shortage, unequal, binding}
 use Rattle.day.specs.Outcome.{Memory, Counts}
 use Rattle.day.specs.Paths.{Path, refusal, Runs, full, uncapped, equal}
 use Rattle.day.specs.Search.{cost-alike}
