@@ -1,0 +1,97 @@
+-- Bounds on a day's sums from the widths of its tables.
+-- Main statement: `sums-low`. Assumes nothing.
+use mathlib.Core.Path.{_≡_, refl}
+use mathlib.Core.Bool.{Bool, true, false}
+use mathlib.Core.Option.{none}
+use Prim.Native.Nat.{ℕ, zero, suc, _+_, _-_, _*_, _^_, _≤_, _<_}
+use native.Mathlib.Nat.{mul-le-mul, mul-le-mul-right, le-trans, suc-mul}
+use native.Mathlib.Omega.{arith}
+use Rattle.day.specs.Sums.{at, sumTo}
+use Rattle.day.specs.Find.{find, find-none, find-here}
+use Rattle.day.specs.Day.{Day, periods, maxPeriods}
+use Rattle.day.specs.Plan.{inventory, costAt, costTo, setupAt}
+use Rattle.weigher.specs.declared.Rule.{Rule}
+use Rattle.weigher.specs.declared.Verdict.the-variants.{Holds, Broken}
+use Rattle.weigher.specs.declared.Sums.{Sums}
+use Rattle.weigher.specs.declared.Step.the-variants.{Kept, Broke}
+use Rattle.weigher.specs.Verdict.{breaks, ruleAt, verdictOf}
+use Rattle.weigher.specs.Walk.{sumsTo, stepOn, stepAt, productionOf, production-is, Low}
+
+-- every entry fits its table's width
+pub record Wide (d : Day) (x : ℕ → ℕ) : Type 0 where
+  pub demand : (k : ℕ) → at (d .demand) k < 2 ^ 16
+  pub setup : (k : ℕ) → at (d .setup) k < 2 ^ 32
+  pub unit : (k : ℕ) → at (d .unit) k < 2 ^ 32
+  pub holding : (k : ℕ) → at (d .holding) k < 2 ^ 32
+  pub amount : (k : ℕ) → x k < 2 ^ 16
+
+-- terms of a day's periods, each at most `top`
+pub sum-low : (f : ℕ → ℕ) (top i : ℕ) → i ≤ maxPeriods → ((k : ℕ) → k < i → f k ≤ top) → sumTo f i ≤ maxPeriods * top
+sum-low f top i few h = le-trans (go i h) (mul-le-mul-right top few)
+  where
+    go : (j : ℕ) → ((k : ℕ) → k < j → f k ≤ top) → sumTo f j ≤ j * top
+    go zero h = omega arith
+    go (suc j) h = rw suc-mul (omega (arith, go j (λ k l. h k (omega arith)), h j (omega arith)))
+
+-- what is paid at a 32-bit rate for fewer than `top` units
+pub paid-low : (rate v top : ℕ) → rate < 2 ^ 32 → v < top → rate * v ≤ (2 ^ 32 - 1) * (top - 1)
+paid-low rate v top r l = mul-le-mul (omega arith) (omega arith)
+
+pub production-low : (setup unit x : ℕ) → setup < 2 ^ 32 → unit < 2 ^ 32 → x < 2 ^ 16 → productionOf setup unit x < 2 ^ 48
+production-low b p zero hb hp l = omega arith
+production-low b p (suc x) hb hp l = omega (arith, paid-low p (suc x) (2 ^ 16) hp l)
+
+setup-low : (x : ℕ) → setupAt x ≤ 1
+setup-low zero = omega arith
+setup-low (suc x) = omega arith
+
+-- sums of 16-bit terms
+short-low : (f : ℕ → ℕ) (i : ℕ) → i ≤ maxPeriods → ((k : ℕ) → f k < 2 ^ 16) → sumTo f i < 2 ^ 23
+short-low f i few h = omega (arith, sum-low f (2 ^ 16 - 1) i few (λ k l. omega (arith, h k)))
+
+module _ (d : Day) (x : ℕ → ℕ) (wide : Wide d x) (i : ℕ) (few : i ≤ maxPeriods) where
+  pub cost-low : costTo d x i < 2 ^ 63
+  cost-low = omega (arith, sum-low (costAt d x) (2 ^ 48 + 2 ^ 55) i few term)
+    where
+      term : (k : ℕ) → k < i → costAt d x k ≤ 2 ^ 48 + 2 ^ 55
+      term k l =
+          omega
+          (arith,
+          production-is d k (x k),
+          production-low (at (d .setup) k) (at (d .unit) k) (x k) (wide .setup k) (wide .unit k) (wide .amount k),
+          paid-low (at (d .holding) k) (inventory d x (suc k)) (2 ^ 23) (wide .holding k) (omega (arith, short-low x (suc k) (omega arith) (wide .amount))))
+
+  pub sums-low : Low (sumsTo d x i)
+  sums-low = record {
+    cost = cost-low;
+    setups = omega (arith, sum-low (λ k. setupAt (x k)) 1 i few (λ k l. setup-low (x k)));
+    made = short-low x i few (wide .amount);
+    needed = short-low (at (d .demand)) i few (wide .demand);
+  }
+
+-- the first i periods break no rule, and s holds the sums through them
+pub record Walked (d : Day) (x : ℕ → ℕ) (i : ℕ) (s : Sums) : Type 0 where
+  pub inside : i ≤ periods d
+  pub sums : s ≡ sumsTo d x i
+  pub kept : find (breaks d x) i ≡ none
+
+module _ {d : Day} {x : ℕ → ℕ} {i : ℕ} {s : Sums} (w : Walked d x i s) where
+  pub walked-more : (t : Sums) → i < periods d → stepAt d x i ≡ Kept t → Walked d x (suc i) t
+  walked-more t l e = go (breaks d x i) refl e
+    where
+      go : (b : Bool) → breaks d x i ≡ b → stepOn b (ruleAt d x i) (sumsTo d x (suc i)) ≡ Kept t → Walked d x (suc i) t
+      go true q e = let z : _≡_ {A = ℕ} 0 1 = cc in absurd (omega arith)
+      go false q e = record { inside = l; sums = cc; kept = find-none (breaks d x) i (w .kept) q }
+
+  pub walked-broken : (r : Rule) → i < periods d → stepAt d x i ≡ Broke r → Broken r (suc i) ≡ verdictOf d x
+  walked-broken r l e = go (breaks d x i) refl e
+    where
+      go : (b : Bool) → breaks d x i ≡ b → stepOn b (ruleAt d x i) (sumsTo d x (suc i)) ≡ Broke r → Broken r (suc i) ≡ verdictOf d x
+      go true q e = let f : ruleAt d x i ≡ r = cc in rw (find-here (breaks d x) i (periods d) (w .kept) q l, ← f) refl
+      go false q e = let z : _≡_ {A = ℕ} 0 1 = cc in absurd (omega arith)
+
+  pub walked-through : periods d ≤ i → Holds (record { cost = s .cost; setups = s .setups }) ≡ verdictOf d x
+  walked-through l = go (omega (arith, w .inside))
+    where
+      go : i ≡ periods d → Holds (record { cost = s .cost; setups = s .setups }) ≡ verdictOf d x
+      go e = rw (w .sums, e, rw e at (w .kept)) refl
