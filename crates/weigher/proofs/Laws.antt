@@ -13,6 +13,7 @@ use Rattle.day.specs.Plan.{inventory, costAt, costTo, setupAt}
 use Rattle.weigher.specs.declared.Rule.{Rule}
 use Rattle.weigher.specs.declared.Verdict.the-variants.{Holds, Broken}
 use Rattle.weigher.specs.declared.Sums.{Sums}
+use Rattle.weigher.specs.declared.Step.{Step}
 use Rattle.weigher.specs.declared.Step.the-variants.{Kept, Broke}
 use Rattle.weigher.specs.Verdict.{breaks, ruleAt, verdictOf}
 use Rattle.weigher.specs.Walk.{sumsTo, stepOn, stepAt, productionOf, production-is, Low}
@@ -55,11 +56,12 @@ module _ (d : Day) (x : ℕ → ℕ) (wide : Wide d x) (i : ℕ) (few : i ≤ ma
     where
       term : (k : ℕ) → k < i → costAt d x k ≤ 2 ^ 48 + 2 ^ 55
       term k l =
-          omega
-          (arith,
-          production-is d k (x k),
-          production-low (at (d .setup) k) (at (d .unit) k) (x k) (wide .setup k) (wide .unit k) (wide .amount k),
-          paid-low (at (d .holding) k) (inventory d x (suc k)) (2 ^ 23) (wide .holding k) (omega (arith, short-low x (suc k) (omega arith) (wide .amount))))
+          omega (
+            arith,
+            production-is d k (x k),
+            production-low (at (d .setup) k) (at (d .unit) k) (x k) (wide .setup k) (wide .unit k) (wide .amount k),
+            paid-low (at (d .holding) k) (inventory d x (suc k)) (2 ^ 23) (wide .holding k) (omega (arith, short-low x (suc k) (omega arith) (wide .amount))),
+          )
 
   pub sums-low : Low (sumsTo d x i)
   sums-low = record {
@@ -76,18 +78,18 @@ pub record Walked (d : Day) (x : ℕ → ℕ) (i : ℕ) (s : Sums) : Type 0 wher
   pub kept : find (breaks d x) i ≡ none
 
 module _ {d : Day} {x : ℕ → ℕ} {i : ℕ} {s : Sums} (w : Walked d x i s) where
-  pub walked-more : (t : Sums) → i < periods d → stepAt d x i ≡ Kept t → Walked d x (suc i) t
-  walked-more t l e = go (breaks d x i) refl e
+  pub walked-more : {o : Step} {t : Sums} → i < periods d → o ≡ stepAt d x i → o ≡ Kept t → Walked d x (suc i) t
+  walked-more {o} {t} l e f = go (breaks d x i) refl e
     where
-      go : (b : Bool) → breaks d x i ≡ b → stepOn b (ruleAt d x i) (sumsTo d x (suc i)) ≡ Kept t → Walked d x (suc i) t
+      go : (b : Bool) → breaks d x i ≡ b → o ≡ stepOn b (ruleAt d x i) (sumsTo d x (suc i)) → Walked d x (suc i) t
       go true q e = let z : _≡_ {A = ℕ} 0 1 = cc in absurd (omega arith)
       go false q e = record { inside = l; sums = cc; kept = find-none (breaks d x) i (w .kept) q }
 
-  pub walked-broken : (r : Rule) → i < periods d → stepAt d x i ≡ Broke r → Broken r (suc i) ≡ verdictOf d x
-  walked-broken r l e = go (breaks d x i) refl e
+  pub walked-broken : {o : Step} {r : Rule} → i < periods d → o ≡ stepAt d x i → o ≡ Broke r → Broken r (suc i) ≡ verdictOf d x
+  walked-broken {o} {r} l e f = go (breaks d x i) refl e
     where
-      go : (b : Bool) → breaks d x i ≡ b → stepOn b (ruleAt d x i) (sumsTo d x (suc i)) ≡ Broke r → Broken r (suc i) ≡ verdictOf d x
-      go true q e = let f : ruleAt d x i ≡ r = cc in rw (find-here (breaks d x) i (periods d) (w .kept) q l, ← f) refl
+      go : (b : Bool) → breaks d x i ≡ b → o ≡ stepOn b (ruleAt d x i) (sumsTo d x (suc i)) → Broken r (suc i) ≡ verdictOf d x
+      go true q e = let g : ruleAt d x i ≡ r = cc in rw (find-here (breaks d x) i (periods d) (w .kept) q l, ← g) refl
       go false q e = let z : _≡_ {A = ℕ} 0 1 = cc in absurd (omega arith)
 
   pub walked-through : periods d ≤ i → Holds (record { cost = s .cost; setups = s .setups }) ≡ verdictOf d x

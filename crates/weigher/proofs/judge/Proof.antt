@@ -42,11 +42,12 @@ returns-2 c = simp (le-ltb _ _ (c .before .before .before .before .if1 .left), l
 -- src/lib.rt:104:9
 returns-3 : tie.Need-returns-3
 returns-3 c =
-    simp
-    (le-ltb _ _ (c .before .before .before .before .before .before .if1 .left),
-    le-ltb _ _ (c .before .before .if2 .left),
-    c .before .if3 .taken,
-    c .if4 .taken)
+    simp (
+      le-ltb _ _ (c .before .before .before .before .before .before .if1 .left),
+      le-ltb _ _ (c .before .before .if2 .left),
+      c .before .if3 .taken,
+      c .if4 .taken,
+    )
 
 -- src/lib.rt:106:25
 production-requires : tie.Need-production-requires
@@ -75,13 +76,14 @@ add-t18 c = search needs
 -- src/lib.rt:91:1
 returns-4 : tie.Need-returns-4
 returns-4 c =
-    simp
-    (le-ltb _ _ (c .before .before .before .before .before .before .before .before .before .before .if1 .left),
-    le-ltb _ _ (c .before .before .before .before .before .before .if2 .left),
-    kept (c .before .before .before .before .before),
-    c .before .before .before .before .production .ensures .is,
-    c .before .before .upkeep .ensures .is,
-    c .before .setup-of .ensures .is)
+    simp (
+      le-ltb _ _ (c .before .before .before .before .before .before .before .before .before .before .if1 .left),
+      le-ltb _ _ (c .before .before .before .before .before .before .if2 .left),
+      kept (c .before .before .before .before .before),
+      c .before .before .before .before .production .ensures .is,
+      c .before .before .upkeep .ensures .is,
+      c .before .setup-of .ensures .is,
+    )
 
 pub judge-spec : {M : Type 1} → statement M
 judge-spec =

@@ -1,4 +1,4 @@
-use mathlib.Core.Path.{refl, sym, _∙_}
+use mathlib.Core.Path.{refl}
 use Prim.Native.Nat.{_-_}
 use native.Mathlib.Numerals.{add-one}
 use borrow.Author.Needs.{needs}
@@ -38,7 +38,7 @@ add-t14 c = search needs
 returns : tie.Need-returns Inv-loop μ-loop
 returns c =
     let called = c .before .before .before in
-    rw add-one (walked-broken (called .before .before .loop .inv) _ (called .before .loop-test .taken) (sym (called .advance .ensures) ∙ c .before .rule .given .1))
+    rw add-one (walked-broken (called .before .before .loop .inv) (called .before .loop-test .taken) (called .advance .ensures) (c .before .rule .given .1))
 
 -- src/lib.rt:163:24
 enum-known-t : tie.Need-enum-known-t Inv-loop μ-loop
@@ -56,7 +56,7 @@ loop-less c = search needs
 loop-again : tie.Need-loop-again Inv-loop μ-loop
 loop-again c =
     let called = c .before .before .before in
-    rw add-one (walked-more (called .before .before .loop .inv) _ (called .before .loop-test .taken) (sym (called .advance .ensures) ∙ c .before .t .given .1))
+    rw add-one (walked-more (called .before .before .loop .inv) (called .before .loop-test .taken) (called .advance .ensures) (c .before .t .given .1))
 
 -- src/lib.rt:140:1
 returns-2 : tie.Need-returns-2 Inv-loop μ-loop
