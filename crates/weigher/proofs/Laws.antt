@@ -2,21 +2,30 @@
 -- Main statement: `sums-low`. Assumes nothing.
 use mathlib.Core.Path.{_≡_, refl}
 use mathlib.Core.Bool.{Bool, true, false}
-use mathlib.Core.Option.{none}
+use mathlib.Core.List.{List, [], _∷_}
+use mathlib.Core.Option.{Option, none, some}
 use Prim.Native.Nat.{ℕ, zero, suc, _+_, _-_, _*_, _^_, _≤_, _<_}
 use native.Mathlib.Nat.{mul-le-mul, mul-le-mul-right, le-trans, suc-mul}
 use native.Mathlib.Omega.{arith}
+use lib.ListN.{length}
+use Rattle.day.specs.declared.Refusal.{Refusal}
 use Rattle.day.specs.Sums.{at, sumTo}
 use Rattle.day.specs.Find.{find, find-none, find-here}
 use Rattle.day.specs.Day.{Day, periods, maxPeriods}
-use Rattle.day.specs.Plan.{inventory, costAt, costTo, setupAt}
+use Rattle.day.specs.Plan.{inventory, making, costAt, costTo, setupAt}
+use Rattle.day.specs.Refusals.{badTotal, badSlots}
+use Rattle.checks.specs.Passed.{tables-passed}
 use Rattle.weigher.specs.declared.Rule.{Rule}
+use Rattle.weigher.specs.declared.Verdict.{Verdict}
 use Rattle.weigher.specs.declared.Verdict.the-variants.{Holds, Broken}
+use Rattle.weigher.specs.declared.Weighed.{Weighed}
+use Rattle.weigher.specs.declared.Weighed.the-variants.{Judged}
 use Rattle.weigher.specs.declared.Sums.{Sums}
 use Rattle.weigher.specs.declared.Step.{Step}
 use Rattle.weigher.specs.declared.Step.the-variants.{Kept, Broke}
-use Rattle.weigher.specs.Verdict.{breaks, ruleAt, verdictOf}
-use Rattle.weigher.specs.Walk.{sumsTo, stepOn, stepAt, productionOf, production-is, Low}
+use Rattle.weigher.specs.Verdict.{breaks, ruleAt, verdictAt, verdictOf}
+use Rattle.weigher.specs.Answers.{weighRefusal, orRefused, weighedOf}
+use Rattle.weigher.specs.Walk.{sumsTo, stepOn, stepAt, Low, Small}
 
 -- every entry fits its table's width
 pub record Wide (d : Day) (x : ℕ → ℕ) : Type 0 where
@@ -38,7 +47,7 @@ sum-low f top i few h = le-trans (go i h) (mul-le-mul-right top few)
 pub paid-low : (rate v top : ℕ) → rate < 2 ^ 32 → v < top → rate * v ≤ (2 ^ 32 - 1) * (top - 1)
 paid-low rate v top r l = mul-le-mul (omega arith) (omega arith)
 
-pub production-low : (setup unit x : ℕ) → setup < 2 ^ 32 → unit < 2 ^ 32 → x < 2 ^ 16 → productionOf setup unit x < 2 ^ 48
+pub production-low : (setup unit x : ℕ) → setup < 2 ^ 32 → unit < 2 ^ 32 → x < 2 ^ 16 → making setup unit x < 2 ^ 48
 production-low b p zero hb hp l = omega arith
 production-low b p (suc x) hb hp l = omega (arith, paid-low p (suc x) (2 ^ 16) hp l)
 
@@ -58,7 +67,6 @@ module _ (d : Day) (x : ℕ → ℕ) (wide : Wide d x) (i : ℕ) (few : i ≤ ma
       term k l =
           omega (
             arith,
-            production-is d k (x k),
             production-low (at (d .setup) k) (at (d .unit) k) (x k) (wide .setup k) (wide .unit k) (wide .amount k),
             paid-low (at (d .holding) k) (inventory d x (suc k)) (2 ^ 23) (wide .holding k) (omega (arith, short-low x (suc k) (omega arith) (wide .amount))),
           )
@@ -97,3 +105,17 @@ module _ {d : Day} {x : ℕ → ℕ} {i : ℕ} {s : Sums} (w : Walked d x i s) w
     where
       go : i ≡ periods d → Holds (record { cost = s .cost; setups = s .setups }) ≡ verdictOf d x
       go e = rw (w .sums, e, rw e at (w .kept)) refl
+
+-- a judged plan's cost fits a signed 64-bit number
+pub judged-small : (d : Day) (plan : List ℕ) → Wide d (at plan) → {o : Weighed} {v : Verdict} → o ≡ weighedOf d plan → o ≡ Judged v → Small v
+judged-small d plan wide {o} {v} is e = go (weighRefusal d plan) refl is
+  where
+    small : periods d ≤ maxPeriods → (f : Option ℕ) → Small (verdictAt d (at plan) f)
+    small few none = cost-low d (at plan) wide (periods d) few
+    small few (some k) = tt
+
+    go : (r : Option Refusal) → weighRefusal d plan ≡ r → o ≡ orRefused r (verdictOf d (at plan)) → Small v
+    go (some r) q s = let z : _≡_ {A = ℕ} 0 1 = cc in absurd (omega arith)
+    go none q s =
+        let same : v ≡ verdictOf d (at plan) = cc in
+        rw same (small (tables-passed d (badTotal d ∷ badSlots (length plan) (periods d) ∷ []) q .few) (find (breaks d (at plan)) (periods d)))

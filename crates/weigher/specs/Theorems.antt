@@ -1,16 +1,17 @@
 -- What a verdict says of a plan, by the report's conditions (2) to (4), and that the weigher's verdict is the only right one.
 -- Main statements: `verdict-right`, `verdict-only`; of a plan that holds `holds-feasible`, `feasible-holds`. Assumes nothing.
 use mathlib.Core.Path.{_≡_, refl, sym, ap}
-use mathlib.Core.Bool.{Bool, true, false, _||_}
+use mathlib.Core.Bool.{Bool, true, false, cond}
 use mathlib.Core.Option.{Option, none, some}
-use Prim.Native.Nat.{ℕ, zero, suc, _≤_, _<_}
+use Prim.Native.Nat.{ℕ, zero, suc, _+_, _-_, _≤_, _<_}
 use native.Mathlib.Nat.{le-of-lt}
 use native.Mathlib.Omega.{arith}
 use lib.Dec.{eqb, ltb}
+use lib.IntN.{ℤ, pos, negsuc, _-ℤ_}
 use borrow.Author.Tests.{ltb-true, ltb-false, eqb-true, eqb-false, lt-ltb, le-ltb, eq-eqb}
 use Rattle.day.specs.declared.Totals.{Totals}
 use Rattle.day.specs.Sums.{at, sumTo}
-use Rattle.day.specs.Find.{Found, find, find-none, find-here, none-found, some-found}
+use Rattle.day.specs.Find.{Found, find, find-here, none-found, nothing-found, some-found}
 use Rattle.day.specs.Day.{Day, periods, demandTo}
 use Rattle.day.specs.Plan.{Feasible}
 use Rattle.day.specs.Outcome.{Counts}
@@ -18,7 +19,7 @@ use Rattle.weigher.specs.declared.Rule.{Rule}
 use Rattle.weigher.specs.declared.Rule.the-variants.{AboveCapacity, Short, Over}
 use Rattle.weigher.specs.declared.Verdict.{Verdict}
 use Rattle.weigher.specs.declared.Verdict.the-variants.{Holds, Broken}
-use Rattle.weigher.specs.Verdict.{aboveAt, shortAt, overAt, breaks, orRule, ruleAt, totalsOf, verdictAt, verdictOf}
+use Rattle.weigher.specs.Verdict.{aboveAt, shortAt, breaks, ruleAt, totalsOf, verdictAt, verdictOf}
 
 -- period k + 1 keeps (4), (2), and, where it is the last, (3)
 pub record Keeps (d : Day) (x : ℕ → ℕ) (k : ℕ) : Type 0 where
@@ -99,9 +100,8 @@ module _ (d : Day) (x : ℕ → ℕ) where
   feasible-keeps : Feasible d x → (k : ℕ) → k < periods d → Keeps d x k
   feasible-keeps f k l = record { within = f .within k l; served = f .served k l; emptied = λ e. omega (arith, ap (sumTo x) e, ap (demandTo d) e, f .emptied) }
 
-  none-passes : (n : ℕ) → ((k : ℕ) → k < n → Keeps d x k) → find (breaks d x) n ≡ none
-  none-passes zero h = refl
-  none-passes (suc n) h = find-none (breaks d x) n (none-passes n (λ k l. h k (omega arith))) (keeps-passed n (h n (omega arith)))
+  none-broken : (n : ℕ) → ((k : ℕ) → k < n → Keeps d x k) → find (breaks d x) n ≡ none
+  none-broken n h = nothing-found (breaks d x) n (λ k l. keeps-passed k (h k l))
 
   -- the weigher's verdict is right
   pub verdict-right : Says d x (verdictOf d x)
@@ -117,11 +117,11 @@ module _ (d : Day) (x : ℕ → ℕ) where
 
   -- and no other is
   pub verdict-only : (v : Verdict) → Says d x v → v ≡ verdictOf d x
-  verdict-only (Holds t) s = rw (none-passes (periods d) (feasible-keeps (s .0)), ← s .1 .cost, ← s .1 .setups) refl
+  verdict-only (Holds t) s = rw (none-broken (periods d) (feasible-keeps (s .0)), ← s .1 .cost, ← s .1 .setups) refl
   verdict-only (Broken r zero) s = absurd s
   verdict-only (Broken r (suc k)) s =
       let b = breaks-rule r k (s .broken) in
-      rw (find-here (breaks d x) k (periods d) (none-passes k (s .before)) (b .0) (s .inside), b .1) refl
+      rw (find-here (breaks d x) k (periods d) (none-broken k (s .before)) (b .0) (s .inside), b .1) refl
 
   -- it is "holds" exactly if the plan keeps (2) to (4), with sum (1) and the count of amounts above 0
   pub holds-feasible : (t : Totals) → verdictOf d x ≡ Holds t → Feasible d x × Counts d x t
@@ -129,3 +129,21 @@ module _ (d : Day) (x : ℕ → ℕ) where
 
   pub feasible-holds : Feasible d x → verdictOf d x ≡ Holds (totalsOf d x)
   feasible-holds f = sym (verdict-only (Holds (totalsOf d x)) (f, record { cost = refl; setups = refl }))
+
+-- what a difference says of two costs: equal; the first dearer, or cheaper, by so much
+abbrev pub Apart : (a b : ℕ) → ℤ → Type 0
+Apart a b (pos zero) = a ≡ b
+Apart a b (pos (suc k)) = a ≡ b + suc k
+Apart a b (negsuc k) = b ≡ a + suc k
+
+not-below : (a b k : ℕ) → a ≡ b + k → Apart a b (pos k)
+not-below a b zero e = omega arith
+not-below a b (suc k) e = e
+
+pub difference-right : (a b : ℕ) → Apart a b (pos a -ℤ pos b)
+difference-right a zero = not-below a 0 (a + 0) (omega arith)
+difference-right a (suc b) = go (ltb a (suc b)) refl
+  where
+    go : (t : Bool) → ltb a (suc b) ≡ t → Apart a (suc b) (cond t (negsuc (suc b - suc a)) (pos (a - suc b)))
+    go true e = let l = ltb-true a (suc b) e in omega arith
+    go false e = let l = ltb-false a (suc b) e in not-below a (suc b) (a - suc b) (omega arith)

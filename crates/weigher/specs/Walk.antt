@@ -3,15 +3,18 @@
 use mathlib.Core.Path.{_≡_, refl}
 use mathlib.Core.Bool.{Bool, true, false, _&&_, _||_}
 use mathlib.Core.List.{List}
-use Prim.Native.Nat.{ℕ, zero, suc, _+_, _-_, _*_, _^_, _≤_, _<_}
+use Prim.Native.Nat.{ℕ, suc, _+_, _-_, _*_, _^_, _≤_, _<_}
 use native.Mathlib.Nat.{add-assoc}
 use lib.Dec.{eqb, ltb}
 use lib.ListN.{length}
 use Rattle.day.specs.Sums.{at, sumTo}
 use Rattle.day.specs.Day.{Day, periods, demandTo, maxPeriods}
-use Rattle.day.specs.Plan.{production, costTo, setupAt, setups}
+use Rattle.day.specs.Plan.{making, costTo, setupAt, setups}
+use Rattle.checks.specs.Passed.{SameLengths}
 use Rattle.weigher.specs.declared.Rule.{Rule}
 use Rattle.weigher.specs.declared.Rule.the-variants.{AboveCapacity, Short, Over}
+use Rattle.weigher.specs.declared.Verdict.{Verdict}
+use Rattle.weigher.specs.declared.Verdict.the-variants.{Holds, Broken}
 use Rattle.weigher.specs.declared.Period.{Period}
 use Rattle.weigher.specs.declared.Sums.{Sums}
 use Rattle.weigher.specs.declared.Step.{Step}
@@ -31,15 +34,10 @@ stepOn false r s = Kept s
 abbrev pub stepAt : Day → (ℕ → ℕ) → ℕ → Step
 stepAt d x k = stepOn (breaks d x k) (ruleAt d x k) (sumsTo d x (suc k))
 
--- p_i(x) at a setup cost and a unit cost
-abbrev pub productionOf : (setup unit amount : ℕ) → ℕ
-productionOf b p zero = 0
-productionOf b p (suc x) = b + p * suc x
-
 -- the same from one period's entries and the sums before it, in the report's order: what making costs, then the upkeep
 abbrev pub nextOf : Period → ℕ → Sums → Sums
 nextOf p x s = record {
-  cost = s .cost + productionOf (p .setup) (p .unit) x + p .holding * (s .made + x - (s .needed + p .demand));
+  cost = s .cost + making (p .setup) (p .unit) x + p .holding * (s .made + x - (s .needed + p .demand));
   setups = s .setups + setupAt x;
   made = s .made + x;
   needed = s .needed + p .demand;
@@ -66,13 +64,9 @@ periodAt d k = record {
   holding = at (d .holding) k;
 }
 
-pub production-is : (d : Day) (k x : ℕ) → productionOf (at (d .setup) k) (at (d .unit) k) x ≡ production d k x
-production-is d k zero = refl
-production-is d k (suc x) = refl
-
 -- from the sums before a period, its entries give what the report says of it
 pub step-is : (d : Day) (x : ℕ → ℕ) (k : ℕ) → stepOf (periodAt d k) (x k) (eqb (suc k) (periods d)) (sumsTo d x k) ≡ stepAt d x k
-step-is d x k = rw (production-is d k (x k), add-assoc) refl
+step-is d x k = rw add-assoc refl
 
 -- a term of the sums: its value, and a bound by which sums of such terms fit
 pub record Term (value top r : ℕ) : Type 0 where
@@ -89,10 +83,7 @@ pub record Low (s : Sums) : Type 0 where
 -- tables of one length, at most 96, and a plan that has an amount for each period
 pub record Ready (d : Day) (plan : List ℕ) : Type 0 where
   pub few : periods d ≤ maxPeriods
-  pub capacities : length (d .capacity) ≡ periods d
-  pub setups : length (d .setup) ≡ periods d
-  pub units : length (d .unit) ≡ periods d
-  pub holdings : length (d .holding) ≡ periods d
+  pub lengths : SameLengths d
   pub amounts : periods d ≤ length plan
 
 -- period i + 1 is to be judged, and s holds the sums through those before it
@@ -100,3 +91,8 @@ pub record Reached (d : Day) (plan : List ℕ) (i : ℕ) (s : Sums) : Type 0 whe
   pub ready : Ready d plan
   pub inside : i < periods d
   pub sums : s ≡ sumsTo d (at plan) i
+
+-- a verdict whose cost fits a signed 64-bit number
+abbrev pub Small : Verdict → Type 0
+Small (Holds t) = t .cost < 2 ^ 63
+Small (Broken r i) = Unit {0}

@@ -2,11 +2,14 @@
 //! (Document 01, "The weigher".) What the answers mean is in specs/.
 ghost use mathlib.Core.Path.{_≡_};
 ghost use Prim.Native.Nat.{_*_, _^_, _<_};
+ghost use lib.IntN.{pos, _-ℤ_};
 ghost use Rattle.day.specs.Sums.{at};
 ghost use Rattle.day.specs.Day.{dayOf};
-ghost use Rattle.day.specs.Plan.{setupAt};
+ghost use Rattle.day.specs.Plan.{making, setupAt};
 ghost use Rattle.weigher.specs.Verdict.{verdictOf};
-ghost use Rattle.weigher.specs.Walk.{productionOf, stepOf, stepAt, Term, Low, Ready, Reached};
+ghost use Rattle.weigher.specs.Answers.{weighedOf, betweenOf, comparedOf, ruleNumber, reportOf, comparisonOf};
+ghost use Rattle.weigher.specs.Walk.{stepOf, stepAt, Term, Low, Ready, Reached, Small};
+use day::Check;
 use day::Refusal;
 use day::Totals;
 
@@ -37,6 +40,86 @@ pub enum Compared {
     Refused(Refusal),
     Broken(Rule, usize),
     Difference(i64),
+}
+
+// An answer of the weigher as numbers.
+pub struct Report {
+    pub number: u64,
+    pub period: usize,
+    pub cost: u64,
+    pub setups: u64,
+}
+
+// An answer of the comparison as numbers.
+pub struct Comparison {
+    pub number: u64,
+    pub period: usize,
+    pub difference: i64,
+}
+
+impl Rule {
+    pub fn number(self) -> u64
+        ensures { λ r. ⌜ r ≡ ruleNumber self ⌝ }
+    {
+        match self {
+            Rule::AboveCapacity => 101,
+            Rule::Short => 102,
+            Rule::Over => 103,
+        }
+    }
+}
+
+impl Weighed {
+    pub fn report(self) -> Report
+        ensures { λ r. ⌜ r ≡ reportOf self ⌝ }
+    {
+        match self {
+            Weighed::Refused(refusal) => Report {
+                number: refusal.number(),
+                period: refusal.period(),
+                cost: 0,
+                setups: 0,
+            },
+            Weighed::Judged(verdict) => match verdict {
+                Verdict::Broken(rule, period) => Report {
+                    number: rule.number(),
+                    period,
+                    cost: 0,
+                    setups: 0,
+                },
+                Verdict::Holds(totals) => Report {
+                    number: 0,
+                    period: 0,
+                    cost: totals.cost,
+                    setups: totals.setups,
+                },
+            },
+        }
+    }
+}
+
+impl Compared {
+    pub fn report(self) -> Comparison
+        ensures { λ r. ⌜ r ≡ comparisonOf self ⌝ }
+    {
+        match self {
+            Compared::Refused(refusal) => Comparison {
+                number: refusal.number(),
+                period: refusal.period(),
+                difference: 0,
+            },
+            Compared::Broken(rule, period) => Comparison {
+                number: rule.number(),
+                period,
+                difference: 0,
+            },
+            Compared::Difference(difference) => Comparison {
+                number: 0,
+                period: 0,
+                difference,
+            },
+        }
+    }
 }
 
 // One period's entries.
@@ -71,7 +154,7 @@ fn setup_of(amount: u16) -> u64
 
 // What making an amount costs (report: p_i).
 fn production(setup: u32, unit: u32, amount: u16) -> u64
-    ensures { λ r. ⌜ Term (productionOf setup unit amount) (2 ^ 48) r ⌝ }
+    ensures { λ r. ⌜ Term (making setup unit amount) (2 ^ 48) r ⌝ }
 {
     if amount == 0 {
         return 0;
@@ -170,4 +253,67 @@ fn walk(
         cost: s.cost,
         setups: s.setups,
     })
+}
+
+// Weighs a plan. Cells of it past the last period are not read.
+pub fn weigh(
+    demand: &[u16],
+    capacity: &[u16],
+    setup: &[u32],
+    unit: &[u32],
+    holding: &[u32],
+    plan: &[u16],
+) -> Weighed
+    ensures { λ r. ⌜ r ≡ weighedOf (dayOf (now (demand .entry)) (now (capacity .entry)) (now (setup .entry)) (now (unit .entry)) (now (holding .entry))) (now (plan .entry)) ⌝ }
+{
+    if let Check::Refused(r) = checks::day(demand, capacity, setup, unit, holding) {
+        return Weighed::Refused(r);
+    }
+    if plan.len() < demand.len() {
+        return Weighed::Refused(Refusal::FewSlots);
+    }
+    Weighed::Judged(walk(demand, capacity, setup, unit, holding, plan))
+}
+
+// One cost less another.
+fn difference(a: u64, b: u64) -> i64
+    requires { ⌜ (a < 2 ^ 63) × (b < 2 ^ 63) ⌝ }
+    ensures { λ r. ⌜ r ≡ pos a -ℤ pos b ⌝ }
+{
+    (a as i64) - (b as i64)
+}
+
+// How two verdicts compare.
+fn between(v: Verdict, w: Verdict) -> Compared
+    requires { ⌜ Small v × Small w ⌝ }
+    ensures { λ r. ⌜ r ≡ betweenOf v w ⌝ }
+{
+    match v {
+        Verdict::Broken(rule, period) => Compared::Broken(rule, period),
+        Verdict::Holds(t) => match w {
+            Verdict::Broken(rule, period) => Compared::Broken(rule, period),
+            Verdict::Holds(u) => Compared::Difference(difference(t.cost, u.cost)),
+        },
+    }
+}
+
+// Weighs two plans of one day: the first plan's cost less the second's, below zero where the first is cheaper.
+pub fn compare(
+    demand: &[u16],
+    capacity: &[u16],
+    setup: &[u32],
+    unit: &[u32],
+    holding: &[u32],
+    plan: &[u16],
+    other: &[u16],
+) -> Compared
+    ensures { λ r. ⌜ r ≡ comparedOf (dayOf (now (demand .entry)) (now (capacity .entry)) (now (setup .entry)) (now (unit .entry)) (now (holding .entry))) (now (plan .entry)) (now (other .entry)) ⌝ }
+{
+    match weigh(demand, capacity, setup, unit, holding, plan) {
+        Weighed::Refused(r) => Compared::Refused(r),
+        Weighed::Judged(v) => match weigh(demand, capacity, setup, unit, holding, other) {
+            Weighed::Refused(r) => Compared::Refused(r),
+            Weighed::Judged(w) => between(v, w),
+        },
+    }
 }

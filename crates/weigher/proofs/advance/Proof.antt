@@ -1,3 +1,5 @@
+-- `weigher::advance` meets its contract: the entries at index i are the period's, and the sums are within the bounds that tables of
+-- these widths keep. Assumes nothing.
 use native.Mathlib.Numerals.{add-one}
 use native.Mathlib.Omega.{arith}
 use borrow.Author.Needs.{needs}
@@ -8,9 +10,6 @@ use Rattle.weigher.specs.Walk.{step-is}
 use Rattle.weigher.proofs.Laws.{Wide, sums-low}
 use Rattle.weigher.proofs.advance.Statement.{statement}
 use Rattle.weigher.proofs.advance.Tie as tie
-use Rattle.weigher.proofs.advance.Reads as reads
-use Rattle.weigher.proofs.advance.Lts as lts
-use Rattle.weigher.proofs.judge.Reads as judge-reads
 
 wide : (c : tie.After-shared-slice-known6) → let a = c .before .before .before .before .before .before .args in Wide (dayOf (now (a .demand)) (now (a .capacity)) (now (a .setup)) (now (a .unit)) (now (a .holding))) (at (now (a .plan)))
 wide c = record {
@@ -21,66 +20,51 @@ wide c = record {
   amount = λ k. omega (arith, c .shared-slice-known6 .given k);
 }
 
--- src/lib.rt:130:17
 mul-judge : tie.Need-mul-judge
 mul-judge c = search needs
 
--- src/lib.rt:130:17
 shared-slice-read-judge : tie.Need-shared-slice-read-judge
 shared-slice-read-judge c = search needs
 
--- src/lib.rt:131:19
 mul-t13 : tie.Need-mul-t13
 mul-t13 c = search needs
 
--- src/lib.rt:131:19
 shared-slice-read-t15 : tie.Need-shared-slice-read-t15
 shared-slice-read-t15 c = search needs
 
--- src/lib.rt:132:16
 mul-t16 : tie.Need-mul-t16
 mul-t16 c = search needs
 
--- src/lib.rt:132:16
 shared-slice-read-t18 : tie.Need-shared-slice-read-t18
 shared-slice-read-t18 c = search needs
 
--- src/lib.rt:133:15
 mul-t19 : tie.Need-mul-t19
 mul-t19 c = search needs
 
--- src/lib.rt:133:15
 shared-slice-read-t21 : tie.Need-shared-slice-read-t21
 shared-slice-read-t21 c = search needs
 
--- src/lib.rt:134:18
 mul-t22 : tie.Need-mul-t22
 mul-t22 c = search needs
 
--- src/lib.rt:134:18
 shared-slice-read-t24 : tie.Need-shared-slice-read-t24
 shared-slice-read-t24 c = search needs
 
--- src/lib.rt:136:14
 mul-judge-2 : tie.Need-mul-judge-2
 mul-judge-2 c = search needs
 
--- src/lib.rt:136:14
 shared-slice-read-judge-2 : tie.Need-shared-slice-read-judge-2
 shared-slice-read-judge-2 c = search needs
 
--- src/lib.rt:136:23
 add-judge : tie.Need-add-judge
 add-judge c = search needs
 
--- src/lib.rt:136:5
 judge-requires : tie.Need-judge-requires
 judge-requires c κs =
     let start = c .before .before .before .before .before .before in
     let entry = start .before .before .before .before .before .before in
     rw (entry .pre .sums) (sums-low _ _ (wide start) (entry .args .i) (omega arith))
 
--- src/lib.rt:116:1
 returns : tie.Need-returns
 returns c =
     let entry = c .before .before .before .before .before .before .before .before .before .before .before .before .before in

@@ -4,12 +4,12 @@ use mathlib.Core.Path.{_≡_, refl}
 use Prim.Native.Nat.{ℕ, zero, suc, _+_, _*_, _^_, _<_}
 use native.Mathlib.Omega.{arith}
 use borrow.Author.Needs.{needs}
-use Rattle.weigher.specs.Walk.{productionOf}
+use Rattle.day.specs.Plan.{making}
 use Rattle.weigher.proofs.Laws.{production-low}
 use Rattle.weigher.proofs.production.Statement.{statement}
 use Rattle.weigher.proofs.production.Tie as tie
 
-made : (b p x : ℕ) → (x ≡ 0 → ⊥) → b + p * x ≡ productionOf b p x
+made : (b p x : ℕ) → (x ≡ 0 → ⊥) → b + p * x ≡ making b p x
 made b p zero n = absurd (n refl)
 made b p (suc x) n = refl
 
