@@ -1,2 +1,3 @@
 -- Laws that several functions' proofs cite.
-pub mod Laws
+pub mod Bounds
+pub mod Walked

@@ -31,13 +31,14 @@ overAt d x k = eqb (suc k) (periods d) && ltb (demandTo d (suc k)) (sumTo x (suc
 abbrev pub breaks : Day → (ℕ → ℕ) → ℕ → Bool
 breaks d x k = aboveAt d x k || shortAt d x k || overAt d x k
 
-abbrev pub orRule : Bool → Rule → Rule → Rule
-orRule true r s = r
-orRule false r s = s
+-- which one: above capacity goes before the other two
+abbrev pub ruleOf : (above short : Bool) → Rule
+ruleOf true b = AboveCapacity
+ruleOf false true = Short
+ruleOf false false = Over
 
--- which one, where it breaks any: above capacity goes before the other two
 abbrev pub ruleAt : Day → (ℕ → ℕ) → ℕ → Rule
-ruleAt d x k = orRule (aboveAt d x k) AboveCapacity (orRule (shortAt d x k) Short Over)
+ruleAt d x k = ruleOf (aboveAt d x k) (shortAt d x k)
 
 -- the cost, sum (1), and the setups
 abbrev pub totalsOf : Day → (ℕ → ℕ) → Totals

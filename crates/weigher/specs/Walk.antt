@@ -12,14 +12,13 @@ use Rattle.day.specs.Day.{Day, periods, demandTo, maxPeriods}
 use Rattle.day.specs.Plan.{making, costTo, setupAt, setups}
 use Rattle.checks.specs.Passed.{SameLengths}
 use Rattle.weigher.specs.declared.Rule.{Rule}
-use Rattle.weigher.specs.declared.Rule.the-variants.{AboveCapacity, Short, Over}
 use Rattle.weigher.specs.declared.Verdict.{Verdict}
 use Rattle.weigher.specs.declared.Verdict.the-variants.{Holds, Broken}
 use Rattle.weigher.specs.declared.Period.{Period}
 use Rattle.weigher.specs.declared.Sums.{Sums}
 use Rattle.weigher.specs.declared.Step.{Step}
 use Rattle.weigher.specs.declared.Step.the-variants.{Kept, Broke}
-use Rattle.weigher.specs.Verdict.{breaks, ruleAt, orRule}
+use Rattle.weigher.specs.Verdict.{breaks, ruleOf, ruleAt}
 
 -- the sums through the first i periods: sum (1), setups, X_i and R_i
 abbrev pub sumsTo : Day → (ℕ → ℕ) → ℕ → Sums
@@ -43,16 +42,13 @@ nextOf p x s = record {
   needed = s .needed + p .demand;
 }
 
-abbrev pub judgeOf : (above short over : Bool) → Sums → Step
-judgeOf a b c s = stepOn (a || b || c) (orRule a AboveCapacity (orRule b Short Over)) s
-
 abbrev pub stepOf : Period → ℕ → (last : Bool) → Sums → Step
 stepOf p x last s =
-    judgeOf
-    (ltb (p .capacity) x)
-    (ltb (s .made + x) (s .needed + p .demand))
-    (last && ltb (s .needed + p .demand) (s .made + x))
-    (nextOf p x s)
+    let t = nextOf p x s in
+    let above = ltb (p .capacity) x in
+    let short = ltb (t .made) (t .needed) in
+    let over = last && ltb (t .needed) (t .made) in
+    stepOn (above || short || over) (ruleOf above short) t
 
 -- the entries of period k + 1
 abbrev pub periodAt : Day → ℕ → Period

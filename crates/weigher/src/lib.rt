@@ -123,24 +123,24 @@ impl Compared {
 }
 
 // One period's entries.
-pub struct Period {
-    pub demand: u16,
-    pub capacity: u16,
-    pub setup: u32,
-    pub unit: u32,
-    pub holding: u32,
+struct Period {
+    demand: u16,
+    capacity: u16,
+    setup: u32,
+    unit: u32,
+    holding: u32,
 }
 
 // The sums through the periods judged so far.
-pub struct Sums {
-    pub cost: u64,
-    pub setups: u64,
-    pub made: u64,
-    pub needed: u64,
+struct Sums {
+    cost: u64,
+    setups: u64,
+    made: u64,
+    needed: u64,
 }
 
 // What one period does: the sums through it, or the rule that it breaks.
-pub enum Step {
+enum Step {
     Kept(Sums),
     Broke(Rule),
 }

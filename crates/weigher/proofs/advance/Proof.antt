@@ -7,7 +7,7 @@ use denote.Ref.{now}
 use Rattle.day.specs.Sums.{at}
 use Rattle.day.specs.Day.{dayOf}
 use Rattle.weigher.specs.Walk.{step-is}
-use Rattle.weigher.proofs.Laws.{Wide, sums-low}
+use Rattle.weigher.proofs.Bounds.{Wide, sums-low}
 use Rattle.weigher.proofs.advance.Statement.{statement}
 use Rattle.weigher.proofs.advance.Tie as tie
 

@@ -8,7 +8,7 @@ use Rattle.day.specs.Sums.{at}
 use Rattle.day.specs.Day.{Day, dayOf}
 use Rattle.weigher.specs.declared.Weighed.{Weighed}
 use Rattle.weigher.specs.Answers.{weighedOf, compareOf, comparedOf}
-use Rattle.weigher.proofs.Laws.{Wide, judged-small}
+use Rattle.weigher.proofs.Bounds.{Wide, judged-small}
 use Rattle.weigher.proofs.compare.Statement.{statement}
 use Rattle.weigher.proofs.compare.Tie as tie
 

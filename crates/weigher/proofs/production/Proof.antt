@@ -5,7 +5,7 @@ use Prim.Native.Nat.{ℕ, zero, suc, _+_, _*_, _^_, _<_}
 use native.Mathlib.Omega.{arith}
 use borrow.Author.Needs.{needs}
 use Rattle.day.specs.Plan.{making}
-use Rattle.weigher.proofs.Laws.{production-low}
+use Rattle.weigher.proofs.Bounds.{production-low}
 use Rattle.weigher.proofs.production.Statement.{statement}
 use Rattle.weigher.proofs.production.Tie as tie
 

@@ -4,7 +4,7 @@ use native.Mathlib.Omega.{arith}
 use borrow.Author.Needs.{needs}
 use mathlib.Core.Path.{refl}
 use Prim.Native.Nat.{_*_, _^_, _<_}
-use Rattle.weigher.proofs.Laws.{paid-low}
+use Rattle.weigher.proofs.Bounds.{paid-low}
 use Rattle.weigher.proofs.upkeep.Statement.{statement}
 use Rattle.weigher.proofs.upkeep.Tie as tie
 

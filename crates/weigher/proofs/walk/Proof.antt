@@ -7,7 +7,7 @@ use borrow.Author.Needs.{needs}
 use lib.ListN.{length}
 use Rattle.day.specs.Sums.{at}
 use Rattle.day.specs.Day.{dayOf}
-use Rattle.weigher.proofs.Laws.{Walked, walked-more, walked-broken, walked-through}
+use Rattle.weigher.proofs.Walked.{Walked, walked-more, walked-broken, walked-through}
 use Rattle.weigher.proofs.walk.Statement.{statement}
 use Rattle.weigher.proofs.walk.Tie as tie
 
