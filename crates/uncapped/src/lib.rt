@@ -1,0 +1,2 @@
+//! The uncapped path.
+mod rows;
