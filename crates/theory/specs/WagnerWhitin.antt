@@ -157,7 +157,7 @@ module _ (M : Model) (rising : Rising M) (costs : ℕ → ℕ) (m cost place : �
           cheapest-unique (price M costs (suc m)) m place (cheapest (price M costs (suc m)) m) (c .moves (omega (arith, rising .rises m)))
           (cheapest-right (price M costs (suc m)) m)
 
-  pub chosen-le : place ≤ m
+  chosen-le : place ≤ m
   chosen-le = omega (arith, chosen-from, from-le M costs m)
 
   module _ (before : (l : ℕ) → l ≤ m → wagnerWhitin M l .cost ≡ costs l) where

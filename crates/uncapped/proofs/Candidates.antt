@@ -129,6 +129,7 @@ module _ (d : Day) (fits : Fitting d) (costs : ℕ → ℕ) (m paid : ℕ) (pays
   last-chosen none =
       record {
         chosen = record { still = λ _. refl; moves = λ more. absurd (omega arith); tells = tells };
+        inside = omega arith;
         low = omega (arith, pays .low);
       }
 
@@ -146,5 +147,6 @@ module _ (d : Day) (fits : Fitting d) (costs : ℕ → ℕ) (m paid : ℕ) (pays
           };
           tells = b .tells;
         };
+        inside = b .before;
         low = omega (arith, b .least m (omega arith) (omega arith), tells, pays .low);
       }

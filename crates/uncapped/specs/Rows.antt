@@ -1,17 +1,23 @@
 -- The search for a row of Wagner and Whitin (report, section 3): the candidates l for the last lot of the first m + 1 periods, from m down
 -- to 0. Candidate l makes in period l + 1 all that is demanded from there to period m + 1.
--- Main definitions: `Least`, `Seen`, `ChoiceOf`. Assumes nothing.
+-- What the areas hold once every row is found: cell m of the cost area the cost of row m, cell m of the choice area where its last lot begins.
+-- Main definitions: `Seen`, `ChoiceOf`, `Filled`. Assumes nothing.
 use mathlib.Core.Path.{_≡_}
 use mathlib.Core.Bool.{Bool, true, false}
+use mathlib.Core.List.{List, _++_}
 use Prim.Native.Nat.{ℕ, suc, _+_, _*_, _≤_, _<_}
 use lib.Dec.{leb}
+use lib.ListN.{length, drop}
+use Rattle.day.specs.Sums.{at}
+use Rattle.day.specs.Day.{Day, periods}
 use Rattle.day.specs.Plan.{making}
+use Rattle.theory.specs.Base.{modelOf}
 use Rattle.theory.specs.Model.{Model}
 use Rattle.theory.specs.Uncapped.{price, held}
-use Rattle.theory.specs.WagnerWhitin.{Chosen}
+use Rattle.theory.specs.WagnerWhitin.{Chosen, wagnerWhitin, lot}
 use Rattle.uncapped.specs.declared.rows.Choice.{Choice}
 use Rattle.uncapped.specs.declared.rows.Search.{Search}
-use Rattle.uncapped.specs.Bounds.{maxMaking, maxHeld}
+use Rattle.uncapped.specs.Bounds.{maxMaking, maxHeld, Low}
 
 abbrev pub pick : Bool → Choice → Choice → Choice
 pick true a b = a
@@ -47,4 +53,20 @@ pub record Seen (M : Model) (costs : ℕ → ℕ) (m l : ℕ) (s : Search) : Typ
 -- the choice for row m + 1, given the costs of the rows before it
 pub record ChoiceOf (M : Model) (costs : ℕ → ℕ) (m : ℕ) (r : Choice) : Type 0 where
   pub chosen : Chosen M costs m (r .cost) (r .from)
+  pub inside : r .from ≤ m
   pub low : r .cost ≤ costs m + maxMaking
+
+-- the cells up to m hold the rows up to m: their costs, and the rows that their last lots go on from
+pub record Rows (M : Model) (costs froms : ℕ → ℕ) (m : ℕ) : Type 0 where
+  pub cost : (l : ℕ) → l ≤ m → wagnerWhitin M l .cost ≡ costs l
+  pub before : (k : ℕ) → k < m → froms (suc k) ≤ k
+  pub plan : (k : ℕ) → k < m → wagnerWhitin M (suc k) .plan ≡ wagnerWhitin M (froms (suc k)) .plan ++ lot M k (froms (suc k))
+  pub low : Low costs m
+
+-- the same of the lent areas, whose cells past n are as they were
+pub record Filled (d : Day) (m : ℕ) (costs₀ choices₀ costs choices : List ℕ) : Type 0 where
+  pub rows : Rows (modelOf d) (at costs) (at choices) m
+  pub costs-size : length costs ≡ length costs₀
+  pub choices-size : length choices ≡ length choices₀
+  pub costs-rest : drop (periods d + 1) costs ≡ drop (periods d + 1) costs₀
+  pub choices-rest : drop (periods d + 1) choices ≡ drop (periods d + 1) choices₀

@@ -1,2 +1,2 @@
 //! The uncapped path.
-mod rows;
+pub mod rows;

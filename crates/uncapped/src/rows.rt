@@ -7,7 +7,7 @@ ghost use Rattle.day.specs.Sums.{at};
 ghost use Rattle.day.specs.Day.{dayOf, maxTotal};
 ghost use Rattle.theory.specs.Base.{modelOf};
 ghost use Rattle.uncapped.specs.Bounds.{Fitting, Low, Made, Held, Room};
-ghost use Rattle.uncapped.specs.Rows.{better, tried, Seen, ChoiceOf};
+ghost use Rattle.uncapped.specs.Rows.{better, tried, Seen, ChoiceOf, Filled};
 
 // A row's cost, and how many periods come before its last lot.
 pub struct Choice {
@@ -114,4 +114,28 @@ fn row(
     }
     let s = cheapest(demand, capacity, setup, unit, holding, costs, m, Search { made, held: 0, best });
     s.best
+}
+
+// Every row from the first on, whose cost is 0: cell m of the areas holds row m.
+pub fn fill(
+    demand: &[u16],
+    capacity: &[u16],
+    setup: &[u32],
+    unit: &[u32],
+    holding: &[u32],
+    costs: &mut [u64],
+    choices: &mut [u16],
+)
+    requires { ⌜ Fitting (dayOf (now demand) (now capacity) (now setup) (now unit) (now holding)) ⌝ }
+    requires { ⌜ (length (now demand) < length (now costs)) × (length (now demand) < length (now choices)) ⌝ }
+    requires { ⌜ at (now costs) 0 ≡ 0 ⌝ }
+    ensures { λ _. ⌜ Filled (dayOf (now (demand .entry)) (now (capacity .entry)) (now (setup .entry)) (now (unit .entry)) (now (holding .entry))) (length (now (demand .entry))) (now (costs .entry)) (now (choices .entry)) (now (costs .exit)) (now (choices .exit)) ⌝ }
+{
+    let mut m = 0;
+    while m < demand.len() {
+        let next = row(demand, capacity, setup, unit, holding, costs, m);
+        m += 1;
+        costs[m] = next.cost;
+        choices[m] = next.from as u16;
+    }
 }
