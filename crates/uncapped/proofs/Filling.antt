@@ -15,7 +15,7 @@ use Rattle.theory.specs.Stages.{Solution}
 use Rattle.theory.specs.WagnerWhitin.{wagnerWhitin, wagnerWhitin-zero, lot, chosen-cost, chosen-plan}
 use Rattle.uncapped.specs.declared.rows.Choice.{Choice}
 use Rattle.uncapped.specs.Bounds.{maxMaking}
-use Rattle.uncapped.specs.Rows.{ChoiceOf, Rows, Filled}
+use Rattle.uncapped.specs.Rows.{ChoiceOf, Filled}
 
 module _ (d : Day) (costs₀ choices₀ : List ℕ) where
   abbrev M : Model
@@ -24,27 +24,26 @@ module _ (d : Day) (costs₀ choices₀ : List ℕ) where
   pub filled-none : at costs₀ 0 ≡ 0 → Filled d 0 costs₀ choices₀ costs₀ choices₀
   filled-none zeroth =
       record {
-        rows = record {
-          cost = upTo-zero (λ (l : ℕ). wagnerWhitin M l .cost ≡ at costs₀ l) (ap (λ (f : Solution). f .cost) (wagnerWhitin-zero M) ∙ sym zeroth);
-          before = λ k h. absurd (omega arith);
-          plan = λ k h. absurd (omega arith);
-          low = upTo-zero (λ (l : ℕ). at costs₀ l ≤ l * maxMaking) (omega arith);
-        };
+        cost = upTo-zero (λ (l : ℕ). wagnerWhitin M l .cost ≡ at costs₀ l) (ap (λ (f : Solution). f .cost) (wagnerWhitin-zero M) ∙ sym zeroth);
+        low = upTo-zero (λ (l : ℕ). at costs₀ l ≤ l * maxMaking) (omega arith);
+        lots = record { before = λ k h. absurd (omega arith); plan = λ k h. absurd (omega arith) };
         costs-size = refl;
         choices-size = refl;
         costs-rest = refl;
         choices-rest = refl;
       }
 
-  pub filled-more : periods d < length costs₀ → periods d < length choices₀ → (m k : ℕ) (costs choices : List ℕ) (r : Choice) → k ≡ suc m → m < periods d → Filled d m costs₀ choices₀ costs choices → ChoiceOf M (at costs) m r
-      → Filled d k costs₀ choices₀ (set costs k (r .cost)) (set choices k (r .from))
+  pub filled-more : periods d < length costs₀ → periods d < length choices₀ → (m k : ℕ) (costs choices : List ℕ) (r : Choice) → k ≡ suc m → m < periods d
+      → Filled d m costs₀ choices₀ costs choices → ChoiceOf M (at costs) m r → Filled d k costs₀ choices₀ (set costs k (r .cost)) (set choices k (r .from))
   filled-more room room′ m k costs choices r e inside f c = rw e (
       record {
-        rows = record {
-          cost = upTo (λ (l : ℕ). wagnerWhitin M l .cost ≡ at costs′ l) m (λ l h. f .rows .cost l h ∙ sym (old l h)) (chosen-cost M (model-rising d) (at costs) m (r .cost) (r .from) (c .chosen) (f .rows .cost) ∙ sym here);
-          before = below (λ (k : ℕ). at choices′ (suc k) ≤ k) m (λ k h. omega (arith, f .rows .before k h, old′ k h)) (omega (arith, here′, c .inside));
-          plan = below Plan m (λ k h. rw (old′ k h) (f .rows .plan k h)) (rw here′ (chosen-plan M (model-rising d) (at costs) m (r .cost) (r .from) (c .chosen) (f .rows .cost)));
-          low = upTo (λ (l : ℕ). at costs′ l ≤ l * maxMaking) m (λ l h. omega (arith, f .rows .low l h, old l h)) (omega (arith, here, c .low, f .rows .low m (omega arith)));
+        cost = upTo (λ (l : ℕ). wagnerWhitin M l .cost ≡ at costs′ l) m (λ l h. f .cost l h ∙ sym (old l h))
+            (chosen-cost M (model-rising d) (at costs) m (r .cost) (r .from) (c .chosen) (f .cost) ∙ sym here);
+        low = upTo (λ (l : ℕ). at costs′ l ≤ l * maxMaking) m (λ l h. omega (arith, f .low l h, old l h)) (omega (arith, here, c .low, f .low m (omega arith)));
+        lots = record {
+          before = below (λ (k : ℕ). at choices′ (suc k) ≤ k) m (λ k h. omega (arith, f .lots .before k h, old′ k h)) (omega (arith, here′, c .inside));
+          plan = below Plan m (λ k h. rw (old′ k h) (f .lots .plan k h))
+              (rw here′ (chosen-plan M (model-rising d) (at costs) m (r .cost) (r .from) (c .chosen) (f .cost)));
         };
         costs-size = length-set costs (suc m) (r .cost) ∙ f .costs-size;
         choices-size = length-set choices (suc m) (r .from) ∙ f .choices-size;

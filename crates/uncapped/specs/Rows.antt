@@ -56,16 +56,16 @@ pub record ChoiceOf (M : Model) (costs : ℕ → ℕ) (m : ℕ) (r : Choice) : T
   pub inside : r .from ≤ m
   pub low : r .cost ≤ costs m + maxMaking
 
--- the cells up to m hold the rows up to m: their costs, and the rows that their last lots go on from
-pub record Rows (M : Model) (costs froms : ℕ → ℕ) (m : ℕ) : Type 0 where
-  pub cost : (l : ℕ) → l ≤ m → wagnerWhitin M l .cost ≡ costs l
+-- the choices up to m: each row up to m is the row that its last lot goes on from, and that lot
+pub record Lots (M : Model) (froms : ℕ → ℕ) (m : ℕ) : Type 0 where
   pub before : (k : ℕ) → k < m → froms (suc k) ≤ k
   pub plan : (k : ℕ) → k < m → wagnerWhitin M (suc k) .plan ≡ wagnerWhitin M (froms (suc k)) .plan ++ lot M k (froms (suc k))
-  pub low : Low costs m
 
--- the same of the lent areas, whose cells past n are as they were
+-- the areas hold the rows up to m; their cells past n are as they were
 pub record Filled (d : Day) (m : ℕ) (costs₀ choices₀ costs choices : List ℕ) : Type 0 where
-  pub rows : Rows (modelOf d) (at costs) (at choices) m
+  pub cost : (l : ℕ) → l ≤ m → wagnerWhitin (modelOf d) l .cost ≡ at costs l
+  pub low : Low (at costs) m
+  pub lots : Lots (modelOf d) (at choices) m
   pub costs-size : length costs ≡ length costs₀
   pub choices-size : length choices ≡ length choices₀
   pub costs-rest : drop (periods d + 1) costs ≡ drop (periods d + 1) costs₀

@@ -1,2 +1,3 @@
 //! The uncapped path.
 pub mod rows;
+pub mod slots;

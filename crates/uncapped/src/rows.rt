@@ -46,13 +46,24 @@ fn cheaper(best: Choice, l: usize, price: u64) -> Choice
     ensures { λ r. ⌜ r ≡ better best l price ⌝ }
 {
     if price <= best.cost {
-        return Choice { cost: price, from: l };
+        return Choice {
+            cost: price,
+            from: l,
+        };
     }
     best
 }
 
 // Candidate l: its lot is that of l + 1 and its own period's demand; what was the lot of l + 1 is held through its period.
-fn candidate(s: Search, l: usize, cost: u64, demand: u16, setup: u32, unit: u32, holding: u32) -> Search
+fn candidate(
+    s: Search,
+    l: usize,
+    cost: u64,
+    demand: u16,
+    setup: u32,
+    unit: u32,
+    holding: u32,
+) -> Search
     requires { ⌜ Room s cost demand ⌝ }
     ensures { λ r. ⌜ r ≡ tried s l cost demand setup unit holding ⌝ }
 {
@@ -112,7 +123,20 @@ fn row(
     if made == 0 {
         return best;
     }
-    let s = cheapest(demand, capacity, setup, unit, holding, costs, m, Search { made, held: 0, best });
+    let s = cheapest(
+        demand,
+        capacity,
+        setup,
+        unit,
+        holding,
+        costs,
+        m,
+        Search {
+            made,
+            held: 0,
+            best,
+        },
+    );
     s.best
 }
 

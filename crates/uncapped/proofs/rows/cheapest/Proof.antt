@@ -69,7 +69,7 @@ shared-slice-read-candidate-5 c = omega arith
 
 -- src/rows.rt:87:9
 candidate-requires : tie.Need-candidate-requires Inv-loop μ-loop
-candidate-requires c κs = 
+candidate-requires c κs =
     let t = c .before .before .before .before .before .before in
     let p = t .before .before .before .before .before .before .before .pre in
     seen-room _ (p .0) _ _ (t .loop .l) (t .loop .l - 1) _ (p .1 .0 .0) (omega arith) (t .loop .inv .1) (t .loop .inv .0) (p .1 .1 .0)
@@ -80,7 +80,7 @@ loop-less c = omega arith
 
 -- src/rows.rt:85:5
 loop-again : tie.Need-loop-again Inv-loop μ-loop
-loop-again c = 
+loop-again c =
     let t = c .before .before .before .before .before .before .before in
     let p = t .before .before .before .before .before .before .before .pre in
     (omega arith, rw (c .candidate .ensures) (seen-more _ (p .0) _ _ (t .loop .l) (t .loop .l - 1) _ (p .1 .0 .0) (omega arith) (t .loop .inv .1) (omega (arith, c .before .shared-slice-known11 .given (t .loop .l - 1)))))

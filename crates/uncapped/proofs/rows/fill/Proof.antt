@@ -26,9 +26,9 @@ loop-holds c = (omega arith, filled-none _ _ _ (c .before .before .before .befor
 
 -- src/rows.rt:136:13
 row-requires : tie.Need-row-requires Inv-loop μ-loop
-row-requires c κs = 
+row-requires c κs =
     let t = c .before .before in
-    (t .before .before .before .before .before .before .before .before .pre .0, ((c .before .loop-test .taken, omega (arith, t .loop .inv .1 .costs-size)), t .loop .inv .1 .rows .low))
+    (t .before .before .before .before .before .before .before .before .pre .0, ((c .before .loop-test .taken, omega (arith, t .loop .inv .1 .costs-size)), t .loop .inv .1 .low))
 
 -- src/rows.rt:137:9
 add-m : tie.Need-add-m Inv-loop μ-loop
@@ -60,7 +60,7 @@ loop-less c = omega arith
 
 -- src/rows.rt:135:5
 loop-again : tie.Need-loop-again Inv-loop μ-loop
-loop-again c = 
+loop-again c =
     let t = c .before .before .before .before in
     let p = t .before .before .before .before .before .before .before .before .pre in
     (omega arith, filled-more _ _ _ (p .1 .0 .0) (p .1 .0 .1) _ _ _ _ _ (add-one _) (c .before .before .before .loop-test .taken) (t .loop .inv .1) (c .before .row .ensures))
