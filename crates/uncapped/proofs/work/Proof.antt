@@ -1,69 +1,93 @@
+-- `uncapped::work` meets its contract: the tests leave what each step asks, and the steps what an accepted call leaves. Assumes nothing.
+use Prim.Native.Nat.{suc}
+use native.Mathlib.Numerals.{add-one}
+use mathlib.Core.Path.{refl, _∙_}
+use native.Mathlib.Omega.{arith}
 use borrow.Author.Needs.{needs}
+use lib.ListN.{length, length-set}
+use lib.Seq.{getD-set-same}
+use Rattle.day.specs.Day.{Day, dayOf, periods}
+use Rattle.day.specs.Outcome.{Memory}
+use Rattle.checks.specs.Passed.{Enough}
+use Rattle.uncapped.specs.Bounds.{Fitting}
+use Rattle.uncapped.proofs.Entry.{accepted-fits, accepted-enough, work-accepted}
 use Rattle.uncapped.proofs.work.Statement.{statement}
 use Rattle.uncapped.proofs.work.Tie as tie
 use Rattle.uncapped.proofs.work.Reads as reads
 use Rattle.uncapped.proofs.work.Lts as lts
-use Rattle.areas.proofs.clear_choices.Reads as clear-choices-reads
-use Rattle.areas.proofs.clear_costs.Reads as clear-costs-reads
-use Rattle.uncapped.proofs.rows.fill.Reads as fill-reads
-use Rattle.uncapped.proofs.slots.count.Reads as count-reads
-use Rattle.uncapped.proofs.slots.read_back.Reads as read-back-reads
 
--- src/lib.rt:58:5
+abbrev given : tie.Start → Day
+given s = let a = s .args in dayOf (a .demand .now) (a .capacity .now) (a .setup .now) (a .unit .now) (a .holding .now)
+
+abbrev lent : tie.Start → Memory
+lent s = let a = s .args in record { costs = a .costs .now; choices = a .choices .now; slots = a .slots .now }
+
+fits : (s : tie.Start) → Fitting (given s)
+fits s = accepted-fits (given s) (lent s) (s .pre)
+
+enough : (s : tie.Start) → let a = s .args in let n = periods (given s) in Enough (length (a .costs .now)) (suc n) (length (a .choices .now)) (suc n) (length (a .slots .now)) n
+enough s = rw (← add-one) (accepted-enough (given s) (lent s) (s .pre))
+
 slice-write-costs : tie.Need-slice-write-costs
-slice-write-costs c = ?
+slice-write-costs c = omega (arith, enough (c .before .before .before .before .before .before .before .before))
 
--- src/lib.rt:59:5
 fill-requires : tie.Need-fill-requires
-fill-requires c κs = ?
+fill-requires c κs = 
+    let s = c .before .before .before .before .before .before .before .before .before .before in
+    let e = enough s in
+    (fits s, ((simp length-set (omega arith), omega arith), getD-set-same (s .args .costs .now) 0 0 0 (omega arith)))
 
--- src/lib.rt:60:5
 read-back-requires : tie.Need-read-back-requires
-read-back-requires c κs = ?
+read-back-requires c κs = 
+    let s = c .before .before .before .before .before .before .before .before .before .before .before .before .before .before .before .before .before in
+    let e = enough s in
+    let f = c .before .before .before .before .before .before .fill .ensures in
+    (fits s, ((omega (arith, f .choices-size), e .slot), f .lots))
 
--- src/lib.rt:63:15
 mul-t21 : tie.Need-mul-t21
-mul-t21 c = ?
+mul-t21 c = omega (arith, fits (c .before .before .before .before .before .before .before .before .before .before .before .before .before .before .before .before .before .before .before .before) .few)
 
--- src/lib.rt:63:15
 slice-read-t23 : tie.Need-slice-read-t23
-slice-read-t23 c = ?
+slice-read-t23 c = 
+    let e = enough (c .before .before .before .before .before .before .before .before .before .before .before .before .before .before .before .before .before .before .before .before .before) in
+    let f = c .before .before .before .before .before .before .before .before .before .before .fill .ensures in
+    omega (arith, f .costs-size, length-set (c .before .before .before .before .before .before .before .before .before .before .before .before .before .before .before .before .before .before .before .before .before .args .costs .now) 0 0)
 
--- src/lib.rt:64:17
 count-requires : tie.Need-count-requires
-count-requires c κs = ?
+count-requires c κs = 
+    let e = enough (c .before .before .before .before .before .before .before .before .before .before .before .before .before .before .before .before .before .before .before .before .before .before) in
+    omega (arith, c .before .before .before .before .read-back .kept .1 .1 .1 .1 .1 .1 .0)
 
--- src/lib.rt:66:31
 add-clear-costs : tie.Need-add-clear-costs
 add-clear-costs c = search needs
 
--- src/lib.rt:66:5
 clear-costs-requires : tie.Need-clear-costs-requires
-clear-costs-requires c κs = ?
+clear-costs-requires c κs = 
+    let e = enough (c .before .before .before .before .before .before .before .before .before .before .before .before .before .before .before .before .before .before .before .before .before .before .before .before) in
+    let f = c .before .before .before .before .before .before .before .before .before .before .before .before .before .fill .ensures in
+    omega (arith, f .costs-size, length-set (c .before .before .before .before .before .before .before .before .before .before .before .before .before .before .before .before .before .before .before .before .before .before .before .before .args .costs .now) 0 0)
 
--- src/lib.rt:67:35
 add-clear-choices : tie.Need-add-clear-choices
 add-clear-choices c = search needs
 
--- src/lib.rt:67:5
 clear-choices-requires : tie.Need-clear-choices-requires
-clear-choices-requires c κs = ?
+clear-choices-requires c κs = 
+    let e = enough (c .before .before .before .before .before .before .before .before .before .before .before .before .before .before .before .before .before .before .before .before .before .before .before .before .before .before .before .before) in
+    omega (arith, c .before .before .before .before .before .before .before .before .before .before .before .before .before .before .before .before .before .fill .ensures .choices-size)
 
--- src/lib.rt:45:1
 same-length : tie.Need-same-length
-same-length c = ?
+same-length c = c .before .before .before .before .before .before .clear-costs .kept .0 ∙ c .before .before .before .before .before .before .before .before .before .before .before .before .before .before .before .before .before .before .before .before .fill .ensures .costs-size ∙ length-set (c .before .before .before .before .before .before .before .before .before .before .before .before .before .before .before .before .before .before .before .before .before .before .before .before .before .before .before .before .before .before .before .args .costs .now) 0 0
 
--- src/lib.rt:45:1
 same-length-2 : tie.Need-same-length-2
 same-length-2 c = search needs
 
--- src/lib.rt:45:1
 same-length-3 : tie.Need-same-length-3
 same-length-3 c = search needs
 
--- src/lib.rt:45:1
 returns : tie.Need-returns
-returns c = ?
+returns c = 
+    let s = c .before .before .before .before .before .before .before .before .before .before .before .before .before .before .before .before .before .before .before .before .before .before .before .before .before .before .before .before .before .before .before in
+    work-accepted (given s) (lent s) (s .pre) _ _ _ _ _ _ (c .before .before .before .before .before .before .before .before .before .before .before .before .before .before .before .before .before .before .before .before .fill .ensures) (c .before .before .before .before .before .before .before .before .before .before .before .before .before .read-back .ensures) refl (c .before .before .before .before .before .before .before .before .count .ensures) (c .before .before .before .before .before .before .clear-costs .ensures) (c .before .before .clear-choices .ensures)
 
 pub work-spec : {M : Type 1} → statement M
 work-spec =
