@@ -1,7 +1,6 @@
 -- `uncapped::work` meets its contract: the tests leave what each step asks, and the steps what an accepted call leaves. Assumes nothing.
-use Prim.Native.Nat.{suc}
-use native.Mathlib.Numerals.{add-one}
 use mathlib.Core.Path.{refl, _∙_}
+use Prim.Native.Nat.{_+_}
 use native.Mathlib.Omega.{arith}
 use borrow.Author.Needs.{needs}
 use lib.ListN.{length, length-set}
@@ -25,8 +24,8 @@ lent s = let a = s .args in record { costs = a .costs .now; choices = a .choices
 fits : (s : tie.Start) → Fitting (given s)
 fits s = accepted-fits (given s) (lent s) (s .pre)
 
-enough : (s : tie.Start) → let a = s .args in let n = periods (given s) in Enough (length (a .costs .now)) (suc n) (length (a .choices .now)) (suc n) (length (a .slots .now)) n
-enough s = rw (← add-one) (accepted-enough (given s) (lent s) (s .pre))
+enough : (s : tie.Start) → let m = lent s in let n = periods (given s) in Enough (length (m .costs)) (n + 1) (length (m .choices)) (n + 1) (length (m .slots)) n
+enough s = accepted-enough (given s) (lent s) (s .pre)
 
 slice-write-costs : tie.Need-slice-write-costs
 slice-write-costs c = omega (arith, enough (c .before .before .before .before .before .before .before .before))
