@@ -3,9 +3,9 @@
 use mathlib.Core.Path.{_≡_, refl, sym, ap, _∙_}
 use mathlib.Core.List.{List, [], _∷_, _++_}
 use mathlib.Core.Option.{Option, none, some, Option·some-ne-none}
-use Prim.Native.Nat.{ℕ, _+_, _≤_, _<_}
+use Prim.Native.Nat.{ℕ, _+_, _<_}
 use native.Mathlib.Omega.{arith}
-use lib.ListN.{length, drop, set, replicate, length-append, length-drop, length-set, List·getD-append}
+use lib.ListN.{length, drop, set, replicate, length-append, length-drop, List·getD-append}
 use lib.Seq.{drop-at, drop-set-lt}
 use Rattle.day.specs.declared.Refusal.{Refusal}
 use Rattle.day.specs.declared.Check.{Check}
@@ -13,7 +13,7 @@ use Rattle.day.specs.declared.Check.the-variants.{Passed, Refused}
 use Rattle.day.specs.declared.Totals.{Totals}
 use Rattle.day.specs.Sums.{at}
 use Rattle.day.specs.Day.{Day, periods, total}
-use Rattle.day.specs.Plan.{Optimal, setups}
+use Rattle.day.specs.Plan.{setups}
 use Rattle.day.specs.Refusals.{first, checked, badTables, badTotal, badAreas, badSlots, shortage, binding}
 use Rattle.day.specs.Outcome.{Memory, Cleared, Accepted}
 use Rattle.day.specs.Paths.{refusal, uncapped}

@@ -1,10 +1,10 @@
 -- Laws of the read-back: a lot is put from its end to its beginning, and each lot gives the plan's end from where it begins.
 -- Assumes nothing.
-use mathlib.Core.Path.{_≡_, refl, sym, ap, _∙_}
+use mathlib.Core.Path.{_≡_, refl, ap, _∙_}
 use mathlib.Core.List.{List, [], _∷_, _++_, append-assoc}
 use Prim.Native.Nat.{ℕ, zero, suc, _+_, _-_, _≤_, _<_}
 use native.Mathlib.Omega.{arith}
-use lib.ListN.{length, getD, drop, set, replicate, length-set}
+use lib.ListN.{length, drop, set, replicate, length-set}
 use lib.Seq.{drop-cons, drop-set-lt, getD-set-same}
 use Rattle.day.specs.Sums.{at, sumTo, sum-grows}
 use Rattle.day.specs.Day.{dayOf, maxTotal}

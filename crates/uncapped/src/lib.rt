@@ -32,7 +32,14 @@ fn test(
         return Check::Refused(r);
     }
     let n = demand.len();
-    if let Check::Refused(r) = checks::memory(costs.len(), n + 1, choices.len(), n + 1, slots.len(), n) {
+    if let Check::Refused(r) = checks::memory(
+        costs.len(),
+        n + 1,
+        choices.len(),
+        n + 1,
+        slots.len(),
+        n,
+    ) {
         return Check::Refused(r);
     }
     if let Check::Refused(r) = checks::shortage(demand, capacity) {
@@ -81,8 +88,26 @@ pub fn plan(
 ) -> Answer
     ensures { λ r. ⌜ Runs uncapped (dayOf (now (demand .entry)) (now (capacity .entry)) (now (setup .entry)) (now (unit .entry)) (now (holding .entry))) (record { costs = now (costs .entry); choices = now (choices .entry); slots = now (slots .entry) }) r (record { costs = now (costs .exit); choices = now (choices .exit); slots = now (slots .exit) }) ⌝ }
 {
-    if let Check::Refused(r) = test(demand, capacity, setup, unit, holding, costs, choices, slots) {
+    if let Check::Refused(r) = test(
+        demand,
+        capacity,
+        setup,
+        unit,
+        holding,
+        costs,
+        choices,
+        slots,
+    ) {
         return Answer::Refused(r);
     }
-    Answer::Planned(work(demand, capacity, setup, unit, holding, costs, choices, slots))
+    Answer::Planned(work(
+        demand,
+        capacity,
+        setup,
+        unit,
+        holding,
+        costs,
+        choices,
+        slots,
+    ))
 }

@@ -63,7 +63,7 @@ enum-known-r : tie.Need-enum-known-r
 enum-known-r c = search needs
 
 returns : tie.Need-returns
-returns c = 
+returns c =
     let p = c .before .before .before in
     group-refused [] (tables p) (memory p ++ supply p ++ kind p) refl (p .day .ensures) (c .before .r .given .1)
 
@@ -83,7 +83,7 @@ enum-known-r-2 : tie.Need-enum-known-r-2
 enum-known-r-2 c = search needs
 
 returns-2 : tie.Need-returns-2
-returns-2 c = 
+returns-2 c =
     let p = c .before .before .before in
     let q = day2 (p .before) in
     group-refused (tables q) (memory q) (supply q ++ kind q) (passed2 (p .before)) (p .memory .ensures) (c .before .r2 .given .1)
@@ -98,7 +98,7 @@ enum-known-r-3 : tie.Need-enum-known-r-3
 enum-known-r-3 c = search needs
 
 returns-3 : tie.Need-returns-3
-returns-3 c = 
+returns-3 c =
     let p = c .before .before .before in
     let q = day3 (p .before) in
     group-refused (tables q ++ memory q) (supply q) (kind q) (passed3 (p .before))
@@ -111,7 +111,7 @@ binding-requires : tie.Need-binding-requires
 binding-requires c κs = let l = limits (c .before .before .before .before .before .before) in (l .lengths .capacity, l .few)
 
 returns-4 : tie.Need-returns-4
-returns-4 c = 
+returns-4 c =
     let q = day4 (c .before) in
     c .binding .ensures ∙ ap checked (sym (first-passed (tables q ++ memory q ++ supply q) (kind q) (passed4 (c .before)) ∙ first-one (binding (given q))))
 

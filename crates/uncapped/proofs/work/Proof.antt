@@ -12,8 +12,6 @@ use Rattle.uncapped.specs.Bounds.{Fitting}
 use Rattle.uncapped.proofs.Entry.{accepted-fits, accepted-enough, work-accepted}
 use Rattle.uncapped.proofs.work.Statement.{statement}
 use Rattle.uncapped.proofs.work.Tie as tie
-use Rattle.uncapped.proofs.work.Reads as reads
-use Rattle.uncapped.proofs.work.Lts as lts
 
 abbrev given : tie.Start → Day
 given s = let a = s .args in dayOf (a .demand .now) (a .capacity .now) (a .setup .now) (a .unit .now) (a .holding .now)
@@ -31,13 +29,13 @@ slice-write-costs : tie.Need-slice-write-costs
 slice-write-costs c = omega (arith, enough (c .before .before .before .before .before .before .before .before))
 
 fill-requires : tie.Need-fill-requires
-fill-requires c κs = 
+fill-requires c κs =
     let s = c .before .before .before .before .before .before .before .before .before .before in
     let e = enough s in
     (fits s, ((simp length-set (omega arith), omega arith), getD-set-same (s .args .costs .now) 0 0 0 (omega arith)))
 
 read-back-requires : tie.Need-read-back-requires
-read-back-requires c κs = 
+read-back-requires c κs =
     let s = c .before .before .before .before .before .before .before .before .before .before .before .before .before .before .before .before .before in
     let e = enough s in
     let f = c .before .before .before .before .before .before .fill .ensures in
@@ -47,13 +45,13 @@ mul-t21 : tie.Need-mul-t21
 mul-t21 c = omega (arith, fits (c .before .before .before .before .before .before .before .before .before .before .before .before .before .before .before .before .before .before .before .before) .few)
 
 slice-read-t23 : tie.Need-slice-read-t23
-slice-read-t23 c = 
+slice-read-t23 c =
     let e = enough (c .before .before .before .before .before .before .before .before .before .before .before .before .before .before .before .before .before .before .before .before .before) in
     let f = c .before .before .before .before .before .before .before .before .before .before .fill .ensures in
     omega (arith, f .costs-size, length-set (c .before .before .before .before .before .before .before .before .before .before .before .before .before .before .before .before .before .before .before .before .before .args .costs .now) 0 0)
 
 count-requires : tie.Need-count-requires
-count-requires c κs = 
+count-requires c κs =
     let e = enough (c .before .before .before .before .before .before .before .before .before .before .before .before .before .before .before .before .before .before .before .before .before .before) in
     omega (arith, c .before .before .before .before .read-back .kept .1 .1 .1 .1 .1 .1 .0)
 
@@ -61,7 +59,7 @@ add-clear-costs : tie.Need-add-clear-costs
 add-clear-costs c = search needs
 
 clear-costs-requires : tie.Need-clear-costs-requires
-clear-costs-requires c κs = 
+clear-costs-requires c κs =
     let e = enough (c .before .before .before .before .before .before .before .before .before .before .before .before .before .before .before .before .before .before .before .before .before .before .before .before) in
     let f = c .before .before .before .before .before .before .before .before .before .before .before .before .before .fill .ensures in
     omega (arith, f .costs-size, length-set (c .before .before .before .before .before .before .before .before .before .before .before .before .before .before .before .before .before .before .before .before .before .before .before .before .args .costs .now) 0 0)
@@ -70,7 +68,7 @@ add-clear-choices : tie.Need-add-clear-choices
 add-clear-choices c = search needs
 
 clear-choices-requires : tie.Need-clear-choices-requires
-clear-choices-requires c κs = 
+clear-choices-requires c κs =
     let e = enough (c .before .before .before .before .before .before .before .before .before .before .before .before .before .before .before .before .before .before .before .before .before .before .before .before .before .before .before .before) in
     omega (arith, c .before .before .before .before .before .before .before .before .before .before .before .before .before .before .before .before .before .fill .ensures .choices-size)
 
@@ -84,7 +82,7 @@ same-length-3 : tie.Need-same-length-3
 same-length-3 c = search needs
 
 returns : tie.Need-returns
-returns c = 
+returns c =
     let s = c .before .before .before .before .before .before .before .before .before .before .before .before .before .before .before .before .before .before .before .before .before .before .before .before .before .before .before .before .before .before .before in
     work-accepted (given s) (lent s) (s .pre) _ _ _ _ _ _ (c .before .before .before .before .before .before .before .before .before .before .before .before .before .before .before .before .before .before .before .before .fill .ensures) (c .before .before .before .before .before .before .before .before .before .before .before .before .before .read-back .ensures) refl (c .before .before .before .before .before .before .before .before .count .ensures) (c .before .before .before .before .before .before .clear-costs .ensures) (c .before .before .clear-choices .ensures)
 

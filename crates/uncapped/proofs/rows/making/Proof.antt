@@ -1,7 +1,7 @@
 -- `uncapped::rows::making` meets its contract. Assumes nothing.
-use borrow.Author.Needs.{needs}
 use mathlib.Core.Path.{sym}
 use native.Mathlib.Omega.{arith}
+use borrow.Author.Needs.{needs}
 use Rattle.uncapped.proofs.Candidates.{product-low, making-some}
 use Rattle.uncapped.proofs.rows.making.Statement.{statement}
 use Rattle.uncapped.proofs.rows.making.Tie as tie

@@ -1,3 +1,5 @@
+-- `uncapped::slots::put_lot` meets its contract. The invariant: the slots from k on are zero, and their demand is summed.
+-- Assumes nothing.
 use Prim.Native.Nat.{_-_}
 use native.Mathlib.Numerals.{add-one}
 use native.Mathlib.Omega.{arith}
@@ -5,8 +7,6 @@ use lib.ListN.{length-set}
 use Rattle.uncapped.proofs.ReadBack.{Putting, putting-none, putting-more, putting-few, putting-all}
 use Rattle.uncapped.proofs.slots.put_lot.Statement.{statement}
 use Rattle.uncapped.proofs.slots.put_lot.Tie as tie
-use Rattle.uncapped.proofs.slots.put_lot.Reads as reads
-use Rattle.uncapped.proofs.slots.put_lot.Lts as lts
 
 abbrev Inv-loop : tie.InvT-loop
 Inv-loop demand slots₀ from last made₀ k₀ slots made k = Putting demand slots₀ from last slots made k
@@ -14,62 +14,48 @@ Inv-loop demand slots₀ from last made₀ k₀ slots made k = Putting demand sl
 abbrev μ-loop : tie.MeasureT-loop
 μ-loop demand slots₀ from last made₀ k₀ slots made k = k
 
--- src/slots.rt:21:17
 add-k : tie.Need-add-k Inv-loop μ-loop
 add-k c = omega arith
 
--- src/slots.rt:22:5
 loop-holds : tie.Need-loop-holds Inv-loop μ-loop
 loop-holds c = putting-none _ _ _ _ _ (add-one _) (c .pre .0 .0)
 
--- src/slots.rt:23:9
 sub-k : tie.Need-sub-k Inv-loop μ-loop
 sub-k c = omega arith
 
--- src/slots.rt:24:17
 mul-made : tie.Need-mul-made Inv-loop μ-loop
 mul-made c = omega arith
 
--- src/slots.rt:24:17
 shared-slice-read-made : tie.Need-shared-slice-read-made Inv-loop μ-loop
 shared-slice-read-made c = omega arith
 
--- src/slots.rt:24:9
 add-made : tie.Need-add-made Inv-loop μ-loop
 add-made c =
     let t = c .before .before in
     let q = t .before .pre in
     omega (arith, putting-few _ _ _ _ _ _ _ (q .0 .1 .1) (t .loop .inv) (t .loop .k - 1) (omega arith) (q .0 .1 .0) (q .1))
 
--- src/slots.rt:25:9
 mul-slots : tie.Need-mul-slots Inv-loop μ-loop
 mul-slots c = omega arith
 
--- src/slots.rt:25:9
 slice-write-slots : tie.Need-slice-write-slots Inv-loop μ-loop
 slice-write-slots c = omega arith
 
--- src/slots.rt:22:5
 loop-less : tie.Need-loop-less Inv-loop μ-loop
 loop-less c = omega arith
 
--- src/slots.rt:22:5
 loop-again : tie.Need-loop-again Inv-loop μ-loop
 loop-again c = let t = c .before .before in putting-more _ _ _ _ _ _ _ (t .before .pre .0 .1 .1) (t .loop .inv) (t .loop .k - 1) (omega arith) (c .before .loop-test .taken)
 
--- src/slots.rt:27:5
 mul-slots-2 : tie.Need-mul-slots-2 Inv-loop μ-loop
 mul-slots-2 c = omega arith
 
--- src/slots.rt:27:5
 slice-write-slots-2 : tie.Need-slice-write-slots-2 Inv-loop μ-loop
 slice-write-slots-2 c = omega arith
 
--- src/slots.rt:15:1
 same-length : tie.Need-same-length Inv-loop μ-loop
 same-length c = simp length-set (c .before .loop .inv .size)
 
--- src/slots.rt:15:1
 returns : tie.Need-returns Inv-loop μ-loop
 returns c = let t = c .before in putting-all _ _ _ _ _ _ _ (t .before .pre .0 .1 .1) (t .loop .inv) (t .before .pre .0 .0) (c .loop-test .left)
 

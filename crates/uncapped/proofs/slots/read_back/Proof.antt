@@ -1,3 +1,5 @@
+-- `uncapped::slots::read_back` meets its contract. The invariant: row m and what the slots hold from m on are the whole plan.
+-- Assumes nothing.
 use mathlib.Core.Path.{_≡_, refl, _∙_}
 use mathlib.Core.List.{_++_}
 use Prim.Native.Nat.{_-_, _≤_}
@@ -9,9 +11,6 @@ use Rattle.theory.specs.WagnerWhitin.{wagnerWhitin}
 use Rattle.uncapped.proofs.ReadBack.{back-less, back-more, back-all}
 use Rattle.uncapped.proofs.slots.read_back.Statement.{statement}
 use Rattle.uncapped.proofs.slots.read_back.Tie as tie
-use Rattle.uncapped.proofs.slots.read_back.Reads as reads
-use Rattle.uncapped.proofs.slots.read_back.Lts as lts
-use Rattle.uncapped.proofs.slots.put_lot.Reads as put-lot-reads
 
 abbrev Inv-loop : tie.InvT-loop
 Inv-loop demand capacity setup unit holding choices slots₀ m₀ slots m =
@@ -21,27 +20,21 @@ Inv-loop demand capacity setup unit holding choices slots₀ m₀ slots m =
 abbrev μ-loop : tie.MeasureT-loop
 μ-loop demand capacity setup unit holding choices slots₀ m₀ slots m = m
 
--- src/slots.rt:46:5
 loop-holds : tie.Need-loop-holds Inv-loop μ-loop
 loop-holds c = (omega arith, refl, refl)
 
--- src/slots.rt:47:20
 mul-from : tie.Need-mul-from Inv-loop μ-loop
 mul-from c = omega arith
 
--- src/slots.rt:47:20
 shared-slice-read-from : tie.Need-shared-slice-read-from Inv-loop μ-loop
 shared-slice-read-from c = omega arith
 
--- src/slots.rt:47:20
 cast-from : tie.Need-cast-from Inv-loop μ-loop
 cast-from c = omega (arith, c .shared-slice-known7 .given (c .before .before .loop .m))
 
--- src/slots.rt:48:38
 sub-put-lot : tie.Need-sub-put-lot Inv-loop μ-loop
 sub-put-lot c = omega arith
 
--- src/slots.rt:48:9
 put-lot-requires : tie.Need-put-lot-requires Inv-loop μ-loop
 put-lot-requires c κs =
     let t = c .before .before .before in
@@ -49,14 +42,12 @@ put-lot-requires c κs =
     let less = back-less _ _ _ (p .1 .1) (t .loop .m) (t .loop .m - 1) (omega arith) (t .loop .inv .0) in
     ((less, (omega arith, omega (arith, t .loop .inv .1))), p .0 .total)
 
--- src/slots.rt:46:5
 loop-less : tie.Need-loop-less Inv-loop μ-loop
 loop-less c =
     let t = c .before .before .before .before .before .before in
     let p = t .before .before .before .before .before .before .before .before .pre in
     omega (arith, back-less _ _ _ (p .1 .1) (t .loop .m) (t .loop .m - 1) (omega arith) (t .loop .inv .0))
 
--- src/slots.rt:46:5
 loop-again : tie.Need-loop-again Inv-loop μ-loop
 loop-again c =
     let t = c .before .before .before .before .before .before in
@@ -67,11 +58,9 @@ loop-again c =
       back-more _ _ _ (p .1 .1) (t .loop .m) (t .loop .m - 1) _ _ _ (omega arith) (t .loop .inv .0) (put .ensures) (t .loop .inv .2),
     )
 
--- src/slots.rt:31:1
 same-length : tie.Need-same-length Inv-loop μ-loop
 same-length c = c .before .loop .inv .1
 
--- src/slots.rt:31:1
 returns : tie.Need-returns Inv-loop μ-loop
 returns c = back-all _ _ _ _ (omega arith) (c .before .loop .inv .2)
 

