@@ -10,4 +10,5 @@ pub mod Refusals
 pub mod File
 -- What a path answers, and what it leaves in lent memory.
 pub mod Outcome
+
 -- The marked days: a plain search over all plans, the table, its theorem.

@@ -1,0 +1,3 @@
+-- What the calls answer, and laws of the layout.
+pub mod Answers
+pub mod Layout

@@ -1,0 +1,11 @@
+//! The day file (document 01, "Day file"): its reader, the lookup of one record's body, its writer.
+//! What they do is said by `Reading`, `Lookup` and `Writing` in specs/; the layout itself is in the crate day's `File`.
+pub mod layout;
+
+use day::Refusal;
+
+// What the reader answers, and its walk: how many periods there are. Their numbers are in the lent tables.
+pub enum ReadAnswer {
+    Refused(Refusal),
+    Periods(usize),
+}
