@@ -10,5 +10,4 @@ pub mod Refusals
 pub mod File
 -- What a path answers, and what it leaves in lent memory.
 pub mod Outcome
-
 -- The marked days: a plain search over all plans, the table, its theorem.

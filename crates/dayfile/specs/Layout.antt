@@ -2,16 +2,21 @@
 -- Main statements: `period-at` and `end-found`, of the records that `periodsIn` counts and of the one after them. Assumes nothing.
 use mathlib.Core.Path.{_≡_, refl}
 use mathlib.Core.Bool.{Bool, true, false, not, _&&_, _||_, cond}
-use mathlib.Core.List.{List}
+use mathlib.Core.List.{List, [], _∷_}
 use mathlib.Core.Option.{Option, none, some}
 use Prim.Native.Nat.{ℕ, zero, suc, _+_, _≤_, _<_}
 use native.Mathlib.Omega.{arith}
-use lib.Dec.{eqb, leb}
+use native.Mathlib.Nat.{eq-or-lt-of-le, le-of-suc-le-suc}
+use mathlib.Core.Logic.{⊎-elim}
+use lib.Arith.{le-zero}
+use lib.Dec.{eqb, leb, ltb}
 use lib.ListN.{length}
-use borrow.Author.Tests.{eqb-true, leb-true, not-true, not-false}
+use borrow.Author.Tests.{eqb-true, leb-true, leb-false, ltb-false, lt-ltb, le-ltb, le-leb, eq-eqb, not-true, not-false}
 use Rattle.day.specs.Sums.{at}
 use Rattle.day.specs.Find.{find, find-none, find-here, none-found, some-found}
-use Rattle.day.specs.File.{periodKind, endKind, isKind, bodyLength, next, recordAt, isPeriod, periodsIn, orZero}
+use Rattle.day.specs.declared.Refusal.{Refusal}
+use Rattle.day.specs.Refusals.{refuse, first}
+use Rattle.day.specs.File.{periodKind, endKind, isKind, bodyLength, body, number2, next, recordAt, Layout, isPeriod, periodsIn, orZero, unknownKind, truncated, wrongEnd, walk}
 
 -- a body of a known kind has 2 bytes at least
 pub kind-length : (kind : ℕ) → isKind kind ≡ true → 2 ≤ bodyLength kind
@@ -82,3 +87,73 @@ walked-more s n p w t = record {
 pub walked-end : (s : List ℕ) (n p : ℕ) → Walked s n p → isPeriod s p ≡ false → periodsIn s ≡ n
 walked-end s n p w f =
     rw (find-here (stops s) n (suc (length s)) (w .passed) (rw (← w .here, f) refl) (omega (arith, w .far, w .inside))) refl
+
+-- a file whose walk meets no fault is laid out as document 01 says
+first-none : (o : Option Refusal) (os : List (Option Refusal)) → first (o ∷ os) ≡ none → (o ≡ none) × (first os ≡ none)
+first-none none os e = (refl, e)
+first-none (some r) os e = let z : _≡_ {A = ℕ} 0 1 = cc in absurd (omega arith)
+
+refuse-none : (b : Bool) (r : Refusal) → refuse b r ≡ none → b ≡ false
+refuse-none false r e = refl
+refuse-none true r e = let z : _≡_ {A = ℕ} 0 1 = cc in absurd (omega arith)
+
+or-false : (a b : Bool) → (a || b) ≡ false → (a ≡ false) × (b ≡ false)
+or-false false b e = (refl, e)
+or-false true b e = let z : _≡_ {A = ℕ} 0 1 = cc in absurd (omega arith)
+
+-- a record of a known kind that is no whole period, and to whose end the file reaches, is an end record
+end-kind : (s : List ℕ) (p : ℕ) → isPeriod s p ≡ false → next s p ≤ length s → (ltb p (length s) && not (isKind (at s p))) ≡ false → at s p ≡ endKind
+end-kind s p f l e =
+    go (eqb (at s p) periodKind) (eqb (at s p) endKind) refl f
+    (rw (lt-ltb p (length s) (omega arith)) at e)
+  where
+    go : (a b : Bool) → eqb (at s p) endKind ≡ b → (a && leb (next s p) (length s)) ≡ false → not (a || b) ≡ false → at s p ≡ endKind
+    go true b q f e = absurd (omega (arith, leb-false (next s p) (length s) f))
+    go false true q f e = eqb-true _ _ q
+    go false false q f e = let z : _≡_ {A = ℕ} 0 1 = cc in absurd (omega arith)
+
+pub laid-out : (s : List ℕ) → walk s ≡ none → Layout s (periodsIn s)
+laid-out s e =
+    let n = periodsIn s in
+    let p = recordAt s n in
+    let known = first-none (unknownKind s p) (truncated s p ∷ wrongEnd s p n ∷ []) e in
+    let whole = first-none (truncated s p) (wrongEnd s p n ∷ []) (known .1) in
+    let right = or-false _ _ (refuse-none _ _ (first-none (wrongEnd s p n) [] (whole .1) .0)) in
+    let l = ltb-false _ _ (refuse-none _ _ (whole .0)) in
+    record {
+      periods = λ i l. period-at s i l .kind;
+      ends = end-kind s p (end-found s) l (refuse-none _ _ (known .0));
+      count = eqb-true _ _ (not-false _ (right .1));
+      size = eqb-true _ _ (not-false _ (right .0));
+    }
+
+record-grows : (s : List ℕ) (i n : ℕ) → i ≤ n → recordAt s i ≤ recordAt s n
+record-grows s i zero h = rw (le-zero h) (omega arith)
+record-grows s i (suc n) h =
+    ⊎-elim
+    (λ (e : i ≡ suc n). rw e (omega arith))
+    (λ l. omega (arith, record-grows s i n (le-of-suc-le-suc l)))
+    (eq-or-lt-of-le h)
+
+find-nothing : (P : ℕ → Bool) (n : ℕ) → ((i : ℕ) → i < n → P i ≡ false) → find P n ≡ none
+find-nothing P zero h = refl
+find-nothing P (suc n) h = find-none P n (find-nothing P n (λ i l. h i (omega arith))) (h n (omega arith))
+
+-- a file that is laid out so has that many periods, and its walk meets no fault
+pub counted : (s : List ℕ) (n : ℕ) → Layout s n → periodsIn s ≡ n
+counted s n w =
+    walked-end s n (recordAt s n)
+    (record { here = refl; passed = find-nothing (stops s) n passed; far = record-far s n; inside = omega (arith, w .size) })
+    (rw (w .ends) refl)
+  where
+    passed : (i : ℕ) → i < n → stops s i ≡ false
+    passed i l =
+        let far = record-grows s (suc i) n l in
+        rw (le-leb (next s (recordAt s i)) (length s) (omega (arith, w .size)), w .periods i l) refl
+
+pub walk-clean : (s : List ℕ) (n : ℕ) → Layout s n → walk s ≡ none
+walk-clean s n w =
+    let p = recordAt s n in
+    let size : length s ≡ next s p = w .size in
+    rw (counted s n w, le-ltb (length s) (next s p) (omega arith), eq-eqb (length s) (next s p) size, eq-eqb (number2 (body s p) 0) n (w .count), lt-ltb p (length s) (omega arith), w .ends)
+    refl

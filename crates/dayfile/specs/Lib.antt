@@ -1,3 +1,4 @@
 -- What the calls answer, and laws of the layout.
 pub mod Answers
 pub mod Layout
+pub mod RoundTrip
