@@ -10,10 +10,14 @@ use Rattle.day.specs.Day.{Day, periods, demandTo}
 abbrev pub inventory : Day → (ℕ → ℕ) → ℕ → ℕ
 inventory d x i = sumTo x i - demandTo d i
 
--- p_i(x): nothing for an amount of 0, else the setup cost and the units
+-- the cost of making an amount at setup cost b and unit cost p: nothing for 0, else b + p × x
+abbrev pub making : (b p x : ℕ) → ℕ
+making b p zero = 0
+making b p (suc x) = b + p * suc x
+
+-- p_i(x)
 abbrev pub production : Day → ℕ → ℕ → ℕ
-production d k zero = 0
-production d k (suc x) = at (d .setup) k + at (d .unit) k * suc x
+production d k x = making (at (d .setup) k) (at (d .unit) k) x
 
 -- what one period costs: p_i(x_i) + h_i(I_i), the upkeep paid on what is left at its end
 abbrev pub costAt : Day → (ℕ → ℕ) → ℕ → ℕ

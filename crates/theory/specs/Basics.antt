@@ -1,0 +1,32 @@
+-- Choices by a decision, and facts about every index up to one.
+-- Assumes nothing.
+use mathlib.Core.Path.{_≡_, refl}
+use mathlib.Core.Logic.{⊎-elim}
+use Prim.Native.Nat.{ℕ, zero, suc, _≤_, _<_}
+use native.Mathlib.Nat.{eq-or-lt-of-le, le-of-suc-le-suc}
+use lib.Arith.{le-zero}
+
+-- the first if the test holds, else the second
+abbrev pub pick : {A B : Type 0} → Dec A → B → B → B
+pick (yes _) a b = a
+pick (no _) a b = b
+
+pub pick-yes : {A B : Type 0} (d : Dec A) (a b : B) → A → pick d a b ≡ a
+pick-yes (yes _) a b h = refl
+pick-yes (no n) a b h = absurd (n h)
+
+pub pick-no : {A B : Type 0} (d : Dec A) (a b : B) → ¬ A → pick d a b ≡ b
+pick-no (yes y) a b h = absurd (h y)
+pick-no (no _) a b h = refl
+
+-- what holds up to i and at i + 1 holds up to i + 1
+pub upTo-zero : (P : ℕ → Type 0) → P 0 → (k : ℕ) → k ≤ 0 → P k
+upTo-zero P here k l = rw (le-zero l) here
+
+pub upTo : (P : ℕ → Type 0) (i : ℕ) → ((k : ℕ) → k ≤ i → P k) → P (suc i) → (k : ℕ) → k ≤ suc i → P k
+upTo P i all here k l = ⊎-elim (λ (e : k ≡ suc i). rw e here) (λ lt. all k (le-of-suc-le-suc lt)) (eq-or-lt-of-le l)
+
+-- what holds at 0 and, for each k below i, at k + 1, holds up to i
+pub from-zero : (P : ℕ → Type 0) (i : ℕ) → P 0 → ((k : ℕ) → k < i → P (suc k)) → (j : ℕ) → j ≤ i → P j
+from-zero P i z s zero l = z
+from-zero P i z s (suc k) l = s k l

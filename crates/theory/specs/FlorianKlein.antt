@@ -1,0 +1,153 @@
+-- The equal path: where all capacities are c, a run of the plan wanted is made in full loads and at most one part load,
+-- which is what its need leaves over when it is divided by c. Row m is the plan of (m, N m), with its cost.
+-- Assumes nothing.
+use mathlib.Core.Path.{_≡_, refl, sym, ap, _∙_}
+use mathlib.Core.List.{[]}
+use mathlib.Core.Option.{Option, none, some}
+use mathlib.Core.Logic.{_⊎_, inl, inr, ⊎-elim, _≢_}
+use Prim.Native.Nat.{ℕ, zero, suc, _+_, _-_, _*_, _%_, _≤_, _<_}
+use native.Mathlib.Nat.{eq-or-lt-of-le, eq-zero-or-pos, le-of-suc-le-suc}
+use native.Mathlib.Decide.{ℕ-discrete}
+use native.Mathlib.Omega.{arith}
+use lib.Arith.{digits-mod, le-zero}
+use Rattle.day.specs.Sums.{at, sumTo}
+use Rattle.theory.specs.Model.{Model, Rising, Unlimited, costTo, OptimalTo}
+use Rattle.theory.specs.Memo.{memo, memo-zero, memo-next, memo-all}
+use Rattle.theory.specs.Stages.{Solution, Answers}
+use Rattle.theory.specs.Recursion.{both?}
+use Rattle.theory.specs.Reachable.{high, Covered}
+use Rattle.theory.specs.Exchange.{Fractional, Regeneration, interval-one}
+use Rattle.theory.specs.Candidates.{Some, firstOf-ext}
+use Rattle.theory.specs.Regeneration.{Kinds, tail, sum-tail, candidate, row, Right, Fits, cover, row-right}
+
+-- nothing, a full load, or the part load, which comes on top of full loads
+abbrev pub Load : ℕ → ℕ → ℕ → ℕ → Type 0
+Load c part X x = (x ≡ 0) ⊎ ((x ≡ c) ⊎ ((x ≡ part) × (X % c ≡ part)))
+
+unfoldable pub either? : {A B : Type 0} → Dec A → Dec B → Dec (A ⊎ B)
+either? (yes a) d = yes (inl a)
+either? (no h) (yes b) = yes (inr b)
+either? (no h) (no g) = no (λ q. ⊎-elim h g q)
+
+unfoldable pub load? : (c part X x : ℕ) → Dec (Load c part X x)
+load? c part X x = either? (ℕ-discrete x 0) (either? (ℕ-discrete x c) (both? (ℕ-discrete x part) (ℕ-discrete (X % c) part)))
+
+abbrev pub loads : ℕ → ℕ → Kinds
+loads c part = record { Kind = λ k X x. Load c part X x; kind? = λ k X x. load? c part X x }
+
+abbrev pub Equal : Model → ℕ → ℕ → Type 0
+Equal M c n = (k : ℕ) → k < n → M .capacity k ≡ c
+
+-- the runs from l to m
+abbrev pub byLoads : Model → ℕ → ℕ → ℕ → Kinds
+byLoads M c l m = loads c ((M .floor m - M .floor l) % c)
+
+-- row m + 1 from the rows before it
+abbrev pub next : Model → ℕ → (ℕ → Option Solution) → ℕ → Option Solution
+next M c rows m = row M (byLoads M c) rows (suc m)
+
+abbrev base : Option Solution
+base = some (record { cost = 0; plan = [] })
+
+unfoldable pub florianKlein : Model → ℕ → ℕ → Option Solution
+florianKlein M c = memo base (next M c)
+
+-- what is 0 or c from a to b sums to a multiple of c
+multiple : (x : ℕ → ℕ) (c a b : ℕ)
+    → a ≤ b
+    → ((j : ℕ) → a ≤ j → j < b → (x j ≡ 0) ⊎ (x j ≡ c))
+    → (q : ℕ) × (sumTo x b ≡ sumTo x a + q * c)
+multiple x c a zero l h = (0, rw (le-zero l) (omega arith))
+multiple x c a (suc b) l h =
+    ⊎-elim
+    (λ (e : a ≡ suc b). (0, rw e (omega arith)))
+    (λ lt.
+    let r = multiple x c a b (le-of-suc-le-suc lt) (λ j p q. h j p (omega arith)) in
+    ⊎-elim
+    (λ (e : x b ≡ 0). (r .0, omega (arith, r .1)))
+    (λ (e : x b ≡ c). (suc (r .0), omega (arith, r .1)))
+    (h b (le-of-suc-le-suc lt) (omega arith)))
+    (eq-or-lt-of-le l)
+
+module _ (M : Model) (rising : Rising M) (unlimited : Unlimited M) (c m : ℕ) (caps : Equal M c m)
+    (x : ℕ → ℕ) (best : OptimalTo M m (M .floor m) x) (a : ℕ) (run : Regeneration M x a m) where
+  -- idle, full, or in part used
+  kind : (k : ℕ) → k < m → (x k ≡ 0) ⊎ ((x k ≡ c) ⊎ Fractional M m x k)
+  kind k l =
+      let e = caps k l in
+      ⊎-elim inl
+      (λ (some : 0 < x k).
+      ⊎-elim
+      (λ (f : x k ≡ M .capacity k). inr (inl (f ∙ e)))
+      (λ (room : x k < M .capacity k). inr (inr (record { inside = l; some = some; room = room })))
+      (eq-or-lt-of-le (best .feasible .within k l)))
+      (eq-zero-or-pos (x k))
+
+  others : (k : ℕ) → a ≤ k → k < m → Fractional M m x k → (j : ℕ) → a ≤ j → j < m → j ≢ k → (x j ≡ 0) ⊎ (x j ≡ c)
+  others k l h part j p q n =
+      ⊎-elim inl (λ r. ⊎-elim inr (λ t. absurd (n (interval-one M rising unlimited m x best a m run j k p q l h t part))) r) (kind j q)
+
+  abbrev W : ℕ
+  W = M .floor m - M .floor a
+
+  part-is : (k : ℕ) → a ≤ k → k < m → Fractional M m x k → (x k ≡ W % c) × ((sumTo x (suc k) - M .floor a) % c ≡ W % c)
+  part-is k l h part =
+      let p = multiple x c a k l (λ j u v. others k l h part j u (omega arith) (omega arith)) in
+      let q = multiple x c (suc k) m h (λ j u v. others k l h part j (omega arith) v (omega arith)) in
+      let less : x k < c = omega (arith, part .room, caps k h) in
+      let all : (p .0 + q .0) * c + x k ≡ W = omega (arith, p .1, q .1, run .empty, best .feasible .total) in
+      let so : p .0 * c + x k ≡ sumTo x (suc k) - M .floor a = omega (arith, p .1, run .empty) in
+      let e : x k ≡ W % c = sym (digits-mod (p .0 + q .0) less) ∙ ap (λ (v : ℕ). v % c) all in
+      (e, sym (ap (λ (v : ℕ). v % c) so) ∙ digits-mod (p .0) less ∙ e)
+
+  run-loads : (k : ℕ) → k < m - a → Load c (W % c) (sumTo (tail a x) (suc k)) (x (a + k))
+  run-loads k h =
+      let p : ℕ = a + k in
+      let s : sumTo (tail a x) (suc k) ≡ sumTo x (suc (a + k)) - M .floor a = omega (arith, sum-tail x a k, run .empty) in
+      ⊎-elim inl (λ r. inr (⊎-elim inl (λ t. let w = part-is (a + k) (omega arith) (omega arith) t in inr (w .0, rw s (w .1))) r)) (kind (a + k) (omega arith))
+
+module _ (M : Model) (rising : Rising M) (unlimited : Unlimited M) (c : ℕ) where
+  row-zero : Right M 0 base
+  row-zero =
+      record {
+        each = refl;
+        fits = record { total = omega (arith, rising .nought); within = λ k h. absurd (omega arith); served = λ k h. absurd (omega arith); under = λ k h. absurd (omega arith) };
+        tells = refl;
+        first = λ y r. record { cheap = omega arith; small = λ _ k h _. absurd (omega arith) };
+      }
+
+  pub florianKlein-cover : (m : ℕ) → Equal M c (suc m) → (o : Option Solution)
+      → Answers (Some (λ l. Fits M (byLoads M c l (suc m)) (suc m) l) (suc m)) (λ x. costTo M x (suc m)) (suc m) o → Right M (suc m) o
+  florianKlein-cover m caps = cover M rising unlimited (byLoads M c) (suc m) (omega arith) (λ x b l run k h. run-loads M rising unlimited c (suc m) caps x b l run k h)
+
+  -- What the step finds from right rows is right.
+  pub next-right : (m : ℕ) → Equal M c (suc m) → (rows : ℕ → Option Solution) → ((l : ℕ) → l ≤ m → Right M l (rows l)) → Right M (suc m) (next M c rows m)
+  next-right m caps rows right =
+      row-right M rising unlimited (byLoads M c) (suc m) (omega arith) rows (λ l h. right l (le-of-suc-le-suc h))
+      (λ x b l run k h. run-loads M rising unlimited c (suc m) caps x b l run k h)
+
+  -- Every row is right.
+  pub florianKlein-right : (n : ℕ) → Equal M c n → (m : ℕ) → m ≤ n → Right M m (florianKlein M c m)
+  unfolding florianKlein
+  florianKlein-right n caps = memo-all base (next M c) (Right M) n row-zero (λ m h rows right. next-right m (λ k l. caps k (omega arith)) rows right)
+
+  -- each row from those before it
+  pub florianKlein-zero : florianKlein M c 0 ≡ some (record { cost = 0; plan = [] })
+  unfolding florianKlein
+  florianKlein-zero = memo-zero base (next M c)
+
+  next-ext : (r s : ℕ → Option Solution) (m : ℕ) → ((l : ℕ) → l ≤ m → r l ≡ s l) → next M c r m ≡ next M c s m
+  next-ext r s m e =
+      firstOf-ext (suc m) (candidate M (byLoads M c) r (suc m)) (candidate M (byLoads M c) s (suc m)) (suc m) (λ l h. let q = e l (le-of-suc-le-suc h) in rw q refl)
+
+  pub florianKlein-next : (m : ℕ) → florianKlein M c (suc m) ≡ next M c (florianKlein M c) m
+  unfolding florianKlein
+  florianKlein-next = memo-next base (next M c) next-ext
+
+-- With no room, nothing is needed: then each row is the one before it and a 0 (`still-step`).
+pub no-room : (M : Model) (n : ℕ) → Equal M 0 n → Covered M n → (m : ℕ) → m ≤ n → M .floor m ≡ 0
+no-room M n caps enough m h = omega (arith, enough m h, none m h)
+  where
+    none : (j : ℕ) → j ≤ n → high M j ≡ 0
+    none zero g = refl
+    none (suc j) g = omega (arith, none j (omega arith), caps j g)

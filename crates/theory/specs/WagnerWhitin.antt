@@ -1,0 +1,185 @@
+-- The uncapped path: a row for each m, found from the rows before it. Row m is the plan of (m, N m), with its cost.
+-- Assumes nothing.
+use mathlib.Core.Path.{_≡_, refl, sym, ap, _∙_}
+use mathlib.Core.List.{List, [], _∷_, _++_}
+use Prim.Native.Nat.{ℕ, zero, suc, _+_, _-_, _≤_, _<_}
+use native.Mathlib.Decide.{ℕ-discrete}
+use native.Mathlib.Omega.{arith}
+use lib.ListN.{length, length-append, replicate, length-replicate, getD-replicate, List·getD-append}
+use lib.Seq.{getD-at, getD-append-add}
+use Rattle.day.specs.Sums.{at}
+use Rattle.theory.specs.Model.{Model, Rising, Unlimited, production, OptimalTo}
+use Rattle.theory.specs.Basics.{pick, upTo, upTo-zero}
+use Rattle.theory.specs.Cheapest.{cheapest, Cheapest, cheapest-right, cheapest-unique, cheapest-ext}
+use Rattle.theory.specs.Memo.{memo, memo-zero, memo-next, memo-all}
+use Rattle.theory.specs.Stages.{Solution}
+use Rattle.theory.specs.Recursion.{PlanOf, leads-optimal}
+use Rattle.theory.specs.Uncapped.{Uncapped, uncapped-less, Through, rest, price, through-cost, copy-step, run-step}
+
+-- where the store is last empty before m + 1
+abbrev pub from : Model → (ℕ → ℕ) → ℕ → ℕ
+from M costs m = pick (ℕ-discrete (M .floor (suc m)) (M .floor m)) m (cheapest (price M costs (suc m)) m)
+
+-- the amounts of a run from l to m + 1, all made in period l
+abbrev pub lot : Model → ℕ → ℕ → List ℕ
+lot M m l = (M .floor (suc m) - M .floor l) ∷ replicate (m - l) 0
+
+abbrev pub through : Model → ℕ → ℕ → Solution → Solution
+through M m l f = record {
+  cost = f .cost + production M l (M .floor (suc m) - M .floor l) + rest M (suc m) l;
+  plan = f .plan ++ lot M m l;
+}
+
+abbrev pub next : Model → (ℕ → Solution) → ℕ → Solution
+next M rows m = through M m (from M (λ l. rows l .cost) m) (rows (from M (λ l. rows l .cost) m))
+
+abbrev none : Solution
+none = record { cost = 0; plan = [] }
+
+unfoldable pub wagnerWhitin : Model → ℕ → Solution
+wagnerWhitin M = memo none (next M)
+
+from-le : (M : Model) (costs : ℕ → ℕ) (m : ℕ) → from M costs m ≤ m
+from-le M costs m = go (ℕ-discrete (M .floor (suc m)) (M .floor m))
+  where
+    go : {A : Type 0} (d : Dec A) → pick d m (cheapest (price M costs (suc m)) m) ≤ m
+    go (yes _) = omega arith
+    go (no _) = cheapest-right (price M costs (suc m)) m .inside
+
+through-same : (M : Model) (m a b : ℕ) (f g : Solution) → a ≡ b → f ≡ g → through M m a f ≡ through M m b g
+through-same M m a b f g p q = ap (λ (v : ℕ). through M m v f) p ∙ ap (λ (v : Solution). through M m b v) q
+
+from-ext : (M : Model) (r s : ℕ → ℕ) (m : ℕ) → ((l : ℕ) → l ≤ m → r l ≡ s l) → from M r m ≡ from M s m
+from-ext M r s m e =
+    ap (λ (v : ℕ). pick (ℕ-discrete (M .floor (suc m)) (M .floor m)) m v)
+    (cheapest-ext (price M r (suc m)) (price M s (suc m)) m (λ j h. omega (arith, e j h)))
+
+next-ext : (M : Model) (r s : ℕ → Solution) (m : ℕ) → ((l : ℕ) → l ≤ m → r l ≡ s l) → next M r m ≡ next M s m
+next-ext M r s m e = through-same M m a b (r a) (s b) same (e a (from-le M (λ l. r l .cost) m) ∙ ap s same)
+  where
+    a : ℕ
+    a = from M (λ l. r l .cost) m
+
+    b : ℕ
+    b = from M (λ l. s l .cost) m
+
+    same : a ≡ b
+    same = from-ext M (λ l. r l .cost) (λ l. s l .cost) m (λ l h. ap (λ (f : Solution). f .cost) (e l h))
+
+module _ (M : Model) where
+  pub wagnerWhitin-zero : wagnerWhitin M 0 ≡ record { cost = 0; plan = [] }
+  unfolding wagnerWhitin
+  wagnerWhitin-zero = memo-zero none (next M)
+
+  -- each row from those before it
+  pub wagnerWhitin-next : (m : ℕ) → wagnerWhitin M (suc m) ≡ next M (wagnerWhitin M) m
+  unfolding wagnerWhitin
+  wagnerWhitin-next = memo-next none (next M) (next-ext M)
+
+  through-list : (l m : ℕ) (p : List ℕ) → length p ≡ l → l ≤ m
+      → Through M l (suc m) (at p) (at (p ++ lot M m l))
+  through-list l m p e h =
+      record {
+        low = λ k a. List·getD-append p _ 0 k (omega arith);
+        here = getD-at p _ _ 0 l e;
+        idle = λ k a b. zeros k a b;
+      }
+    where
+      zeros : (k : ℕ) → l < k → k < suc m → at (p ++ lot M m l) k ≡ 0
+      zeros k a b =
+          let q : k ≡ length p + suc (k - suc l) = omega arith in
+          rw q (getD-append-add p _ (suc (k - suc l)) 0 ∙ getD-replicate (m - l) (k - suc l) 0 0 (omega arith))
+
+  -- row m is the plan of (m, N m), with its cost
+  abbrev pub Row : ℕ → Solution → Type 0
+  Row m f = PlanOf M m (M .floor m) f
+
+  module _ (rising : Rising M) (unlimited : Unlimited M) where
+    row-zero : Row 0 (record { cost = 0; plan = [] })
+    row-zero =
+        record {
+          each = refl;
+          fits = record { total = omega (arith, rising .nought); within = λ k h. absurd (omega arith); served = λ k h. absurd (omega arith); under = λ k h. absurd (omega arith) };
+          tells = refl;
+          first = λ y r. record { cheap = omega arith; small = λ _ k h _. absurd (omega arith) };
+        }
+
+    -- What the step finds from right rows is right.
+    pub next-right : (m : ℕ) → Uncapped M (suc m) → (rows : ℕ → Solution) → ((l : ℕ) → l ≤ m → Row l (rows l)) → Row (suc m) (next M rows m)
+    next-right m room rows right = go (ℕ-discrete (M .floor (suc m)) (M .floor m))
+      where
+        costs : ℕ → ℕ
+        costs l = rows l .cost
+
+        row : (l : ℕ) → l ≤ m → OptimalTo M (suc m) (M .floor (suc m)) (at (rows l .plan ++ lot M m l)) → Row (suc m) (through M m l (rows l))
+        row l h b =
+            record {
+              each = length-append (rows l .plan) (lot M m l) ∙ omega (arith, right l h .each, length-replicate {A = ℕ} (m - l) 0);
+              fits = b .feasible;
+              tells = sym (through-cost M rising unlimited l (suc m) (omega arith) (at (rows l .plan)) (at (rows l .plan ++ lot M m l)) (right l h .fits .total)
+                  (through-list l m (rows l .plan) (right l h .each) h) costs (right l h .tells));
+              first = b .first;
+            }
+
+        best : (l : ℕ) (h : l ≤ m) → OptimalTo M l (M .floor l) (at (rows l .plan))
+        best l h = leads-optimal M l (M .floor l) (rows l) (right l h)
+
+        go : (d : Dec (M .floor (suc m) ≡ M .floor m)) → Row (suc m) (through M m (pick d m (cheapest (price M costs (suc m)) m)) (rows (pick d m (cheapest (price M costs (suc m)) m))))
+        go (yes e) =
+            row m (omega arith)
+            (copy-step M rising unlimited m e (at (rows m .plan)) (at (rows m .plan ++ lot M m m)) (best m (omega arith)) (through-list m m (rows m .plan) (right m (omega arith) .each) (omega arith)))
+        go (no e) =
+            let c = cheapest-right (price M costs (suc m)) m in
+            let l = cheapest (price M costs (suc m)) m in
+            row l (c .inside)
+            (run-step M rising unlimited m room (omega (arith, rising .rises m)) (λ j. at (rows j .plan)) costs best (λ j h. right j h .tells) l (c .inside) (c .least) (c .first)
+            (at (rows l .plan ++ lot M m l)) (through-list l m (rows l .plan) (right l (c .inside) .each) (c .inside)))
+
+    -- Every row is right.
+    pub wagnerWhitin-right : (n : ℕ) → Uncapped M n → (m : ℕ) → m ≤ n → Row m (wagnerWhitin M m)
+    unfolding wagnerWhitin
+    wagnerWhitin-right n room = memo-all none (next M) Row n row-zero (λ m h rows right. next-right m (uncapped-less M rising (suc m) n h room) rows right)
+
+-- costs and places kept in tables are right for row m + 1, given the costs before it
+pub record Chosen (M : Model) (costs froms : ℕ → ℕ) (m : ℕ) : Type 0 where
+  pub still : M .floor (suc m) ≡ M .floor m → froms (suc m) ≡ m
+  pub moves : M .floor m < M .floor (suc m) → Cheapest (price M costs (suc m)) m (froms (suc m))
+  pub tells : costs (suc m) ≡ price M costs (suc m) (froms (suc m))
+
+module _ (M : Model) (rising : Rising M) (costs froms : ℕ → ℕ) (zeroth : costs 0 ≡ 0) where
+  chosen-from : (m : ℕ) → Chosen M costs froms m → froms (suc m) ≡ from M costs m
+  chosen-from m c = go (ℕ-discrete (M .floor (suc m)) (M .floor m))
+    where
+      go : (d : Dec (M .floor (suc m) ≡ M .floor m)) → froms (suc m) ≡ pick d m (cheapest (price M costs (suc m)) m)
+      go (yes e) = c .still e
+      go (no h) =
+          cheapest-unique (price M costs (suc m)) m (froms (suc m)) (cheapest (price M costs (suc m)) m) (c .moves (omega (arith, rising .rises m)))
+          (cheapest-right (price M costs (suc m)) m)
+
+  abbrev wcost : ℕ → ℕ
+  wcost l = wagnerWhitin M l .cost
+
+  module _ (m : ℕ) (c : Chosen M costs froms m) (before : (l : ℕ) → l ≤ m → wcost l ≡ costs l) where
+    place : from M wcost m ≡ froms (suc m)
+    place = from-ext M wcost costs m before ∙ sym (chosen-from m c)
+
+    pub chosen-le : froms (suc m) ≤ m
+    chosen-le = omega (arith, place, from-le M wcost m)
+
+    chosen-cost : wcost (suc m) ≡ costs (suc m)
+    chosen-cost =
+        ap (λ (f : Solution). f .cost) (wagnerWhitin-next M m)
+        ∙ ap (price M wcost (suc m)) place
+        ∙ ap (λ (v : ℕ). v + production M (froms (suc m)) (M .floor (suc m) - M .floor (froms (suc m))) + rest M (suc m) (froms (suc m))) (before (froms (suc m)) chosen-le)
+        ∙ sym (c .tells)
+
+    -- the plan is read back: row m + 1 is the row of its place, and a burst
+    pub chosen-plan : wagnerWhitin M (suc m) .plan ≡ wagnerWhitin M (froms (suc m)) .plan ++ lot M m (froms (suc m))
+    chosen-plan = ap (λ (f : Solution). f .plan) (wagnerWhitin-next M m) ∙ ap (λ (v : ℕ). wagnerWhitin M v .plan ++ lot M m v) place
+
+  -- Where the tables are right, they hold the costs of the rows.
+  pub chosen-costs : (n : ℕ) → ((m : ℕ) → m < n → Chosen M costs froms m) → (l : ℕ) → l ≤ n → wagnerWhitin M l .cost ≡ costs l
+  chosen-costs zero c = upTo-zero (λ (l : ℕ). wcost l ≡ costs l) (ap (λ (f : Solution). f .cost) (wagnerWhitin-zero M) ∙ sym zeroth)
+  chosen-costs (suc n) c =
+      let before = chosen-costs n (λ m h. c m (omega arith)) in
+      upTo (λ (l : ℕ). wcost l ≡ costs l) n before (chosen-cost n (c n (omega arith)) before)

@@ -1,0 +1,1 @@
+//! The theory behind the planner, over one model; all of it is in specs/.
