@@ -11,12 +11,27 @@ use mathlib.Core.Logic.{⊎-elim}
 use lib.Arith.{le-zero}
 use lib.Dec.{eqb, leb, ltb}
 use lib.ListN.{length}
-use borrow.Author.Tests.{eqb-true, leb-true, leb-false, ltb-false, lt-ltb, le-ltb, le-leb, eq-eqb, not-true, not-false}
+use borrow.Author.Tests.{eqb-false, eqb-true, leb-true, leb-false, ltb-false, lt-ltb, le-ltb, le-leb, eq-eqb, not-true, not-false}
 use Rattle.day.specs.Sums.{at}
 use Rattle.day.specs.Find.{find, find-none, find-here, none-found, some-found}
 use Rattle.day.specs.declared.Refusal.{Refusal}
-use Rattle.day.specs.Refusals.{refuse, first}
-use Rattle.day.specs.File.{periodKind, endKind, isKind, bodyLength, body, number2, next, recordAt, Layout, isPeriod, periodsIn, orZero, unknownKind, truncated, wrongEnd, walk}
+use Rattle.day.specs.declared.Refusal.the-variants.{NoSuchPeriod}
+use Rattle.day.specs.Refusals.{refuse, first, badCount}
+use Rattle.day.specs.File.{periodKind, endKind, isKind, bodyLength, body, number2, next, recordAt, Layout, isPeriod, periodsIn, orZero, unknownKind, truncated, wrongEnd, walk, noSuchPeriod}
+use Rattle.dayfile.specs.Answers.{badLookup}
+
+-- of tests that all passed: the first and the rest; the condition of one; both parts of an `||`
+first-none : (o : Option Refusal) (os : List (Option Refusal)) → first (o ∷ os) ≡ none → (o ≡ none) × (first os ≡ none)
+first-none none os e = (refl, e)
+first-none (some r) os e = let z : _≡_ {A = ℕ} 0 1 = cc in absurd (omega arith)
+
+refuse-none : (b : Bool) (r : Refusal) → refuse b r ≡ none → b ≡ false
+refuse-none false r e = refl
+refuse-none true r e = let z : _≡_ {A = ℕ} 0 1 = cc in absurd (omega arith)
+
+or-false : (a b : Bool) → (a || b) ≡ false → (a ≡ false) × (b ≡ false)
+or-false false b e = (refl, e)
+or-false true b e = let z : _≡_ {A = ℕ} 0 1 = cc in absurd (omega arith)
 
 -- a body of a known kind has 2 bytes at least
 pub kind-length : (kind : ℕ) → isKind kind ≡ true → 2 ≤ bodyLength kind
@@ -88,19 +103,6 @@ pub walked-end : (s : List ℕ) (n p : ℕ) → Walked s n p → isPeriod s p �
 walked-end s n p w f =
     rw (find-here (stops s) n (suc (length s)) (w .passed) (rw (← w .here, f) refl) (omega (arith, w .far, w .inside))) refl
 
--- a file whose walk meets no fault is laid out as document 01 says
-first-none : (o : Option Refusal) (os : List (Option Refusal)) → first (o ∷ os) ≡ none → (o ≡ none) × (first os ≡ none)
-first-none none os e = (refl, e)
-first-none (some r) os e = let z : _≡_ {A = ℕ} 0 1 = cc in absurd (omega arith)
-
-refuse-none : (b : Bool) (r : Refusal) → refuse b r ≡ none → b ≡ false
-refuse-none false r e = refl
-refuse-none true r e = let z : _≡_ {A = ℕ} 0 1 = cc in absurd (omega arith)
-
-or-false : (a b : Bool) → (a || b) ≡ false → (a ≡ false) × (b ≡ false)
-or-false false b e = (refl, e)
-or-false true b e = let z : _≡_ {A = ℕ} 0 1 = cc in absurd (omega arith)
-
 -- a record of a known kind that is no whole period, and to whose end the file reaches, is an end record
 end-kind : (s : List ℕ) (p : ℕ) → isPeriod s p ≡ false → next s p ≤ length s → (ltb p (length s) && not (isKind (at s p))) ≡ false → at s p ≡ endKind
 end-kind s p f l e =
@@ -112,6 +114,7 @@ end-kind s p f l e =
     go false true q f e = eqb-true _ _ q
     go false false q f e = let z : _≡_ {A = ℕ} 0 1 = cc in absurd (omega arith)
 
+-- a file whose walk meets no fault is laid out as document 01 says
 pub laid-out : (s : List ℕ) → walk s ≡ none → Layout s (periodsIn s)
 laid-out s e =
     let n = periodsIn s in
@@ -157,3 +160,13 @@ walk-clean s n w =
     let size : length s ≡ next s p = w .size in
     rw (counted s n w, le-ltb (length s) (next s p) (omega arith), eq-eqb (length s) (next s p) size, eq-eqb (number2 (body s p) 0) n (w .count), lt-ltb p (length s) (omega arith), w .ends)
     refl
+
+-- a lookup that is not refused asks for one of the file's periods
+pub lookup-passed : (s : List ℕ) (i : ℕ) → badLookup s i ≡ none → (1 ≤ i) × (i ≤ periodsIn s)
+lookup-passed s i e =
+    let n = periodsIn s in
+    let count = first-none (walk s) (badCount n ∷ noSuchPeriod n i ∷ []) e .1 in
+    let named = first-none (badCount n) (noSuchPeriod n i ∷ []) count .1 in
+    let t = or-false (eqb i 0) (ltb n i) (refuse-none _ NoSuchPeriod (first-none (noSuchPeriod n i) [] named .0)) in
+    let nonzero = eqb-false i 0 (t .0) in
+    (omega arith, ltb-false n i (t .1))

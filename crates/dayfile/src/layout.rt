@@ -1,11 +1,14 @@
 // Records by kind and length, and the walk from the file's front to its end record.
 ghost use mathlib.Core.Path.{_≡_};
 ghost use mathlib.Core.Bool.{true};
+ghost use mathlib.Core.List.{[]};
 ghost use Prim.Native.Nat.{_+_, _≤_, _<_};
 ghost use lib.ListN.{length};
+ghost use Rattle.day.specs.Refusals.{first};
 ghost use Rattle.day.specs.File.{isKind, bodyLength, next, recordAt, number2, number4, isPeriod, periodsIn, badEnd, walk};
-ghost use Rattle.dayfile.specs.Answers.{Below, BodyAt, answered};
+ghost use Rattle.dayfile.specs.Answers.{Below, BodyAt, answered, badFile};
 use crate::ReadAnswer;
+use day::Check;
 use day::Refusal;
 
 const PERIOD: u8 = 1;
@@ -119,6 +122,19 @@ pub fn walk(file: &[u8]) -> ReadAnswer
         n += 1;
     }
     end_record(file, at, n)
+}
+
+// 10, 11, 12, then 1: what opens every call on a file.
+pub fn periods(file: &[u8]) -> ReadAnswer
+    ensures { λ r. ⌜ r ≡ answered (first (badFile (now (file .entry)) [])) (periodsIn (now (file .entry))) ⌝ }
+{
+    match walk(file) {
+        ReadAnswer::Refused(r) => ReadAnswer::Refused(r),
+        ReadAnswer::Periods(n) => match checks::count(n) {
+            Check::Refused(r) => ReadAnswer::Refused(r),
+            Check::Passed => ReadAnswer::Periods(n),
+        },
+    }
 }
 
 // Where the record of period `i` begins, counted from 0.

@@ -1,6 +1,7 @@
 //! The day file (document 01, "Day file"): its reader, the lookup of one record's body, its writer.
 //! What they do is said by `Reading`, `Lookup` and `Writing` in specs/; the layout itself is in the crate day's `File`.
 pub mod layout;
+pub mod lookup;
 
 use day::Refusal;
 
