@@ -1,12 +1,15 @@
 -- What the calls on day files answer. Assumes nothing.
 use mathlib.Core.Path.{_≡_, refl}
 use mathlib.Core.Option.{Option, none, some}
-use mathlib.Core.List.{List, [], _∷_}
-use Prim.Native.Nat.{ℕ, _+_, _-_, _<_}
+use mathlib.Core.List.{List, [], _∷_, _++_}
+use Prim.Native.Nat.{ℕ, _+_, _-_, _<_, min}
 use native.Mathlib.Omega.{arith}
+use lib.ListN.{length, drop}
 use denote.Ref.{RefT, now}
-use Rattle.day.specs.File.{body, recordAt, periodsIn, walk, noSuchPeriod}
-use Rattle.day.specs.Refusals.{first, badCount}
+use Rattle.day.specs.Sums.{listOf}
+use Rattle.day.specs.Day.{Day, dayOf}
+use Rattle.day.specs.File.{body, recordAt, number2, number4, periodsIn, walk, noSuchPeriod, field, dayIn}
+use Rattle.day.specs.Refusals.{first, badCount, badSlots, badValue}
 use Rattle.day.specs.declared.Refusal.{Refusal}
 use Rattle.dayfile.specs.declared.ReadAnswer.{ReadAnswer}
 use Rattle.dayfile.specs.declared.ReadAnswer.the-variants.{Refused, Periods}
@@ -51,3 +54,33 @@ Found (some refusal) file i r = now r ≡ []
 abbrev pub Lookup : RefT (List ℕ) → ℕ → RefT (List ℕ) → Type 0
 Lookup file i r = Found (badLookup (now file) i) file i r
 
+
+-- a table whose first k cells take f 0, .. f (k - 1), and whose later cells stay
+abbrev pub written : (ℕ → ℕ) → ℕ → List ℕ → List ℕ
+written f k l = listOf f k ++ drop k l
+
+-- tables whose first k cells take the numbers of the file's first k periods
+abbrev pub filledTo : List ℕ → ℕ → Day → Day
+filledTo s k tables =
+    dayOf
+    (written (field number2 0 s) k (tables .demand))
+    (written (field number2 2 s) k (tables .capacity))
+    (written (field number4 4 s) k (tables .setup))
+    (written (field number4 8 s) k (tables .unit))
+    (written (field number4 12 s) k (tables .holding))
+
+abbrev pub filled : List ℕ → Day → Day
+filled s tables = filledTo s (periodsIn s) tables
+
+-- a reading: these, 6, 3
+abbrev pub shortest : Day → ℕ
+shortest tables =
+    min (length (tables .demand)) (min (length (tables .capacity)) (min (length (tables .setup)) (min (length (tables .unit)) (length (tables .holding)))))
+
+abbrev pub badRead : List ℕ → ℕ → Option Refusal
+badRead s cells = first (badFile s (badSlots cells (periodsIn s) ∷ badValue (dayIn s) ∷ []))
+
+-- refused, no cell changes; accepted, the count of periods is given and their numbers fill the tables' first cells
+abbrev pub Reading : List ℕ → Day → ReadAnswer → Day → Type 0
+Reading s before (Refused r) after = (badRead s (shortest before) ≡ some r) × (after ≡ before)
+Reading s before (Periods n) after = (badRead s (shortest before) ≡ none) × (n ≡ periodsIn s) × (after ≡ filled s before)

@@ -1,16 +1,16 @@
 -- Laws of the layout: what a passed test says of a record, and where the walk over the period records ends.
 -- Main statements: `period-at` and `end-found`, of the records that `periodsIn` counts and of the one after them. Assumes nothing.
-use mathlib.Core.Path.{_≡_, refl}
+use mathlib.Core.Path.{_≡_, refl, _∙_}
 use mathlib.Core.Bool.{Bool, true, false, not, _&&_, _||_, cond}
 use mathlib.Core.List.{List, [], _∷_}
 use mathlib.Core.Option.{Option, none, some}
-use Prim.Native.Nat.{ℕ, zero, suc, _+_, _≤_, _<_}
+use Prim.Native.Nat.{ℕ, zero, suc, _+_, _-_, _≤_, _<_}
 use native.Mathlib.Omega.{arith}
-use native.Mathlib.Nat.{eq-or-lt-of-le, le-of-suc-le-suc}
+use native.Mathlib.Nat.{eq-or-lt-of-le, le-of-suc-le-suc, add-sub-cancel-left}
 use mathlib.Core.Logic.{⊎-elim}
 use lib.Arith.{le-zero}
 use lib.Dec.{eqb, leb, ltb}
-use lib.ListN.{length}
+use lib.ListN.{length, take, drop, length-take, length-drop}
 use borrow.Author.Tests.{eqb-false, eqb-true, leb-true, leb-false, ltb-false, lt-ltb, le-ltb, le-leb, eq-eqb, not-true, not-false}
 use Rattle.day.specs.Sums.{at}
 use Rattle.day.specs.Find.{find, find-none, find-here, none-found, some-found}
@@ -43,16 +43,27 @@ kind-length kind = go (eqb kind periodKind) (eqb kind endKind)
     go false false e = let z : _≡_ {A = ℕ} 0 1 = cc in absurd (omega arith)
 
 -- a whole period record: its kind, and that the file reaches to its end
-pub record Period (s : List ℕ) (p : ℕ) : Type 0 where
+pub record WholePeriod (s : List ℕ) (p : ℕ) : Type 0 where
   pub kind : at s p ≡ periodKind
   pub whole : next s p ≤ length s
 
-pub period : (s : List ℕ) (p : ℕ) → isPeriod s p ≡ true → Period s p
+pub period : (s : List ℕ) (p : ℕ) → isPeriod s p ≡ true → WholePeriod s p
 period s p e = go (eqb (at s p) periodKind) refl e
   where
-    go : (b : Bool) → eqb (at s p) periodKind ≡ b → (b && leb (next s p) (length s)) ≡ true → Period s p
+    go : (b : Bool) → eqb (at s p) periodKind ≡ b → (b && leb (next s p) (length s)) ≡ true → WholePeriod s p
     go true q w = record { kind = eqb-true _ _ q; whole = leb-true _ _ w }
     go false q w = let z : _≡_ {A = ℕ} 0 1 = cc in absurd (omega arith)
+
+-- a body is what stands from the byte after the kind to the next record
+pub body-part : (s : List ℕ) (p : ℕ) {end : ℕ} → end ≡ next s p → take (end - (p + 1)) (drop (p + 1) s) ≡ body s p
+body-part s p e = rw (e, add-sub-cancel-left) refl
+
+-- a whole body is as long as its kind says
+pub body-length : (s : List ℕ) (p : ℕ) → next s p ≤ length s → length (body s p) ≡ bodyLength (at s p)
+body-length s p l = simp (length-take, length-drop) (omega arith)
+
+pub period-body : (s : List ℕ) (p : ℕ) → WholePeriod s p → length (body s p) ≡ 16
+period-body s p w = body-length s p (w .whole) ∙ rw (w .kind) refl
 
 -- record i is no whole period
 abbrev stops : List ℕ → ℕ → Bool
@@ -64,10 +75,10 @@ record-far s zero = omega arith
 record-far s (suc i) = omega (arith, record-far s i)
 
 -- the records that are counted are whole periods
-pub period-at : (s : List ℕ) (i : ℕ) → i < periodsIn s → Period s (recordAt s i)
+pub period-at : (s : List ℕ) (i : ℕ) → i < periodsIn s → WholePeriod s (recordAt s i)
 period-at s i = go (find (stops s) (suc (length s))) refl
   where
-    go : (o : Option ℕ) → find (stops s) (suc (length s)) ≡ o → i < orZero o → Period s (recordAt s i)
+    go : (o : Option ℕ) → find (stops s) (suc (length s)) ≡ o → i < orZero o → WholePeriod s (recordAt s i)
     go none e l = absurd (omega arith)
     go (some k) e l = period s (recordAt s i) (not-false _ (some-found (stops s) (suc (length s)) k e .first i l))
 

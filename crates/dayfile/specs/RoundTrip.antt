@@ -12,7 +12,7 @@ use lib.Seq.{take-add, take-all, take-at, drop-cons, drop-drop, drop-append-add,
 use Rattle.day.specs.Sums.{at, listOf, at-listOf}
 use Rattle.day.specs.Day.{Day, periods}
 use Rattle.checks.specs.Passed.{SameLengths}
-use Rattle.dayfile.specs.Layout.{Period, period-at, counted}
+use Rattle.dayfile.specs.Layout.{WholePeriod, period-at, body-length, period-body, counted}
 use Rattle.day.specs.File.{periodKind, endKind, bodyLength, body, next, recordAt, number2, number4, Layout, field, dayIn, bytes2, bytes4, recordOf, recordsOf, fileOf, periodsIn}
 
 -- every entry is a byte
@@ -49,14 +49,10 @@ upto4 b h p l =
     let e : p + 4 ≡ p + 2 + 2 = omega arith in
     rw (a, z, e, upto2 b h (p + 2) (omega arith), upto2 b h p (omega arith), append-assoc) refl
 
--- a whole body is as long as its kind says
-body-length : (s : List ℕ) (p : ℕ) → next s p ≤ length s → length (body s p) ≡ bodyLength (at s p)
-body-length s p l = simp (length-take, length-drop) (omega arith)
-
 -- a whole period record is made of the numbers that its body holds
-record-bytes : (s : List ℕ) → Bytes s → (p : ℕ) → Period s p
+record-bytes : (s : List ℕ) → Bytes s → (p : ℕ) → WholePeriod s p
     → at s p ∷ body s p ≡ recordOf (number2 (body s p) 0) (number2 (body s p) 2) (number4 (body s p) 4) (number4 (body s p) 8) (number4 (body s p) 12)
-record-bytes s h p w = go (body s p) (bytes-body s h p) (body-length s p (w .whole) ∙ rw (w .kind) refl)
+record-bytes s h p w = go (body s p) (bytes-body s h p) (period-body s p w)
   where
     go : (b : List ℕ) → Bytes b → length b ≡ 16 → at s p ∷ b ≡ recordOf (number2 b 0) (number2 b 2) (number4 b 4) (number4 b 8) (number4 b 12)
     go b h e =

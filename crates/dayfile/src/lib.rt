@@ -2,6 +2,7 @@
 //! What they do is said by `Reading`, `Lookup` and `Writing` in specs/; the layout itself is in the crate day's `File`.
 pub mod layout;
 pub mod lookup;
+pub mod reader;
 
 use day::Refusal;
 
@@ -9,4 +10,13 @@ use day::Refusal;
 pub enum ReadAnswer {
     Refused(Refusal),
     Periods(usize),
+}
+
+// The numbers of one period.
+pub struct Period {
+    pub demand: u16,
+    pub capacity: u16,
+    pub setup: u32,
+    pub unit: u32,
+    pub holding: u32,
 }

@@ -7,7 +7,7 @@ use native.Mathlib.Numerals.{add-one}
 use borrow.Author.Needs.{needs}
 use denote.Ref.{now}
 use lib.ListN.{length}
-use Rattle.dayfile.specs.Layout.{Period, Walked, walked-none, walked-more, walked-end, period}
+use Rattle.dayfile.specs.Layout.{WholePeriod, Walked, walked-none, walked-more, walked-end, period}
 use Rattle.dayfile.proofs.layout.walk.Statement.{statement}
 use Rattle.dayfile.proofs.layout.walk.Tie as tie
 
@@ -24,7 +24,7 @@ is-period-requires : tie.Need-is-period-requires Inv-loop μ-loop
 is-period-requires c κs = search needs
 
 -- in a turn a whole period stands here
-turn : (c : tie.Then1 Inv-loop μ-loop) → Period (now (c .before .before .before .before .args .file)) (c .before .before .loop .at)
+turn : (c : tie.Then1 Inv-loop μ-loop) → WholePeriod (now (c .before .before .before .before .args .file)) (c .before .before .loop .at)
 turn c = period _ _ (sym (c .before .is-period .ensures) ∙ c .if1 .taken)
 
 next-requires : tie.Need-next-requires Inv-loop μ-loop
