@@ -54,7 +54,6 @@ Found (some refusal) file i r = now r ≡ []
 abbrev pub Lookup : RefT (List ℕ) → ℕ → RefT (List ℕ) → Type 0
 Lookup file i r = Found (badLookup (now file) i) file i r
 
-
 -- a table whose first k cells take f 0, .. f (k - 1), and whose later cells stay
 abbrev pub written : (ℕ → ℕ) → ℕ → List ℕ → List ℕ
 written f k l = listOf f k ++ drop k l

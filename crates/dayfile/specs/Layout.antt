@@ -12,13 +12,15 @@ use lib.Arith.{le-zero}
 use lib.Dec.{eqb, leb, ltb}
 use lib.ListN.{length, take, drop, length-take, length-drop}
 use borrow.Author.Tests.{eqb-false, eqb-true, leb-true, leb-false, ltb-false, lt-ltb, le-ltb, le-leb, eq-eqb, not-true, not-false}
+use Rattle.day.specs.Day.{Day, maxPeriods}
 use Rattle.day.specs.Sums.{at}
 use Rattle.day.specs.Find.{find, find-none, find-here, none-found, some-found}
 use Rattle.day.specs.declared.Refusal.{Refusal}
-use Rattle.day.specs.declared.Refusal.the-variants.{NoSuchPeriod}
-use Rattle.day.specs.Refusals.{refuse, first, badCount}
-use Rattle.day.specs.File.{periodKind, endKind, isKind, bodyLength, body, number2, next, recordAt, Layout, isPeriod, periodsIn, orZero, unknownKind, truncated, wrongEnd, walk, noSuchPeriod}
-use Rattle.dayfile.specs.Answers.{badLookup}
+use Rattle.day.specs.declared.Refusal.the-variants.{PeriodCount, FewSlots, NoSuchPeriod}
+use Rattle.day.specs.Refusals.{refuse, first, badCount, badSlots, badValue}
+use Rattle.day.specs.File.{periodKind, endKind, isKind, bodyLength, body, number2, next, recordAt, Layout, isPeriod, periodsIn, orZero, unknownKind, truncated, wrongEnd, walk, noSuchPeriod, dayIn}
+use Rattle.dayfile.specs.Answers.{badFile, badLookup, badRead, shortest}
+use Rattle.dayfile.specs.Tables.{Cells}
 
 -- of tests that all passed: the first and the rest; the condition of one; both parts of an `||`
 first-none : (o : Option Refusal) (os : List (Option Refusal)) → first (o ∷ os) ≡ none → (o ≡ none) × (first os ≡ none)
@@ -172,6 +174,13 @@ walk-clean s n w =
     rw (counted s n w, le-ltb (length s) (next s p) (omega arith), eq-eqb (length s) (next s p) size, eq-eqb (number2 (body s p) 0) n (w .count), lt-ltb p (length s) (omega arith), w .ends)
     refl
 
+-- a file whose tests passed has at most 96 periods
+pub file-passed : (s : List ℕ) (rest : List (Option Refusal)) → first (badFile s rest) ≡ none → periodsIn s ≤ maxPeriods
+file-passed s rest e =
+    let n = periodsIn s in
+    let count = first-none (badCount n) rest (first-none (walk s) (badCount n ∷ rest) e .1) .0 in
+    ltb-false maxPeriods n (or-false (eqb n 0) (ltb maxPeriods n) (refuse-none _ PeriodCount count) .1)
+
 -- a lookup that is not refused asks for one of the file's periods
 pub lookup-passed : (s : List ℕ) (i : ℕ) → badLookup s i ≡ none → (1 ≤ i) × (i ≤ periodsIn s)
 lookup-passed s i e =
@@ -181,3 +190,13 @@ lookup-passed s i e =
     let t = or-false (eqb i 0) (ltb n i) (refuse-none _ NoSuchPeriod (first-none (noSuchPeriod n i) [] named .0)) in
     let nonzero = eqb-false i 0 (t .0) in
     (omega arith, ltb-false n i (t .1))
+
+-- a reading that is not refused has tables with a cell for each period
+pub read-passed : (s : List ℕ) (tables : Day) → badRead s (shortest tables) ≡ none → Cells (periodsIn s) tables
+read-passed s tables e =
+    let n = periodsIn s in
+    let rest = badSlots (shortest tables) n ∷ badValue (dayIn s) ∷ [] in
+    let count = first-none (walk s) (badCount n ∷ rest) e .1 in
+    let room = first-none (badCount n) rest count .1 in
+    let l = ltb-false (shortest tables) n (refuse-none _ FewSlots (first-none (badSlots (shortest tables) n) (badValue (dayIn s) ∷ []) room .0)) in
+    record { demand = omega arith; capacity = omega arith; setup = omega arith; unit = omega arith; holding = omega arith }

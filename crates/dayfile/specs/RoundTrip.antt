@@ -12,6 +12,7 @@ use lib.Seq.{take-add, take-all, take-at, drop-cons, drop-drop, drop-append-add,
 use Rattle.day.specs.Sums.{at, listOf, at-listOf}
 use Rattle.day.specs.Day.{Day, periods}
 use Rattle.checks.specs.Passed.{SameLengths}
+use Rattle.dayfile.specs.Tables.{length-listOf, listOf-at}
 use Rattle.dayfile.specs.Layout.{WholePeriod, period-at, body-length, period-body, counted}
 use Rattle.day.specs.File.{periodKind, endKind, bodyLength, body, next, recordAt, number2, number4, Layout, field, dayIn, bytes2, bytes4, recordOf, recordsOf, fileOf, periodsIn}
 
@@ -67,10 +68,6 @@ prefix s h (suc k) l =
     let w = period-at s k l in
     cc
     (record-split s p (omega (arith, w .whole)), prefix s h k (omega arith), record-bytes s h p w, at-listOf (field number2 0 s) (periodsIn s) k l, at-listOf (field number2 2 s) (periodsIn s) k l, at-listOf (field number4 4 s) (periodsIn s) k l, at-listOf (field number4 8 s) (periodsIn s) k l, at-listOf (field number4 12 s) (periodsIn s) k l)
-
-length-listOf : (f : ℕ → ℕ) (n : ℕ) → length (listOf f n) ≡ n
-length-listOf f zero = refl
-length-listOf f (suc n) = ap suc (length-listOf (λ k. f (suc k)) n)
 
 -- a file that is laid out as document 01 says is the file of the day that it holds
 pub only-file : (s : List ℕ) → Bytes s → Layout s (periodsIn s) → s ≡ fileOf (dayIn s)
@@ -142,14 +139,6 @@ file-layout d =
       count = rw (here, body-here (recordsOf d n) endKind (bytes2 n)) (div-add-mod' n 256);
       size = rw (here, kind-here (recordsOf d n) endKind (bytes2 n), length-append) (omega arith);
     }
-
--- a table is listed by its entries
-listOf-at : (n : ℕ) (l : List ℕ) (f : ℕ → ℕ) → length l ≡ n → ((k : ℕ) → k < n → f k ≡ at l k) → listOf f n ≡ l
-listOf-at zero [] f e h = refl
-listOf-at zero (x ∷ l) f e h = absurd (omega arith)
-listOf-at (suc n) [] f e h = absurd (omega arith)
-listOf-at (suc n) (x ∷ l) f e h =
-    ap₂ _∷_ (h 0 (omega arith)) (listOf-at n l (λ k. f (suc k)) (omega arith) (λ k lt. h (suc k) (suc-le-suc lt)))
 
 -- four bytes hold their number
 bytes4-back : (v : ℕ) → number4 (bytes4 v) 0 ≡ v

@@ -8,7 +8,7 @@ use borrow.Author.Needs.{needs}
 use denote.Ref.{now}
 use Rattle.day.specs.Day.{Day, dayOf}
 use Rattle.dayfile.specs.Layout.{WholePeriod, period-at, body-part, period-body}
-use Rattle.dayfile.specs.Filling.{Cells, Filled, filled-turn}
+use Rattle.dayfile.specs.Tables.{Cells, Filled, filled-turn}
 use Rattle.dayfile.proofs.reader.fill.Statement.{statement}
 use Rattle.dayfile.proofs.reader.fill.Tie as tie
 

@@ -1,17 +1,41 @@
--- Laws of the tables as the reader fills them. Assumes nothing.
-use mathlib.Core.Path.{_≡_, refl, ap, _∙_}
+-- Laws of tables: listed by their entries, and filled by the reader, period by period. Assumes nothing.
+use mathlib.Core.Path.{_≡_, refl, ap, ap₂, _∙_}
 use mathlib.Core.List.{List, [], _∷_, _++_}
-use Prim.Native.Nat.{ℕ, zero, suc, _+_, _≤_, _<_}
+use Prim.Native.Nat.{ℕ, zero, suc, _+_, _-_, _≤_, _<_, suc-le-suc}
 use native.Mathlib.Nat.{le-of-suc-le-suc}
 use native.Mathlib.Numerals.{add-one}
 use native.Mathlib.Omega.{arith}
-use lib.ListN.{length, drop, set}
-use Rattle.day.specs.Sums.{listOf}
+use lib.ListN.{length, take, drop, set}
+use lib.Seq.{take-at}
+use Rattle.day.specs.Sums.{at, listOf}
 use Rattle.day.specs.Day.{Day, dayOf}
-use Rattle.day.specs.File.{recordAt, next, body, number2, number4, field}
+use Rattle.day.specs.File.{recordAt, next, body, number2, number4, periodsIn, field, dayIn}
+use Rattle.checks.specs.Passed.{SameLengths}
 use Rattle.dayfile.specs.declared.Period.{Period}
-use Rattle.dayfile.specs.Answers.{written, filledTo}
+use Rattle.dayfile.specs.Answers.{written, filledTo, filled}
 use Rattle.dayfile.specs.Fields.{fields}
+
+-- a table that is listed
+pub length-listOf : (f : ℕ → ℕ) (n : ℕ) → length (listOf f n) ≡ n
+length-listOf f zero = refl
+length-listOf f (suc n) = ap suc (length-listOf (λ k. f (suc k)) n)
+
+-- a table is listed by its entries
+pub listOf-at : (n : ℕ) (l : List ℕ) (f : ℕ → ℕ) → length l ≡ n → ((k : ℕ) → k < n → f k ≡ at l k) → listOf f n ≡ l
+listOf-at zero [] f e h = refl
+listOf-at zero (x ∷ l) f e h = absurd (omega arith)
+listOf-at (suc n) [] f e h = absurd (omega arith)
+listOf-at (suc n) (x ∷ l) f e h =
+    ap₂ _∷_ (h 0 (omega arith)) (listOf-at n l (λ k. f (suc k)) (omega arith) (λ k lt. h (suc k) (suc-le-suc lt)))
+
+-- the tables of a file's day are of one length
+pub day-lengths : (s : List ℕ) → SameLengths (dayIn s)
+day-lengths s = record {
+  capacity = simp length-listOf;
+  setup = simp length-listOf;
+  unit = simp length-listOf;
+  holding = simp length-listOf;
+}
 
 -- each table has at least n cells
 pub record Cells (n : ℕ) (tables : Day) : Type 0 where
@@ -60,6 +84,17 @@ filled-cells s k before after e w =
       unit = written-length _ k _ (w .unit);
       holding = written-length _ k _ (w .holding);
     })
+
+-- the first n cells of filled tables are the file's day
+written-front : (f : ℕ → ℕ) (n : ℕ) (l : List ℕ) → take (n - 0) (written f n l) ≡ listOf f n
+written-front f n l = take-at (listOf f n) (drop n l) (n - 0) (rw length-listOf (omega arith))
+
+abbrev pub firstOf : ℕ → Day → Day
+firstOf n tables =
+    dayOf (take (n - 0) (tables .demand)) (take (n - 0) (tables .capacity)) (take (n - 0) (tables .setup)) (take (n - 0) (tables .unit)) (take (n - 0) (tables .holding))
+
+pub filled-front : (s : List ℕ) (n : ℕ) (before after : Day) → n ≡ periodsIn s → after ≡ filled s before → firstOf n after ≡ dayIn s
+filled-front s n before after e w = rw (e, w) (simp written-front)
 
 -- one period more
 pub filled-more : (s : List ℕ) (k : ℕ) (before : Day) → Cells (suc k) before
