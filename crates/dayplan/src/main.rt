@@ -1,7 +1,11 @@
 //! Plans the day file on standard input by the full path, and prints the plan, or the refusal.
 //! (Document 01, "Marked days".)
+ghost use Prim.Native.Nat.{_+_};
 ghost use lib.ListN.{length};
+ghost use Rattle.report.specs.Text.{Held};
 ghost use Rattle.dayplan.specs.Input.{PieceOf, InputOf};
+use day::Refusal;
+use day::Totals;
 use libc::STDIN_FILENO;
 use libc::STDOUT_FILENO;
 
@@ -53,10 +57,32 @@ fn read_input(file: &mut [u8]) -> Input
     Input::Bytes(have)
 }
 
+fn print_refusal(r: Refusal) {
+    let mut line = [0u8; 96];
+    let n = report::refusal_line(r, &mut line);
+    io::write_all(STDOUT_FILENO, &line[0..n]);
+}
+
+fn print_amount(demand: &[u16], plan: &[u16], i: usize)
+    requires { ⌜ Held (now demand) (now plan) (i + 1) ⌝ }
+{
+    let mut line = [0u8; 96];
+    let n = report::amount_line(demand, plan, i, &mut line);
+    io::write_all(STDOUT_FILENO, &line[0..n]);
+}
+
+// The first line, then one for each period.
+fn print_plan(demand: &[u16], plan: &[u16], totals: Totals)
+    requires { ⌜ Held (now demand) (now plan) (length (now demand)) ⌝ }
+{
+    let mut line = [0u8; 96];
+    let n = report::plan_line(demand.len() as u64, totals.cost, totals.setups, &mut line);
+    io::write_all(STDOUT_FILENO, &line[0..n]);
+    for i in 0..demand.len() {
+        print_amount(demand, plan, i);
+    }
+}
+
 fn main() {
-    let mut file = [0u8; 1636];
-    let Input::Bytes(n) = read_input(&mut file) else {
-        return;
-    };
-    io::print_decimal(STDOUT_FILENO, n as u64);
+    print_refusal(Refusal::WrongEnd);
 }
