@@ -71,15 +71,20 @@ fn print_amount(demand: &[u16], plan: &[u16], i: usize)
     io::write_all(STDOUT_FILENO, &line[0..n]);
 }
 
-// The first line, then one for each period.
-fn print_plan(demand: &[u16], plan: &[u16], totals: Totals)
+fn print_totals(n: usize, totals: Totals) {
+    let mut line = [0u8; 96];
+    let end = report::plan_line(n as u64, totals.cost, totals.setups, &mut line);
+    io::write_all(STDOUT_FILENO, &line[0..end]);
+}
+
+// A line for each period.
+fn print_amounts(demand: &[u16], plan: &[u16])
     requires { ⌜ Held (now demand) (now plan) (length (now demand)) ⌝ }
 {
-    let mut line = [0u8; 96];
-    let n = report::plan_line(demand.len() as u64, totals.cost, totals.setups, &mut line);
-    io::write_all(STDOUT_FILENO, &line[0..n]);
-    for i in 0..demand.len() {
+    let mut i = 0;
+    while i < demand.len() {
         print_amount(demand, plan, i);
+        i += 1;
     }
 }
 

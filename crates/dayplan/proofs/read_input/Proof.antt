@@ -8,9 +8,6 @@ use borrow.Rule.Slice.PartMut.{midOf, mid-len}
 use Rattle.dayplan.specs.Input.{PieceOf}
 use Rattle.dayplan.proofs.read_input.Statement.{statement}
 use Rattle.dayplan.proofs.read_input.Tie as tie
-use Rattle.dayplan.proofs.read_input.Reads as reads
-use Rattle.dayplan.proofs.read_input.Lts as lts
-use Rattle.dayplan.proofs.read_piece.Reads as read-piece-reads
 
 abbrev Inv-loop : tie.InvT-loop
 Inv-loop file₀ have₀ file have = (have ≤ length file₀) × (length file ≡ length file₀)
@@ -18,51 +15,39 @@ Inv-loop file₀ have₀ file have = (have ≤ length file₀) × (length file �
 abbrev μ-loop : tie.MeasureT-loop
 μ-loop file₀ have₀ file have = length file₀ - have
 
--- src/main.rt:40:5
 loop-holds : tie.Need-loop-holds Inv-loop μ-loop
 loop-holds c = search needs
 
--- src/main.rt:41:26
 sub-read-piece : tie.Need-sub-read-piece Inv-loop μ-loop
 sub-read-piece c = search needs
 
--- src/main.rt:41:26
 part-read-piece-start : tie.Need-part-read-piece-start Inv-loop μ-loop
 part-read-piece-start c = search needs
 
--- src/main.rt:41:26
 part-read-piece-end : tie.Need-part-read-piece-end Inv-loop μ-loop
 part-read-piece-end c = search needs
 
--- src/main.rt:41:15
 read-piece-requires : tie.Need-read-piece-requires Inv-loop μ-loop
 read-piece-requires c κs = search needs
 
--- src/main.rt:43:17
 enum-told : tie.Need-enum-told Inv-loop μ-loop
 enum-told c = search needs
 
--- src/main.rt:43:17
 same-length : tie.Need-same-length Inv-loop μ-loop
 same-length c = search needs
 
--- src/main.rt:43:17
 returns : tie.Need-returns Inv-loop μ-loop
 returns c = search needs
 
--- src/main.rt:46:17
 enum-told-2 : tie.Need-enum-told-2 Inv-loop μ-loop
 enum-told-2 c = search needs
 
--- src/main.rt:46:17
 same-length-2 : tie.Need-same-length-2 Inv-loop μ-loop
 same-length-2 c = search needs
 
--- src/main.rt:46:17
 returns-2 : tie.Need-returns-2 Inv-loop μ-loop
 returns-2 c = search needs
 
--- src/main.rt:48:26
 enum-known-n : tie.Need-enum-known-n Inv-loop μ-loop
 enum-known-n c = search needs
 
@@ -78,23 +63,18 @@ piece c =
     (q .0, omega (arith, q .1, mid-len (at-loop .have) (length (at-loop .file)) (at-loop .file) (omega arith)))
 
 
--- src/main.rt:49:17
 add-have : tie.Need-add-have Inv-loop μ-loop
 add-have c = omega (arith, piece c)
 
--- src/main.rt:40:5
 loop-less : tie.Need-loop-less Inv-loop μ-loop
 loop-less c = omega (arith, piece c)
 
--- src/main.rt:40:5
 loop-again : tie.Need-loop-again Inv-loop μ-loop
 loop-again c = (omega (arith, piece c), search needs)
 
--- src/main.rt:36:1
 same-length-3 : tie.Need-same-length-3 Inv-loop μ-loop
 same-length-3 c = search needs
 
--- src/main.rt:36:1
 returns-3 : tie.Need-returns-3 Inv-loop μ-loop
 returns-3 c = search needs
 
