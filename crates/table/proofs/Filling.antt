@@ -10,12 +10,13 @@ use lib.ListN.{length, set, length-set}
 use lib.Seq.{getD-set-same}
 use Rattle.day.specs.Sums.{at, below}
 use Rattle.day.specs.Day.{Day, periods, demandTo, total}
-use Rattle.theory.specs.Reachable.{high, Covered}
+use Rattle.theory.specs.Reachable.{high}
 use Rattle.theory.specs.Full.{stageOf, costRow, costRow-zero, costRow-next, amount}
-use Rattle.theory.specs.Base.{modelOf, covered-iff}
+use Rattle.theory.specs.Base.{modelOf}
 use Rattle.rows.specs.declared.Stage.{Stage}
 use Rattle.rows.specs.Row.{rowAt, maxMaking, maxProduct, Ready, Stepped}
-use Rattle.rows.specs.Laws.{Reached, Limited, amount-ext, cost-ext, cost-small}
+use Rattle.rows.specs.Laws.{Limited, amount-ext, cost-ext, cost-small}
+use Rattle.table.specs.Right.{covered, under, reached, whole}
 use Rattle.table.specs.Table.{stageAt, Staged, Reachable, cellAt, Fillable, Filled}
 
 -- i rows are filled; the last of them begins at `from`
@@ -33,20 +34,10 @@ pub record Filling (d : Day) (T : ℕ) (costs choices : List ℕ) (from to base 
   pub choiceCells : periods d * (T + 1) ≤ length choices
 
 module _ {d : Day} {costs choices : List ℕ} {T : ℕ} (f : Fillable d costs choices T) where
-  covered : Covered (modelOf d) (periods d)
-  covered = covered-iff d .1 (f .supplied)
-
-  under : (i X : ℕ) → Reachable d i X → X ≤ T
-  under zero X h = omega (arith, h .high)
-  under (suc i) X h = omega (arith, h .high, f .is)
-
-  reached : (i X : ℕ) → i < periods d → Reachable d (suc i) X → Reached (stageOf (modelOf d) i) X
-  reached i X l h = record { some = covered i (omega arith); rises = omega (arith, h .low); near = omega (arith, h .high) }
-
   limited : (i X : ℕ) → i < periods d → Reachable d (suc i) X → Limited (stageOf (modelOf d) i) X
   limited i X l h =
       let w = f .limits .within i l in
-      record { setup = w .setup; unit = w .unit; holding = w .holding; total = omega (arith, under (suc i) X h, f .small) }
+      record { setup = w .setup; unit = w .unit; holding = w .holding; total = omega (arith, under f (suc i) X h, f .small) }
 
   -- a total of i periods costs at most i times what a period can
   row-small : (i X : ℕ) → i ≤ periods d → Reachable d i X → costRow (modelOf d) i X ≤ i * (maxMaking + maxProduct)
@@ -55,7 +46,7 @@ module _ {d : Day} {costs choices : List ℕ} {T : ℕ} (f : Fillable d costs ch
       omega (
         arith,
         costRow-next (modelOf d) i X,
-        cost-small (stageOf (modelOf d) i) X (reached i X l h) (costRow (modelOf d) i) (i * (maxMaking + maxProduct))
+        cost-small (stageOf (modelOf d) i) X (reached f i X l h) (costRow (modelOf d) i) (i * (maxMaking + maxProduct))
             (λ Y b. row-small i Y (omega arith) (record { low = b .0; high = b .1 })) (limited i X l h),
       )
 
@@ -85,17 +76,16 @@ module _ {d : Day} {costs choices : List ℕ} {T : ℕ} (f : Fillable d costs ch
     pub filling-all : periods d ≤ i → Filled d choices′ T (at costs′ (from + T))
     filling-all l =
         let e : i ≡ periods d = omega (arith, c .inside) in
-        let whole : Reachable d (periods d) T = record { low = omega (arith, f .is); high = omega (arith, f .is, covered (periods d) (omega arith)) } in
         record {
-          cost = (rw e at (c .row)) T whole ∙ ap (costRow (modelOf d) (periods d)) (f .is);
+          cost = (rw e at (c .row)) T (whole f) ∙ ap (costRow (modelOf d) (periods d)) (f .is);
           amounts = λ k X h. c .amounts k (omega arith) X;
         }
 
     module _ (l : i < periods d) where
       small : (low ≤ T) × (most ≤ T)
       small =
-          let m = covered i (omega arith) in
-          let u = under i (high (modelOf d) i) (record { low = m; high = omega arith }) in
+          let m = covered f i (omega arith) in
+          let u = under f i (high (modelOf d) i) (record { low = m; high = omega arith }) in
           (omega (arith, c .isLow), omega (arith, c .isHigh))
 
       pub filling-staged : Staged d i low most
@@ -125,7 +115,7 @@ module _ {d : Day} {costs choices : List ℕ} {T : ℕ} (f : Fillable d costs ch
                   setup = w .setup;
                   unit = w .unit;
                   holding = w .holding;
-                  some = covered i (omega arith);
+                  some = covered f i (omega arith);
                   rises = omega arith;
                   reached = omega arith;
                   total = omega (arith, f .is, f .small);
@@ -156,16 +146,16 @@ module _ {d : Day} {costs choices : List ℕ} {T : ℕ} (f : Fillable d costs ch
               apart = λ Y X a b q. c .apart X Y b a (sym q);
               row = λ X h.
                   t .cost X (h .low, h .high)
-                  ∙ (cost-ext (stageOf (modelOf d) i) X (reached i X l h) (rowAt costs′ from) (costRow (modelOf d) i) same
+                  ∙ (cost-ext (stageOf (modelOf d) i) X (reached f i X l h) (rowAt costs′ from) (costRow (modelOf d) i) same
                   ∙ sym (costRow-next (modelOf d) i X));
               amounts = below (λ (k : ℕ). (X : ℕ) → Reachable d (suc k) X → cellAt choices″ T k X ≡ amount (modelOf d) k X) i
                   (λ k g X h.
                   let n = suc-mul k (T + 1) in
                   let b = mul-le-mul-right (T + 1) g in
-                  t .kept (k * (T + 1) + X) (omega (arith, c .isBase, under (suc k) X h)) ∙ c .amounts k g X h)
+                  t .kept (k * (T + 1) + X) (omega (arith, c .isBase, under f (suc k) X h)) ∙ c .amounts k g X h)
                   (λ X h.
                   ap (λ (b : ℕ). at choices″ (b + X)) (sym (c .isBase))
-                  ∙ (t .amount X (h .low, h .high) ∙ amount-ext (stageOf (modelOf d) i) X (reached i X l h) (rowAt costs′ from) (costRow (modelOf d) i) same));
+                  ∙ (t .amount X (h .low, h .high) ∙ amount-ext (stageOf (modelOf d) i) X (reached f i X l h) (rowAt costs′ from) (costRow (modelOf d) i) same));
               costCells = omega (arith, c .costCells);
               choiceCells = omega (arith, c .choiceCells);
             })

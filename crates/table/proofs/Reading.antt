@@ -2,20 +2,17 @@
 -- Assumes nothing.
 use mathlib.Core.Path.{_≡_, refl, ap, _∙_}
 use mathlib.Core.List.{List, [], _∷_, _++_, append-assoc}
-use Prim.Native.Nat.{ℕ, zero, suc, _+_, _-_, _*_, _≤_, _<_}
+use Prim.Native.Nat.{ℕ, suc, _+_, _-_, _*_, _≤_, _<_}
 use native.Mathlib.Nat.{suc-mul, mul-le-mul-right}
 use native.Mathlib.Omega.{arith}
-use lib.ListN.{length, drop, set, length-append, length-set}
+use lib.ListN.{length, drop, set, length-set}
 use lib.Seq.{drop-cons, drop-set-lt, getD-set-same}
 use Rattle.day.specs.Sums.{at, sum-ext}
 use Rattle.day.specs.Plan.{setupAt, setups}
 use Rattle.theory.specs.Full.{back, snoc-spliced}
 use Rattle.rows.specs.Row.{Worth}
+use Rattle.table.specs.Right.{back-length}
 use Rattle.table.specs.Table.{cellAt, Traced, Readable, ReadBack}
-
-pub back-length : (ch : ℕ → ℕ → ℕ) (k X : ℕ) → length (back ch k X) ≡ k
-back-length ch zero X = refl
-back-length ch (suc k) X = length-append (back ch k (X - ch k X)) (ch k X ∷ []) ∙ omega (arith, back-length ch k (X - ch k X))
 
 setups-snoc : (k v : ℕ) (p : List ℕ) → length p ≡ k → setups (suc k) (at (p ++ (v ∷ []))) ≡ setups k (at p) + setupAt v
 setups-snoc k v p e =
