@@ -4,8 +4,10 @@ ghost use Prim.Native.Nat.{_+_};
 ghost use lib.ListN.{length};
 ghost use Rattle.report.specs.Text.{Held};
 ghost use Rattle.dayplan.specs.Input.{PieceOf, InputOf};
+use day::Answer;
 use day::Refusal;
 use day::Totals;
+use dayfile::ReadAnswer;
 use libc::STDIN_FILENO;
 use libc::STDOUT_FILENO;
 
@@ -88,6 +90,65 @@ fn print_amounts(demand: &[u16], plan: &[u16])
     }
 }
 
+// Plans a day by the full path, with the areas of document 01, and prints the plan or the refusal.
+fn plan(demand: &[u16], capacity: &[u16], setup: &[u32], unit: &[u32], holding: &[u32]) {
+    let mut costs = [0u64; 1000];
+    let mut choices = [0u16; 24000];
+    let mut slots = [0u16; 96];
+    match full::plan(
+        demand,
+        capacity,
+        setup,
+        unit,
+        holding,
+        &mut costs,
+        &mut choices,
+        &mut slots,
+    ) {
+        Answer::Refused(r) => {
+            print_refusal(r);
+        }
+        Answer::Planned(totals) => {
+            print_totals(demand.len(), totals);
+            print_amounts(demand, &slots);
+        }
+    }
+}
+
+// Goes on only with an accepted file.
+fn plan_file(file: &[u8]) {
+    let mut demand = [0u16; 96];
+    let mut capacity = [0u16; 96];
+    let mut setup = [0u32; 96];
+    let mut unit = [0u32; 96];
+    let mut holding = [0u32; 96];
+    let answer = dayfile::reader::read(
+        file,
+        &mut demand,
+        &mut capacity,
+        &mut setup,
+        &mut unit,
+        &mut holding,
+    );
+    let ReadAnswer::Periods(n) = answer else {
+        if let ReadAnswer::Refused(r) = answer {
+            print_refusal(r);
+        }
+        return;
+    };
+    plan(&demand[0..n], &capacity[0..n], &setup[0..n], &unit[0..n], &holding[0..n]);
+}
+
+// A file of more than 1,635 bytes is refused 12 before any other test.
 fn main() {
-    print_refusal(Refusal::WrongEnd);
+    let mut file = [0u8; 1636];
+    let Input::Bytes(n) = read_input(&mut file) else {
+        os::fail(b"standard input");
+        return;
+    };
+    if 1635 < n {
+        print_refusal(Refusal::WrongEnd);
+        return;
+    }
+    plan_file(&file[0..n]);
 }
