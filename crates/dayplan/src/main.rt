@@ -136,7 +136,13 @@ fn plan_file(file: &[u8]) {
         }
         return;
     };
-    plan(&demand[0..n], &capacity[0..n], &setup[0..n], &unit[0..n], &holding[0..n]);
+    plan(
+        &demand[0..n],
+        &capacity[0..n],
+        &setup[0..n],
+        &unit[0..n],
+        &holding[0..n],
+    );
 }
 
 // A file of more than 1,635 bytes is refused 12 before any other test.

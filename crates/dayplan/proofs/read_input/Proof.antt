@@ -62,7 +62,6 @@ piece c =
     let q = subst (PieceOf (length (midOf (at-loop .have) (length (at-loop .file) - at-loop .have) (at-loop .file)))) (c .before .n .given .1) (c .before .before .before .before .before .read-piece .ensures) in
     (q .0, omega (arith, q .1, mid-len (at-loop .have) (length (at-loop .file)) (at-loop .file) (omega arith)))
 
-
 add-have : tie.Need-add-have Inv-loop μ-loop
 add-have c = omega (arith, piece c)
 
