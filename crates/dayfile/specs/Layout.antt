@@ -23,7 +23,7 @@ use Rattle.dayfile.specs.Answers.{badFile, badLookup, badRead, shortest}
 use Rattle.dayfile.specs.Tables.{Cells}
 
 -- of tests that all passed: the first and the rest; the condition of one; both parts of an `||`
-first-none : (o : Option Refusal) (os : List (Option Refusal)) → first (o ∷ os) ≡ none → (o ≡ none) × (first os ≡ none)
+pub first-none : (o : Option Refusal) (os : List (Option Refusal)) → first (o ∷ os) ≡ none → (o ≡ none) × (first os ≡ none)
 first-none none os e = (refl, e)
 first-none (some r) os e = let z : _≡_ {A = ℕ} 0 1 = cc in absurd (omega arith)
 

@@ -4,3 +4,4 @@ pub mod Fields
 pub mod Tables
 pub mod Layout
 pub mod RoundTrip
+pub mod Theorems
