@@ -5,22 +5,23 @@
 -- Assumes nothing.
 use mathlib.Core.Path.{_≡_, refl, sym, ap, _∙_}
 use mathlib.Core.List.{List, [], _∷_}
-use mathlib.Core.Option.{Option, none, some}
+use mathlib.Core.Option.{none}
 use Prim.Native.Nat.{ℕ, zero, suc, _+_, _-_, _*_, _≤_, _<_}
 use native.Mathlib.Omega.{arith}
 use borrow.Author.Tests.{le-ltb, eq-eqb}
 use denote.Ref.{RefT, now}
-use lib.ListN.{length, take, drop, List·getD-append}
+use lib.ListN.{length, drop, List·getD-append}
 use lib.Seq.{drop-at, getD-take, getD-drop}
 use Rattle.day.specs.Sums.{at, listOf, at-listOf}
 use Rattle.day.specs.Day.{Day, periods, maxPeriods}
-use Rattle.day.specs.Refusals.{first, badTables, badCount, badLengths, badValue, badSlots}
+use Rattle.day.specs.Refusals.{first, badCount, badLengths, badValue, badSlots}
 use Rattle.day.specs.File.{body, recordAt, number2, number4, Layout, periodsIn, walk, field, dayIn, fileOf}
 use Rattle.checks.specs.Passed.{SameLengths, tables-passed}
 use Rattle.dayfile.specs.declared.ReadAnswer.the-variants.{Periods}
 use Rattle.dayfile.specs.Answers.{BodyAt, badLookup, Lookup, badRead, shortest, written, Reading, badWrite}
+use Rattle.dayfile.specs.Passed.{first-none, lookup-passed, read-passed}
 use Rattle.dayfile.specs.Tables.{length-listOf, written-length, day-lengths}
-use Rattle.dayfile.specs.Layout.{first-none, period-at, period-body, laid-out, counted, walk-clean, lookup-passed, read-passed}
+use Rattle.dayfile.specs.Layout.{period-at, period-body, laid-out, counted, walk-clean}
 use Rattle.dayfile.specs.RoundTrip.{Bytes, only-file, file-layout, reads-back}
 
 -- one table after a reading: its first n cells hold the numbers of n bytes each at an offset of the bodies, the later cells what they held
