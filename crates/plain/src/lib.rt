@@ -1,7 +1,8 @@
 //! For the programs that try the paths: a plain search over all plans of a tiny day, made-up tiny days, and the comparison of
 //! a path's answer with the search's. A tiny day has one to four periods and a demand of at most 8 in all.
 ghost use mathlib.Core.Path.{_≡_};
-ghost use Prim.Native.Nat.{_+_, _*_, _/_, _%_, _^_, _≤_};
+ghost use Prim.Native.Nat.{_+_, _*_, _/_, _%_, _^_};
+ghost use Rattle.plain.specs.Sizes.{Sized};
 use day::Answer;
 use weigher::Verdict;
 use weigher::Weighed;
@@ -72,7 +73,7 @@ fn capacity_of(kind: Kind, drawn: u16, first: u16) -> u16 {
 }
 
 pub fn make_up(seed: u32, kind: Kind) -> Tiny
-    ensures { λ r. ⌜ r .n ≤ 4 ⌝ }
+    ensures { λ r. ⌜ Sized r ⌝ }
 {
     let mut demand = [0u16; 4];
     let mut capacity = [0u16; 4];

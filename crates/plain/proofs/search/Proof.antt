@@ -1,3 +1,4 @@
+-- `plain::search` is safe and ends. The measure is how many plans are left. Assumes nothing.
 use Prim.Native.Nat.{_-_, _≤_}
 use borrow.Author.Needs.{needs}
 use Rattle.plain.proofs.search.Statement.{statement}
