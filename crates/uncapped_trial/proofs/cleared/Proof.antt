@@ -1,17 +1,16 @@
--- `uncapped_trial::cleared` is safe and ends. Assumes nothing.
+-- `uncapped_trial::cleared` is safe and ends: the measure is how many cells are left. Assumes nothing.
 use mathlib.Core.Path.{_≡_}
 use Prim.Native.Nat.{_-_, _≤_}
-use native.Mathlib.Omega.{arith}
 use borrow.Author.Needs.{needs}
 use lib.ListN.{length}
 use Rattle.uncapped_trial.proofs.cleared.Statement.{statement}
 use Rattle.uncapped_trial.proofs.cleared.Tie as tie
 
 abbrev Inv-loop : tie.InvT-loop
-Inv-loop costs choices k i₀ i = (i ≤ length costs) × (length costs ≡ length choices)
+Inv-loop answer n costs choices i₀ i = (i ≤ length costs) × (length costs ≡ length choices)
 
 abbrev μ-loop : tie.MeasureT-loop
-μ-loop costs choices k i₀ i = length costs - i
+μ-loop answer n costs choices i₀ i = length costs - i
 
 returns : tie.Need-returns Inv-loop μ-loop
 returns c = search needs
@@ -19,26 +18,23 @@ returns c = search needs
 loop-holds : tie.Need-loop-holds Inv-loop μ-loop
 loop-holds c = search needs
 
+cell-requires : tie.Need-cell-requires Inv-loop μ-loop
+cell-requires c κs = search needs
+
 mul-if2 : tie.Need-mul-if2 Inv-loop μ-loop
 mul-if2 c = search needs
 
 shared-slice-read-if2 : tie.Need-shared-slice-read-if2 Inv-loop μ-loop
 shared-slice-read-if2 c = search needs
 
-cell-requires : tie.Need-cell-requires Inv-loop μ-loop
-cell-requires c κs = search needs
+mul-wide : tie.Need-mul-wide Inv-loop μ-loop
+mul-wide c = search needs
 
-mul-if3 : tie.Need-mul-if3 Inv-loop μ-loop
-mul-if3 c = search needs
+shared-slice-read-wide : tie.Need-shared-slice-read-wide Inv-loop μ-loop
+shared-slice-read-wide c = search needs
 
-shared-slice-read-if3 : tie.Need-shared-slice-read-if3 Inv-loop μ-loop
-shared-slice-read-if3 c = search needs
-
-cast-if3 : tie.Need-cast-if3 Inv-loop μ-loop
-cast-if3 c = search needs
-
-cell-requires-2 : tie.Need-cell-requires-2 Inv-loop μ-loop
-cell-requires-2 c κs = search needs
+wide-requires : tie.Need-wide-requires Inv-loop μ-loop
+wide-requires c κs = search needs
 
 returns-2 : tie.Need-returns-2 Inv-loop μ-loop
 returns-2 c = search needs
@@ -63,13 +59,12 @@ cleared-spec =
     μ-loop
     returns
     loop-holds
+    cell-requires
     mul-if2
     shared-slice-read-if2
-    cell-requires
-    mul-if3
-    shared-slice-read-if3
-    cast-if3
-    cell-requires-2
+    mul-wide
+    shared-slice-read-wide
+    wide-requires
     returns-2
     add-i
     loop-less
