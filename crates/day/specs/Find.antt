@@ -1,10 +1,10 @@
 -- The first index that passes a test, and what a loop that looks for it knows.
 -- Assumes nothing.
-use mathlib.Core.Path.{_≡_, refl, sym, ap, _∙_}
+use mathlib.Core.Path.{_≡_, refl}
 use mathlib.Core.Bool.{Bool, true, false}
 use mathlib.Core.Logic.{⊎-elim}
 use mathlib.Core.Option.{Option, none, some}
-use Prim.Native.Nat.{ℕ, zero, suc, _≤_, _<_}
+use Prim.Native.Nat.{ℕ, zero, suc, _<_}
 use native.Mathlib.Nat.{eq-or-lt-of-le, le-of-suc-le-suc}
 use native.Mathlib.Omega.{arith}
 use Rattle.day.specs.Sums.{below}
@@ -48,6 +48,11 @@ none-found P (suc n) e k l = go (find P n) (none-found P n) (P n) refl e
     go (some j) rec b r s = let z : _≡_ {A = ℕ} 0 1 = cc in absurd (omega arith)
     go none rec true r s = let z : _≡_ {A = ℕ} 0 1 = cc in absurd (omega arith)
     go none rec false r s = below (λ (j : ℕ). P j ≡ false) n (rec refl) r k l
+
+-- where nothing passes, nothing is found
+pub nothing-found : (P : ℕ → Bool) (n : ℕ) → ((k : ℕ) → k < n → P k ≡ false) → find P n ≡ none
+nothing-found P zero h = refl
+nothing-found P (suc n) h = find-none P n (nothing-found P n (λ k l. h k (omega arith))) (h n (omega arith))
 
 -- what is found is the first that passes
 pub some-found : (P : ℕ → Bool) (n k : ℕ) → find P n ≡ some k → Found P n k

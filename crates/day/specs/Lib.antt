@@ -11,5 +11,8 @@ pub mod File
 -- What a path answers, and what it leaves in lent memory.
 pub mod Outcome
 pub mod Paths
+-- The marked days: a plain search over all plans, the table, its theorem.
+pub mod Search
+pub mod Marked
 
 -- The marked days: a plain search over all plans, the table, its theorem.

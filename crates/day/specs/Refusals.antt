@@ -3,8 +3,8 @@
 -- Assumes nothing.
 use mathlib.Core.Bool.{Bool, true, false, not, _||_}
 use mathlib.Core.List.{List, [], _∷_}
-use mathlib.Core.Option.{Option, none, some, Option·map}
-use Prim.Native.Nat.{ℕ, suc, _+_, _-_, _*_}
+use mathlib.Core.Option.{Option, none, some}
+use Prim.Native.Nat.{ℕ, suc, _+_, _-_}
 use lib.Dec.{eqb, ltb}
 use lib.ListN.{length}
 use Rattle.day.specs.declared.Refusal.{Refusal}
@@ -58,10 +58,13 @@ refuseAt r none = none
 refuseAt r (some k) = some (r (suc k))
 
 -- the first of several
+abbrev pub orNext : Option Refusal → Option Refusal → Option Refusal
+orNext none o = o
+orNext (some r) o = some r
+
 abbrev pub first : List (Option Refusal) → Option Refusal
 first [] = none
-first (none ∷ rest) = first rest
-first (some r ∷ rest) = some r
+first (o ∷ rest) = orNext o (first rest)
 
 -- what a call's tests answer
 abbrev pub checked : Option Refusal → Check

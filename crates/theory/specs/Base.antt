@@ -1,15 +1,15 @@
 -- The days of document 01 as models: N is R, H is h, and no ceiling is met.
 -- Main statement: `optimal-iff`, a plan is the day's just where it is the model's. Assumes nothing.
-use mathlib.Core.Path.{_≡_, refl, ap, _∙_}
+use mathlib.Core.Path.{_≡_, refl}
 use mathlib.Core.List.{List}
 use mathlib.Core.Logic.{_↔_}
-use Prim.Native.Nat.{ℕ, zero, suc, _+_, _-_, _*_, _≤_, _<_, min}
+use Prim.Native.Nat.{ℕ, zero, suc, _≤_, _<_, min}
 use native.Mathlib.Decide.{decLt}
 use native.Mathlib.Omega.{arith}
 use lib.ListN.{length, List·getD-eq-default}
-use Rattle.day.specs.Sums.{at, sumTo, sum-ext, sum-grows}
+use Rattle.day.specs.Sums.{at, sumTo, sum-grows}
 use Rattle.day.specs.Day.{Day, periods, demandTo, capacityTo, total}
-use Rattle.day.specs.Plan.{Feasible, Optimal, Precedes, cost, costAt, production}
+use Rattle.day.specs.Plan.{Feasible, Optimal, cost}
 use Rattle.theory.specs.Model.{Model, Rising, Unlimited, FeasibleTo, OptimalTo, costTo}
 use Rattle.theory.specs.Model as Model
 use Rattle.theory.specs.Reachable.{high, high-open, Covered}

@@ -1,5 +1,5 @@
 -- The first, by cost and then by size, of several candidates: what a loop keeps that tries them in turn.
--- Assumes nothing.
+-- Main statements: `firstOf-answers`, `keep-old`, `take-new`. Assumes nothing.
 use mathlib.Core.Path.{_≡_, refl}
 use mathlib.Core.Option.{Option, none, some}
 use mathlib.Core.Logic.{_⊎_, inl, inr, ⊎-elim}

@@ -1,5 +1,5 @@
--- Plans put together from the start of one and the rest of another, and cut.
--- Assumes nothing.
+-- Plans put together from the first periods of one and the rest of another, and cut.
+-- Main statement: `cut`. Assumes nothing.
 use mathlib.Core.Path.{_≡_, refl, sym, _∙_}
 use Prim.Native.Nat.{ℕ, zero, suc, _+_, _≤_, _<_}
 use mathlib.Core.Logic.{⊎-elim}
@@ -34,7 +34,7 @@ sum-spliced l (suc m) y x z s h = go (decLt m l) (λ g. sum-spliced l m y x z (r
     go (no g) r = omega (arith, r (omega arith), s .high m (omega arith) (omega arith))
 
 module _ (M : Model) where
-  -- what the rules and the cost of the first i say is said of the first i amounts
+  -- rules and cost of the first i periods look at the first i amounts alone
   pub cost-ext : (x y : ℕ → ℕ) (i : ℕ) → ((k : ℕ) → k < i → x k ≡ y k) → costTo M x i ≡ costTo M y i
   cost-ext x y i e =
       sum-ext (costAt M x) (costAt M y) i

@@ -1,5 +1,6 @@
--- The exchange: in the plan wanted, between two periods that are neither idle nor full the store is empty at some moment.
--- Assumes nothing.
+-- The exchange of one unit between two periods, and what it says of the optimal plan, for any capacities (report, section 3).
+-- A fractional period is document 01's part-loaded one, and a regeneration interval its run.
+-- Main statements: `exchange`, `interval-one`: in a regeneration interval of the optimal plan at most one period is fractional. Assumes nothing.
 use mathlib.Core.Path.{_≡_, sym, ap}
 use mathlib.Core.Logic.{_≢_, ⊎-elim}
 use native.Mathlib.Nat.{eq-or-lt-of-le}
@@ -73,11 +74,11 @@ module _ (M : Model) (k : ℕ) where
 times : (h a b c d : ℕ) → a + b ≡ c + d → h * a + h * b ≡ h * c + h * d
 times h a b c d e = omega (arith, ap (λ (v : ℕ). h * v) e)
 
--- what a unit made in period j costs in period k: to make it, and to keep it from then on
+-- what a unit made in period j costs in period k: to make it, and to hold it from then on
 abbrev pub weight : Model → ℕ → ℕ → ℕ
 weight M j k = M .unit k * only j k + M .holding k * past j (suc k)
 
--- a unit can be moved from a period to another, where it costs no start
+-- a unit can be moved from one period to another, at no new setup
 pub record Movable (M : Model) (n : ℕ) (x : ℕ → ℕ) (from to : ℕ) : Type 0 where
   pub rising : Rising M
   pub unlimited : Unlimited M
@@ -166,13 +167,13 @@ module _ (M : Model) (n : ℕ) (x : ℕ → ℕ) (from to : ℕ) (c : Movable M 
             (omega (arith, moved-sum (suc k), moved-served (suc k) l, c .feasible .served k l)),
       ))
 
--- neither idle nor full
+-- a fractional period: it makes something, and less than its capacity
 pub record Fractional (M : Model) (n : ℕ) (x : ℕ → ℕ) (k : ℕ) : Type 0 where
   pub inside : k < n
   pub some : 0 < x k
   pub room : x k < M .capacity k
 
--- In the plan wanted no two periods are in part used with the store never empty from the first to the second.
+-- In the optimal plan no two periods are fractional with the inventory above 0 from the first to the second.
 pub exchange : (M : Model) → Rising M → Unlimited M → (n : ℕ) (x : ℕ → ℕ) → OptimalTo M n (M .floor n) x
     → (i j : ℕ) → i < j → Fractional M n x i → Fractional M n x j
     → ((m : ℕ) → i < m → m ≤ j → M .floor m < sumTo x m) → ⊥
@@ -215,23 +216,23 @@ exchange M rising unlimited n x best i j l pi pj spare =
     (λ k a b. sym (at-other M n x j i sooner k (omega arith) (omega arith))) in
     omega (arith, at-from M n x j i sooner, pj .some)
 
--- from an empty store to the next empty store: the periods a .. b - 1
+-- the periods a .. b - 1, from an empty inventory on, with none empty in between: where it is empty after b too, a regeneration interval
 pub record Regeneration (M : Model) (x : ℕ → ℕ) (a b : ℕ) : Type 0 where
   pub ahead : a < b
   pub empty : sumTo x a ≡ M .floor a
   pub never : (m : ℕ) → a < m → m < b → M .floor m < sumTo x m
 
--- In a run of the plan wanted at most one period is in part used.
-pub run-one : (M : Model) → Rising M → Unlimited M → (n : ℕ) (x : ℕ → ℕ) → OptimalTo M n (M .floor n) x → (a b : ℕ) → Regeneration M x a b
+-- In a regeneration interval of the optimal plan at most one period is fractional.
+pub interval-one : (M : Model) → Rising M → Unlimited M → (n : ℕ) (x : ℕ → ℕ) → OptimalTo M n (M .floor n) x → (a b : ℕ) → Regeneration M x a b
     → (i j : ℕ) → a ≤ i → i < b → a ≤ j → j < b → Fractional M n x i → Fractional M n x j → i ≡ j
-run-one M rising unlimited n x best a b run i j ai ib aj jb pi pj = go (decLt i j) (decLt j i)
+interval-one M rising unlimited n x best a b run i j ai ib aj jb pi pj = go (decLt i j) (decLt j i)
   where
     go : Dec (i < j) → Dec (j < i) → i ≡ j
     go (yes l) d = absurd (exchange M rising unlimited n x best i j l pi pj (λ m u v. run .never m (omega arith) (omega arith)))
     go (no g) (yes l) = absurd (exchange M rising unlimited n x best j i l pj pi (λ m u v. run .never m (omega arith) (omega arith)))
     go (no g) (no f) = omega arith
 
--- the last moment before n at which the store was empty
+-- the last moment before n at which the inventory was empty
 pub last-run : (M : Model) → Rising M → (X : ℕ) (x : ℕ → ℕ) (n : ℕ) → 0 < n → FeasibleTo M n X x → (a : ℕ) × Regeneration M x a n
 last-run M rising X x n pos r = down (n - 1) (omega arith) (λ m u v. absurd (omega arith))
   where

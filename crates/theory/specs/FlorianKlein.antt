@@ -16,7 +16,7 @@ use Rattle.theory.specs.Memo.{memo, memo-zero, memo-next, memo-all}
 use Rattle.theory.specs.Stages.{Solution, Answers}
 use Rattle.theory.specs.Recursion.{both?}
 use Rattle.theory.specs.Reachable.{high, Covered}
-use Rattle.theory.specs.Exchange.{Fractional, Regeneration, run-one}
+use Rattle.theory.specs.Exchange.{Fractional, Regeneration, interval-one}
 use Rattle.theory.specs.Candidates.{Some, firstOf-ext}
 use Rattle.theory.specs.Regeneration.{Kinds, tail, sum-tail, candidate, row, Right, Fits, cover, row-right}
 
@@ -85,7 +85,7 @@ module _ (M : Model) (rising : Rising M) (unlimited : Unlimited M) (c m : ℕ) (
 
   others : (k : ℕ) → a ≤ k → k < m → Fractional M m x k → (j : ℕ) → a ≤ j → j < m → j ≢ k → (x j ≡ 0) ⊎ (x j ≡ c)
   others k l h part j p q n =
-      ⊎-elim inl (λ r. ⊎-elim inr (λ t. absurd (n (run-one M rising unlimited m x best a m run j k p q l h t part))) r) (kind j q)
+      ⊎-elim inl (λ r. ⊎-elim inr (λ t. absurd (n (interval-one M rising unlimited m x best a m run j k p q l h t part))) r) (kind j q)
 
   abbrev W : ℕ
   W = M .floor m - M .floor a

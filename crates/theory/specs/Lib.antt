@@ -1,20 +1,30 @@
+-- The theory of the planner, over one model. A module uses those above it.
+-- The model; choices, the first least index, the order of plans.
 pub mod Model
 pub mod Basics
 pub mod Cheapest
 pub mod Order
+-- Recursion (5): over stages of any kind, over totals, as table cells, for a model.
 pub mod Stages
 pub mod Totals
 pub mod Table
 pub mod Recursion
+-- Plans spliced and cut; the totals that can be reached; what the full path computes.
 pub mod Cut
 pub mod Reachable
 pub mod Full
-pub mod Base
+-- No two fractional periods in one regeneration interval; plans as intervals of a kind.
 pub mod Exchange
 pub mod Memo
 pub mod Candidates
 pub mod Regeneration
+-- What the uncapped path computes (Wagner and Whitin).
 pub mod Uncapped
 pub mod WagnerWhitin
+-- What the equal path computes (Florian and Klein).
 pub mod FlorianKlein
 pub mod Loads
+-- The days of document 01 as models; demands 2 and 3; agreement of paths.
+pub mod Base
+pub mod Demands
+pub mod Agreement

@@ -1,5 +1,5 @@
 -- A row for each m, found from the rows before it.
--- Assumes nothing.
+-- Main statements: `memo-next`, `memo-all`. Assumes nothing.
 use mathlib.Core.Path.{_≡_, refl, _∙_}
 use mathlib.Core.Logic.{⊎-elim}
 use Prim.Native.Nat.{ℕ, zero, suc, _≤_, _<_}

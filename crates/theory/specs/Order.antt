@@ -1,5 +1,5 @@
--- The order of plans: its laws, and a test for it that looks from the end.
--- Assumes nothing.
+-- The order of plans: its laws, the readable form of it, and a test that looks from the last period down.
+-- Main statements: `smaller-means`, `precedes-anti`. Assumes nothing.
 use mathlib.Core.Path.{_≡_, sym, _∙_}
 use mathlib.Core.Logic.{_⊎_, inl, inr, ⊎-elim}
 use Prim.Native.Nat.{ℕ, zero, suc, _≤_, _<_}
@@ -19,7 +19,7 @@ pub smaller-before : (n : ℕ) (x y : ℕ → ℕ) → x n ≡ y n → Smaller n
 smaller-before n x y h s k lt alike =
     ⊎-elim (λ (e : k ≡ n). rw e (omega arith)) (λ (l : k < n). s k l (λ j a b. alike j a (omega arith))) (eq-or-lt-of-le (le-of-suc-le-suc lt))
 
--- the other way
+-- and what follows from being smaller
 pub smaller-at-last : (n : ℕ) (x y : ℕ → ℕ) → Smaller (suc n) x y → x n ≤ y n
 smaller-at-last n x y s = s n (omega arith) (λ j a b. absurd (omega arith))
 

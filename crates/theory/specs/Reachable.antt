@@ -1,21 +1,16 @@
--- The totals that can be reached, and the row step of recursion (5) over them alone.
--- Assumes nothing.
+-- The totals that can be reached form an interval, and the row step of recursion (5) runs over it alone, with no mark for "unreachable".
+-- Main statements: `interval`, `feasible-covered`, `row-step`. Assumes nothing.
 use mathlib.Core.Path.{_≡_, refl, sym, ap, _∙_}
-use mathlib.Core.Option.{Option, some}
-use mathlib.Core.Logic.{_⊎_, inl, inr, ⊎-elim, _↔_}
 use Prim.Native.Nat.{ℕ, zero, suc, _+_, _-_, _*_, _≤_, _<_, min}
-use native.Mathlib.Decide.{decLe, decLt}
+use native.Mathlib.Decide.{decLt}
 use native.Mathlib.Omega.{arith}
 use Rattle.day.specs.Sums.{sumTo, below, sum-ext}
 use Rattle.day.specs.Plan.{Smaller, Precedes}
 use Rattle.theory.specs.Model.{Model, Rising, production, costTo, FeasibleTo, OptimalTo}
-use Rattle.theory.specs.Basics.{upTo, upTo-zero}
 use Rattle.theory.specs.Order.{smaller-last, smaller-before, smaller-ext}
-use Rattle.theory.specs.Stages.{Solution}
-use Rattle.theory.specs.Recursion.{PlanOf, AnswerOf, found}
 use Rattle.theory.specs.Cut.{Spliced, join, joined, cost-ext, feasible-less, floor-below}
 
--- the highest total that can be reached, while there is enough
+-- the highest total that can be reached, while the floor can be
 abbrev pub high : Model → ℕ → ℕ
 high M zero = 0
 high M (suc k) = min (high M k + M .capacity k) (M .ceiling (suc k))
@@ -23,16 +18,10 @@ high M (suc k) = min (high M k + M .capacity k) (M .ceiling (suc k))
 abbrev pub Covered : Model → ℕ → Type 0
 Covered M i = (j : ℕ) → j ≤ i → M .floor j ≤ high M j
 
--- where the upper bound is the total need, it is the least of that and all that could be made
+-- under a constant ceiling it is the smaller of that and all that could be made
 pub high-open : (M : Model) (T : ℕ) → ((j : ℕ) → M .ceiling j ≡ T) → (i : ℕ) → high M i ≡ min (sumTo (M .capacity) i) T
 high-open M T e zero = omega arith
 high-open M T e (suc i) = omega (arith, high-open M T e i, e (suc i))
-
--- after i periods, for the first time, no total can be reached
-pub record FirstShort (M : Model) (n i : ℕ) : Type 0 where
-  pub inside : i ≤ n
-  pub short : high M i < M .floor i
-  pub before : (j : ℕ) → j < i → M .floor j ≤ high M j
 
 -- the amounts to try in period k for the total X: each leaves a total that can be reached before
 pub record Range (M : Model) (k X v : ℕ) : Type 0 where
@@ -60,7 +49,7 @@ module _ (M : Model) (rising : Rising M) where
         under = below (λ (j : ℕ). sumTo z (suc j) ≤ M .ceiling (suc j)) k (λ j h. omega (arith, sums (suc j) h, r .under j h)) (omega arith);
       }
 
-  -- Every total from the floor to the highest is reached, and no other.
+  -- Every total from the floor to the highest is reached.
   pub interval : (i : ℕ) → Covered M i → (X : ℕ) → M .floor i ≤ X → X ≤ high M i → (x : ℕ → ℕ) × FeasibleTo M i X x
   interval zero e X a b =
       (λ _. 0, record { total = omega arith; within = λ k h. absurd (omega arith); served = λ k h. absurd (omega arith); under = λ k h. absurd (omega arith) })
@@ -72,33 +61,8 @@ module _ (M : Model) (rising : Rising M) where
       let t : Y + (X - Y) ≡ X = omega arith in
       (join k (r .0) (λ _. X - Y), rw t at q)
 
-  pub reached : (i X : ℕ) (x : ℕ → ℕ) → FeasibleTo M i X x → (M .floor i ≤ X) × (X ≤ high M i)
-  reached i X x r =
-      (omega (arith, floor-below M rising i X x r i (omega arith), r .total), omega (arith, feasible-high i X x r i (omega arith), r .total))
-
   pub feasible-covered : (i X : ℕ) (x : ℕ → ℕ) → FeasibleTo M i X x → Covered M i
   feasible-covered i X x r j h = omega (arith, floor-below M rising i X x r j h, feasible-high i X x r j h)
-
-  -- There is a plan for n periods just where there is enough, and else there is a first short period.
-  pub feasible : (n : ℕ) → ((x : ℕ → ℕ) × FeasibleTo M n (M .floor n) x) ↔ Covered M n
-  feasible n = (λ p. feasible-covered n (M .floor n) (p .0) (p .1), λ e. interval n e (M .floor n) (omega arith) (e n (omega arith)))
-
-  pub answer-some : (n : ℕ) → Covered M n → (o : Option Solution) → AnswerOf M n (M .floor n) o → (f : Solution) × (o ≡ some f) × PlanOf M n (M .floor n) f
-  answer-some n e o a = let w = feasible n .1 e in found M n (M .floor n) o (w .0) a (w .1)
-
-  pub refused : (n i : ℕ) → FirstShort M n i → (X : ℕ) (x : ℕ → ℕ) → FeasibleTo M n X x → ⊥
-  refused n i s X x r = omega (arith, s .short, feasible-covered n X x r i (s .inside))
-
-  pub look : (n : ℕ) → ((i : ℕ) × FirstShort M n i) ⊎ Covered M n
-  look n = go n (omega arith)
-    where
-      next : (i : ℕ) → suc i ≤ n → Covered M i → Dec (M .floor (suc i) ≤ high M (suc i)) → ((j : ℕ) × FirstShort M n j) ⊎ Covered M (suc i)
-      next i l ok (yes h) = inr (upTo (λ (j : ℕ). M .floor j ≤ high M j) i ok h)
-      next i l ok (no h) = inl (suc i, record { inside = l; short = omega arith; before = λ j lt. ok j (omega arith) })
-
-      go : (i : ℕ) → i ≤ n → ((j : ℕ) × FirstShort M n j) ⊎ Covered M i
-      go zero l = inr (upTo-zero (λ (j : ℕ). M .floor j ≤ high M j) (omega (arith, rising .nought)))
-      go (suc i) l = ⊎-elim inl (λ ok. next i l ok (decLe (M .floor (suc i)) (high M (suc i)))) (go i (omega arith))
 
   -- there is an amount to try, and the amounts to try are those between two bounds
   pub range-some : (k X : ℕ) → M .floor k ≤ high M k → M .floor (suc k) ≤ X → X ≤ high M (suc k) → Range M k X (X - high M k)

@@ -1,5 +1,5 @@
--- Recursion (5) for a model: its stages' states are the amounts made in all. What it gives is the plan wanted.
--- Assumes nothing.
+-- Recursion (5) for a model: the states are the totals made, and what it gives is the optimal plan.
+-- Main statements: `bestTo-right`, `optimal-exists`, `optimal-unique`. Assumes nothing.
 use mathlib.Core.Path.{_≡_, refl, sym, _∙_}
 use mathlib.Core.Option.{Option, none, some}
 use Prim.Native.Nat.{ℕ, suc, _+_, _-_, _*_, _≤_, _<_}
@@ -56,7 +56,7 @@ found M i X (some f) y a r = (f, refl, a)
 pub leads-optimal : (M : Model) (i X : ℕ) (f : Solution) → PlanOf M i X f → OptimalTo M i X (at (f .plan))
 leads-optimal M i X f l = record { feasible = l .fits; first = l .first }
 
--- where something reaches X, there is a plan wanted
+-- where something reaches X, there is an optimal plan
 pub optimal-exists : (M : Model) (i X : ℕ) (y : ℕ → ℕ) → FeasibleTo M i X y → (x : ℕ → ℕ) × OptimalTo M i X x
 optimal-exists M i X y r =
     let w = found M i X (bestTo M i X) y (bestTo-right M i X) r in

@@ -1,5 +1,5 @@
--- The plan of (m, N m) as the first of: the plan of (l, N l), and after it the first of the runs of some kind from l to m.
--- Assumes nothing.
+-- The plan of (m, N m) as the first of: the plan of (l, N l), and after it the first of the regeneration intervals of some kind from l to m.
+-- Main statements: `cover`, `row-right`. Assumes nothing.
 use mathlib.Core.Path.{_≡_, refl, sym, ap, _∙_, subst, fun-ext}
 use mathlib.Core.List.{List, _++_}
 use mathlib.Core.Option.{Option, none, some}
@@ -20,12 +20,12 @@ use Rattle.theory.specs.Cut.{cost-ext, feasible-ext, feasible-less, floo
 use Rattle.theory.specs.Exchange.{Regeneration, last-run}
 use Rattle.theory.specs.Candidates.{firstOf, Some, firstOf-answers}
 
--- which amounts a run may have: `Kind k X x`, where after period k of the run X is made in it, and x in that period
+-- which amounts an interval may have: `Kind k X x`, where after its period k it has made X, and x in that period
 pub record Kinds : Type 1 where
   pub Kind : ℕ → ℕ → ℕ → Type 0
   pub kind? : (k X x : ℕ) → Dec (Kind k X x)
 
--- the runs from l on: their states are the totals made since l
+-- the intervals from l on: their states are the totals made since l
 abbrev pub runs : Model → ℕ → Kinds → Totals
 runs M l K = record {
   capacity = λ k. M .capacity (l + k);
@@ -55,7 +55,7 @@ module _ (M : Model) (rising : Rising M) (unlimited : Unlimited M) (l i : ℕ) (
   abbrev W : ℕ
   W = M .floor (l + i) - M .floor l
 
-  -- empty after l periods, and a run of the kind from there
+  -- empty after l periods, and an interval of the kind from there
   abbrev pub Via : (ℕ → ℕ) → Type 0
   Via y = FeasibleTo M l (M .floor l) y × Makes T i W (tail l y)
 
@@ -96,7 +96,7 @@ module _ (M : Model) (rising : Rising M) (unlimited : Unlimited M) (l i : ℕ) (
           let q : M .floor (suc (l + (k - l))) ≤ sumTo y (suc (l + (k - l))) = omega (arith, v .1 .allowed (k - l) (omega arith) .0) in
           rw e at q
 
-  -- the first of those: the plan of (l, N l), and the first of the runs
+  -- the first of those: the plan of (l, N l), and the first of the intervals
   glue-leads : (f g : Solution)
       → PlanOf M l (M .floor l) f
       → Leads (Makes T i W) (λ x. costs T x i) i g
@@ -167,12 +167,12 @@ row M K rows m = firstOf m (candidate M K rows m) m
 abbrev pub Right : Model → ℕ → Option Solution → Type 0
 Right M m o = AnswerOf M m (M .floor m) o
 
--- a plan that is empty after l periods, and whose run from l to m is of the kind
+-- a plan that is empty after l periods, and whose interval from l to m is of the kind
 abbrev pub Fits : Model → Kinds → ℕ → ℕ → (ℕ → ℕ) → Type 0
 Fits M K m l x = FeasibleTo M l (M .floor l) x × Makes (runs M l K) (m - l) (M .floor m - M .floor l) (tail l x)
 
 module _ (M : Model) (rising : Rising M) (unlimited : Unlimited M) where
-  -- the plans of (m, N m) are answered by what answers some of them, the plan wanted among these
+  -- the plans of (m, N m) are answered by what answers some of them, the optimal one among these
   covers : (m : ℕ) (Q : (ℕ → ℕ) → Type 0) (o : Option Solution) → Answers Q (λ x. costTo M x m) m o
       → ((y : ℕ → ℕ) → Q y → FeasibleTo M m (M .floor m) y)
       → ((x : ℕ → ℕ) → OptimalTo M m (M .floor m) x → Q x)
@@ -215,7 +215,7 @@ module _ (M : Model) (rising : Rising M) (unlimited : Unlimited M) where
             (glue-answers M rising unlimited l (m - l) (K l m) (rows l) (runsTo (l + (m - l))) a
             (totals-answers (runs M l (K l m)) (m - l) (M .floor (l + (m - l)) - M .floor l)))
 
-    -- each run of the plan wanted is of the kind
+    -- each interval of the optimal plan is of the kind
     abbrev pub Shaped : Type 0
     Shaped = (x : ℕ → ℕ) → OptimalTo M m (M .floor m) x → (l : ℕ) → Regeneration M x l m
         → (k : ℕ) → k < m - l → K l m .Kind k (sumTo (tail l x) (suc k)) (x (l + k))
@@ -238,14 +238,14 @@ module _ (M : Model) (rising : Rising M) (unlimited : Unlimited M) where
           },
         )
 
-    -- Where each run of the plan wanted is of the kind, what answers the plans that fit answers all plans of (m, N m): what a loop over l ends with.
+    -- Then what answers the plans that fit answers all plans of (m, N m): what a loop over l ends with.
     pub cover : 0 < m → Shaped → (o : Option Solution) → Answers (Some (λ l. Fits M (K l m) m l) m) (λ x. costTo M x m) m o → Right M m o
     cover pos shape o a =
         covers m (Some (λ l. Fits M (K l m) m l) m) o a
         (λ y q. fits-feasible (q .0) (q .1) y (q .2))
         (λ x b. let w = last-run M rising (M .floor m) x m pos (b .feasible) in (w .0, w .1 .ahead, run-fits shape x b (w .0) (w .1)))
 
-    -- So the first of the candidates is the plan wanted.
+    -- So the first of the candidates is the optimal plan.
     pub row-right : 0 < m → (rows : ℕ → Option Solution) → ((l : ℕ) → l < m → Right M l (rows l)) → Shaped → Right M m (row M K rows m)
     row-right pos rows right shape =
         cover pos shape (row M K rows m)

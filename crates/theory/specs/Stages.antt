@@ -1,5 +1,6 @@
--- The recursion (5), over stages of any kind: in stage k an amount is chosen, and what is reached after it tells with the amount what was reached before.
--- Assumes nothing.
+-- Recursion (5) over stages of any kind: in each an amount is chosen, which tells with the state after it the state before.
+-- It serves the full path (states are totals) and, inside a regeneration interval, the equal path.
+-- Main statement: `bestTo-answers`. Assumes nothing.
 use mathlib.Core.Path.{_≡_, refl, sym, ap, _∙_}
 use mathlib.Core.List.{List, [], _∷_, _++_}
 use mathlib.Core.Option.{Option, none, some}

@@ -1,5 +1,5 @@
--- Stages whose state is the total made so far: what leads to a total, and what it costs, in sums of the first i.
--- Assumes nothing.
+-- Stages whose state is the total made so far: what leads to a total, and what it costs, in sums over the first i periods.
+-- Main statement: `totals-answers`. Assumes nothing.
 use mathlib.Core.Path.{_≡_, refl, sym}
 use Prim.Native.Nat.{ℕ, zero, suc, _-_, _≤_, _<_, min}
 use native.Mathlib.Decide.{ℕ-discrete}
@@ -7,7 +7,7 @@ use native.Mathlib.Omega.{arith}
 use Rattle.day.specs.Sums.{sumTo, below}
 use Rattle.theory.specs.Stages.{Stages, Answers, Reaches, spent, bestTo, bestTo-answers, answers-iff, answers-costs}
 
--- period k has room for `cap k`, may end with the total X after the amount x, and costs `stage k X x`
+-- period k has room for `capacity k`, may end with the total X after the amount x, and costs `stage k X x`
 pub record Totals : Type 1 where
   pub capacity : ℕ → ℕ
   pub Allowed : ℕ → ℕ → ℕ → Type 0

@@ -1,0 +1,61 @@
+-- `checks::equal` meets its contract. The loop's invariant: no capacity passed differs from the first. Assumes nothing.
+use mathlib.Core.Path.{refl}
+use mathlib.Core.List.{[]}
+use Prim.Native.Nat.{_-_}
+use native.Mathlib.Omega.{arith}
+use lib.ListN.{length}
+use borrow.Author.Tests.{eq-eqb, ne-eqb}
+use Rattle.day.specs.Day.{dayOf}
+use Rattle.day.specs.Refusals.{differs}
+use Rattle.checks.proofs.Search.{Searched, searched-next, searched-all, found-here}
+use Rattle.checks.proofs.equal.Statement.{statement}
+use Rattle.checks.proofs.equal.Tie as tie
+
+abbrev Inv-loop : tie.InvT-loop
+Inv-loop demand capacity i₀ i = Searched (differs (dayOf demand capacity [] [] [])) (length demand) i
+
+abbrev μ-loop : tie.MeasureT-loop
+μ-loop demand capacity i₀ i = length demand - i
+
+loop-holds : tie.Need-loop-holds Inv-loop μ-loop
+loop-holds c = record { inside = omega arith; nothing = refl }
+
+mul-if1 : tie.Need-mul-if1 Inv-loop μ-loop
+mul-if1 c = omega arith
+
+shared-slice-read-if1 : tie.Need-shared-slice-read-if1 Inv-loop μ-loop
+shared-slice-read-if1 c = omega arith
+
+shared-slice-read-if1-2 : tie.Need-shared-slice-read-if1-2 Inv-loop μ-loop
+shared-slice-read-if1-2 c = omega arith
+
+returns : tie.Need-returns Inv-loop μ-loop
+returns c = rw (found-here (c .before .before .before .before .loop .inv) (simp (ne-eqb _ _ (c .if1 .taken))) (omega arith)) refl
+
+add-i : tie.Need-add-i Inv-loop μ-loop
+add-i c = omega arith
+
+loop-less : tie.Need-loop-less Inv-loop μ-loop
+loop-less c = omega arith
+
+loop-again : tie.Need-loop-again Inv-loop μ-loop
+loop-again c = searched-next (c .before .before .before .before .loop .inv) (simp (eq-eqb _ _ (c .if1 .left))) (omega arith)
+
+returns-2 : tie.Need-returns-2 Inv-loop μ-loop
+returns-2 c = rw (searched-all (c .before .loop .inv) (c .loop-test .left)) refl
+
+pub equal-spec : {M : Type 1} → statement M
+equal-spec =
+    tie.close
+    (tie.spec
+    Inv-loop
+    μ-loop
+    loop-holds
+    mul-if1
+    shared-slice-read-if1
+    shared-slice-read-if1-2
+    returns
+    add-i
+    loop-less
+    loop-again
+    returns-2)

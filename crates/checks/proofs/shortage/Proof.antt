@@ -1,0 +1,107 @@
+-- `checks::shortage` meets its contract. The loop's invariant: R and C of the periods passed, none of which is short.
+-- Assumes nothing.
+use mathlib.Core.Path.{_≡_, refl}
+use mathlib.Core.List.{[]}
+use mathlib.Core.Option.{none}
+use Prim.Native.Nat.{suc, _≤_, _*_, _-_}
+use native.Mathlib.Numerals.{add-one}
+use native.Mathlib.Omega.{arith}
+use lib.ListN.{length}
+use borrow.Author.Tests.{lt-ltb, le-ltb}
+use Rattle.day.specs.declared.Refusal.the-variants.{Shortage}
+use Rattle.day.specs.Day.{Day, dayOf, demandTo, capacityTo, maxCapacity}
+use Rattle.day.specs.Refusals.{short}
+use Rattle.checks.proofs.Search.{Searched, searched-next, searched-all, refused-here}
+use Rattle.checks.proofs.shortage.Statement.{statement}
+use Rattle.checks.proofs.shortage.Tie as tie
+
+abbrev Inv-loop : tie.InvT-loop
+Inv-loop demand capacity demanded₀ available₀ i₀ demanded available i =
+    Searched (short (dayOf demand capacity [] [] [])) (length demand) i
+    × (demanded ≡ demandTo (dayOf demand capacity [] [] []) i)
+    × (demanded ≤ maxCapacity * i)
+    × (available ≡ capacityTo (dayOf demand capacity [] [] []) i)
+    × (available ≤ maxCapacity * i)
+
+abbrev μ-loop : tie.MeasureT-loop
+μ-loop demand capacity demanded₀ available₀ i₀ demanded available i = length demand - i
+
+-- the tables at the loop
+abbrev tables : tie.At-loop Inv-loop μ-loop → Day
+tables c = dayOf (c .before .args .demand .now) (c .before .args .capacity .now) [] [] []
+
+loop-holds : tie.Need-loop-holds Inv-loop μ-loop
+loop-holds c = (record { inside = omega arith; nothing = refl }, refl, omega arith, refl, omega arith)
+
+mul-demanded : tie.Need-mul-demanded Inv-loop μ-loop
+mul-demanded c = omega arith
+
+shared-slice-read-demanded : tie.Need-shared-slice-read-demanded Inv-loop μ-loop
+shared-slice-read-demanded c = omega arith
+
+cast-demanded : tie.Need-cast-demanded Inv-loop μ-loop
+cast-demanded c = omega (arith, c .shared-slice-known .given (c .before .before .loop .i))
+
+add-demanded : tie.Need-add-demanded Inv-loop μ-loop
+add-demanded c = omega (arith, c .shared-slice-known .given (c .before .before .loop .i))
+
+mul-available : tie.Need-mul-available Inv-loop μ-loop
+mul-available c = omega arith
+
+shared-slice-read-available : tie.Need-shared-slice-read-available Inv-loop μ-loop
+shared-slice-read-available c = omega arith
+
+cast-available : tie.Need-cast-available Inv-loop μ-loop
+cast-available c = omega (arith, c .shared-slice-known2 .given (c .before .before .before .loop .i))
+
+add-available : tie.Need-add-available Inv-loop μ-loop
+add-available c = omega (arith, c .shared-slice-known2 .given (c .before .before .before .loop .i))
+
+add-i : tie.Need-add-i Inv-loop μ-loop
+add-i c = omega arith
+
+returns : tie.Need-returns Inv-loop μ-loop
+returns c =
+    let p = c .before .before .before .before in
+    let i = p .loop .i in
+    let d = tables p in
+    refused-here (p .loop .inv .0) Shortage (lt-ltb (capacityTo d (suc i)) (demandTo d (suc i)) (omega arith)) (omega arith)
+
+loop-less : tie.Need-loop-less Inv-loop μ-loop
+loop-less c = omega arith
+
+loop-again : tie.Need-loop-again Inv-loop μ-loop
+loop-again c =
+    let p = c .before .before .before .before in
+    let i = p .loop .i in
+    let d = tables p in (
+      searched-next (p .loop .inv .0) (le-ltb (capacityTo d (suc i)) (demandTo d (suc i)) (omega arith)) (omega arith),
+      rw add-one (omega arith),
+      omega (arith, c .before .before .shared-slice-known .given i),
+      rw add-one (omega arith),
+      omega (arith, c .before .shared-slice-known2 .given i),
+    )
+
+returns-2 : tie.Need-returns-2 Inv-loop μ-loop
+returns-2 c = rw (searched-all (c .before .loop .inv .0) (c .loop-test .left)) refl
+
+pub shortage-spec : {M : Type 1} → statement M
+shortage-spec =
+    tie.close
+    (tie.spec
+    Inv-loop
+    μ-loop
+    loop-holds
+    mul-demanded
+    shared-slice-read-demanded
+    cast-demanded
+    add-demanded
+    mul-available
+    shared-slice-read-available
+    cast-available
+    add-available
+    add-i
+    returns
+    loop-less
+    loop-again
+    returns-2)

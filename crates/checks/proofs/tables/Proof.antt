@@ -1,0 +1,71 @@
+-- `checks::tables` meets its contract: each answer is the first refusal, given those of the tests before it. Assumes nothing.
+use mathlib.Core.Path.{_≡_, refl, sym, ap, _∙_}
+use mathlib.Core.Option.{none}
+use borrow.Author.Needs.{needs}
+use Rattle.day.specs.Day.{Day, dayOf, periods}
+use Rattle.day.specs.Refusals.{checked, badCount, badLengths, badValue}
+use Rattle.checks.specs.Passed.{passed, refused, first-one, lengths-passed}
+use Rattle.checks.proofs.tables.Statement.{statement}
+use Rattle.checks.proofs.tables.Tie as tie
+
+-- the tables, from the place after the first call
+abbrev tables : tie.After-count → Day
+tables c =
+    let a = c .before .before .before .before .before .before .args in
+    dayOf (a .demand .now) (a .capacity .now) (a .setup .now) (a .unit .now) (a .holding .now)
+
+-- the first test passed, and the second
+counted : (c : tie.After-enum-told) → badCount (periods (tables (c .before .before))) ≡ none
+counted c = passed _ (c .before .before .count .ensures) (c .enum-told .given .1)
+
+measured : (c : tie.After-enum-told2) → badLengths (tables (c .before .before .before .before .before)) ≡ none
+measured c = passed _ (c .before .before .lengths .ensures) (c .enum-told2 .given .1)
+
+count-requires : tie.Need-count-requires
+count-requires c κs = search needs
+
+enum-known-r : tie.Need-enum-known-r
+enum-known-r c = search needs
+
+returns : tie.Need-returns
+returns c = rw (refused (badCount (periods (tables (c .before .before .before)))) (c .before .before .before .count .ensures) (c .before .r .given .1)) refl
+
+enum-told : tie.Need-enum-told
+enum-told c = search needs
+
+lengths-requires : tie.Need-lengths-requires
+lengths-requires c κs = search needs
+
+enum-known-r-2 : tie.Need-enum-known-r-2
+enum-known-r-2 c = search needs
+
+returns-2 : tie.Need-returns-2
+returns-2 c =
+    let p = c .before .before .before in
+    rw (counted (p .before), refused (badLengths (tables (p .before .before .before))) (p .lengths .ensures) (c .before .r2 .given .1)) refl
+
+enum-told-2 : tie.Need-enum-told-2
+enum-told-2 c = search needs
+
+values-requires : tie.Need-values-requires
+values-requires c κs = lengths-passed _ (measured c)
+
+returns-3 : tie.Need-returns-3
+returns-3 c =
+    rw (counted (c .before .before .before .before), measured (c .before))
+    (c .values .ensures ∙ ap checked (sym (first-one (badValue (tables (c .before .before .before .before .before .before))))))
+
+pub tables-spec : {M : Type 1} → statement M
+tables-spec =
+    tie.close
+    (tie.spec
+    count-requires
+    enum-known-r
+    returns
+    enum-told
+    lengths-requires
+    enum-known-r-2
+    returns-2
+    enum-told-2
+    values-requires
+    returns-3)

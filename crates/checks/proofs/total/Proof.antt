@@ -1,0 +1,50 @@
+-- `checks::total` meets its contract. The loop's invariant: `sum` is the sum of the periods passed, at most 65,535 for each.
+-- Assumes nothing.
+use mathlib.Core.Path.{_≡_}
+use Prim.Native.Nat.{_≤_, _*_, _-_}
+use native.Mathlib.Numerals.{add-one}
+use native.Mathlib.Omega.{arith}
+use lib.ListN.{length}
+use Rattle.day.specs.Sums.{at, sumTo}
+use Rattle.day.specs.Day.{maxCapacity}
+use Rattle.checks.proofs.total.Statement.{statement}
+use Rattle.checks.proofs.total.Tie as tie
+
+abbrev Inv-loop : tie.InvT-loop
+Inv-loop demand sum₀ i₀ sum i = (i ≤ length demand) × (sum ≡ sumTo (at demand) i) × (sum ≤ maxCapacity * i)
+
+abbrev μ-loop : tie.MeasureT-loop
+μ-loop demand sum₀ i₀ sum i = length demand - i
+
+loop-holds : tie.Need-loop-holds Inv-loop μ-loop
+loop-holds c = omega arith
+
+mul-sum : tie.Need-mul-sum Inv-loop μ-loop
+mul-sum c = omega arith
+
+shared-slice-read-sum : tie.Need-shared-slice-read-sum Inv-loop μ-loop
+shared-slice-read-sum c = omega arith
+
+cast-sum : tie.Need-cast-sum Inv-loop μ-loop
+cast-sum c = omega (arith, c .shared-slice-known .given (c .before .before .loop .i))
+
+add-sum : tie.Need-add-sum Inv-loop μ-loop
+add-sum c = omega (arith, c .shared-slice-known .given (c .before .before .loop .i))
+
+add-i : tie.Need-add-i Inv-loop μ-loop
+add-i c = omega arith
+
+loop-less : tie.Need-loop-less Inv-loop μ-loop
+loop-less c = omega arith
+
+loop-again : tie.Need-loop-again Inv-loop μ-loop
+loop-again c = rw add-one (omega (arith, c .shared-slice-known .given (c .before .before .loop .i)))
+
+returns : tie.Need-returns Inv-loop μ-loop
+returns c =
+    let e : c .before .loop .i ≡ length (c .before .before .args .demand .now) = omega arith in
+    record { is = rw e at (c .before .loop .inv .1); low = omega arith }
+
+pub total-spec : {M : Type 1} → statement M
+total-spec =
+    tie.close (tie.spec Inv-loop μ-loop loop-holds mul-sum shared-slice-read-sum cast-sum add-sum add-i loop-less loop-again returns)

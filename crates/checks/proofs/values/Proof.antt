@@ -1,0 +1,113 @@
+-- `checks::values` meets its contract. The loop's invariant: no value of a period passed is above its limit.
+-- Assumes nothing.
+use mathlib.Core.Path.{_≡_, refl, sym, _∙_}
+use mathlib.Core.Bool.{_||_, or-false}
+use Prim.Native.Nat.{ℕ, _≤_, _-_}
+use native.Mathlib.Omega.{arith}
+use lib.Dec.{ltb}
+use lib.ListN.{length}
+use borrow.Author.Tests.{le-ltb}
+use Rattle.day.specs.declared.Refusal.the-variants.{AboveLimit}
+use Rattle.day.specs.Sums.{at}
+use Rattle.day.specs.Day.{Day, dayOf, maxDemand, maxCapacity, maxSetup, maxRate}
+use Rattle.day.specs.Refusals.{aboveLimit}
+use Rattle.checks.proofs.Search.{Searched, searched-next, searched-all, refused-here}
+use Rattle.checks.proofs.values.Statement.{statement}
+use Rattle.checks.proofs.values.Tie as tie
+
+-- a capacity that fits 16 bits is not above its limit, so the other four values decide
+others-decide : (d : Day) (k : ℕ) → at (d .capacity) k ≤ maxCapacity → aboveLimit d k ≡ (ltb maxDemand (at (d .demand) k) || ltb maxSetup (at (d .setup) k) || ltb maxRate (at (d .unit) k) || ltb maxRate (at (d .holding) k))
+others-decide d k low = simp (le-ltb maxCapacity (at (d .capacity) k) low, or-false)
+
+abbrev Inv-loop : tie.InvT-loop
+Inv-loop demand capacity setup unit holding i₀ i =
+    Searched (aboveLimit (dayOf demand capacity setup unit holding)) (length demand) i
+
+abbrev μ-loop : tie.MeasureT-loop
+μ-loop demand capacity setup unit holding i₀ i = length demand - i
+
+loop-holds : tie.Need-loop-holds Inv-loop μ-loop
+loop-holds c = record { inside = omega arith; nothing = refl }
+
+mul-above-limit : tie.Need-mul-above-limit Inv-loop μ-loop
+mul-above-limit c = omega arith
+
+shared-slice-read-above-limit : tie.Need-shared-slice-read-above-limit Inv-loop μ-loop
+shared-slice-read-above-limit c = omega arith
+
+mul-above-limit-2 : tie.Need-mul-above-limit-2 Inv-loop μ-loop
+mul-above-limit-2 c = omega arith
+
+shared-slice-read-above-limit-2 : tie.Need-shared-slice-read-above-limit-2 Inv-loop μ-loop
+shared-slice-read-above-limit-2 c = omega arith
+
+mul-above-limit-3 : tie.Need-mul-above-limit-3 Inv-loop μ-loop
+mul-above-limit-3 c = omega arith
+
+shared-slice-read-above-limit-3 : tie.Need-shared-slice-read-above-limit-3 Inv-loop μ-loop
+shared-slice-read-above-limit-3 c = omega arith
+
+mul-above-limit-4 : tie.Need-mul-above-limit-4 Inv-loop μ-loop
+mul-above-limit-4 c = omega arith
+
+shared-slice-read-above-limit-4 : tie.Need-shared-slice-read-above-limit-4 Inv-loop μ-loop
+shared-slice-read-above-limit-4 c = omega arith
+
+above-limit-requires : tie.Need-above-limit-requires Inv-loop μ-loop
+above-limit-requires c κs = tt
+
+-- the loop's head, and the tables
+abbrev at-loop : tie.After-above-limit Inv-loop μ-loop → tie.At-loop Inv-loop μ-loop
+at-loop c = c .before .before .before .before .before .before
+
+abbrev tables : tie.At-loop Inv-loop μ-loop → Day
+tables c =
+    let a = c .before .before .before .before .before .before .args in
+    dayOf (a .demand .now) (a .capacity .now) (a .setup .now) (a .unit .now) (a .holding .now)
+
+-- the call answers the test of the period
+answered : (c : tie.After-above-limit Inv-loop μ-loop) → aboveLimit (tables (at-loop c)) (at-loop c .loop .i) ≡ c .above-limit .result
+answered c =
+    let p = at-loop c in
+    others-decide (tables p) (p .loop .i) (omega (arith, p .before .before .before .before .shared-slice-known2 .given (p .loop .i))) ∙ sym (c .above-limit .ensures)
+
+add-t21 : tie.Need-add-t21 Inv-loop μ-loop
+add-t21 c = omega arith
+
+returns : tie.Need-returns Inv-loop μ-loop
+returns c = refused-here (at-loop (c .before) .loop .inv) AboveLimit (answered (c .before) ∙ c .if1 .taken) (omega arith)
+
+add-i : tie.Need-add-i Inv-loop μ-loop
+add-i c = omega arith
+
+loop-less : tie.Need-loop-less Inv-loop μ-loop
+loop-less c = omega arith
+
+loop-again : tie.Need-loop-again Inv-loop μ-loop
+loop-again c = searched-next (at-loop (c .before) .loop .inv) (answered (c .before) ∙ c .if1 .left) (omega arith)
+
+returns-2 : tie.Need-returns-2 Inv-loop μ-loop
+returns-2 c = rw (searched-all (c .before .loop .inv) (c .loop-test .left)) refl
+
+pub values-spec : {M : Type 1} → statement M
+values-spec =
+    tie.close
+    (tie.spec
+    Inv-loop
+    μ-loop
+    loop-holds
+    mul-above-limit
+    shared-slice-read-above-limit
+    mul-above-limit-2
+    shared-slice-read-above-limit-2
+    mul-above-limit-3
+    shared-slice-read-above-limit-3
+    mul-above-limit-4
+    shared-slice-read-above-limit-4
+    above-limit-requires
+    add-t21
+    returns
+    add-i
+    loop-less
+    loop-again
+    returns-2)

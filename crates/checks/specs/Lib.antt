@@ -1,0 +1,2 @@
+-- What a passed test tells a caller, and how the answers of several calls join to the first refusal of one list.
+pub mod Passed

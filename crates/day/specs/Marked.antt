@@ -1,0 +1,112 @@
+-- Document 01's marked days: the table, and the theorem that each row's outcome is what the meaning says (demands 2 and 3).
+-- Main statement: `marked-right`. One test is computed over the table; what it gives is the proof. Assumes nothing.
+use mathlib.Core.Path.{_≡_}
+use mathlib.Core.List.{List, [], _∷_}
+use mathlib.Core.Logic.{Dec·and}
+use mathlib.Core.Option.{Option, some, Option·map}
+use Prim.Native.Nat.{ℕ, _≤_, _<_}
+use native.Mathlib.Decide.{decLe, decLt, ℕ-discrete}
+use lib.ListN.{length, replicate}
+use Rattle.day.specs.Sums.{at}
+use Rattle.day.specs.Day.{Day, periods, demandTo, capacityTo}
+use Rattle.day.specs.Plan.{Feasible, Optimal, cost, setups}
+use Rattle.day.specs.Search.{given, sure, both, iff?, implies?, both-below, below?, feasible?, smaller?, precedes?, optimal?, none?}
+
+-- what a row claims of its day: its plan, with cost and setups; what some other plan costs; or the period of refusal 7
+pub data Claim : Type 0 where
+  planned : List ℕ → (cost setups : ℕ) → Claim
+  costs : List ℕ → ℕ → Claim
+  refused : (period : ℕ) → Claim
+
+-- needs; capacities; b; p; h, one value for all periods; the claims
+pub record Row : Type 0 where
+  pub demand : List ℕ
+  pub capacity : List ℕ
+  pub setup : ℕ
+  pub unit : ℕ
+  pub holding : ℕ
+  pub claims : List Claim
+
+abbrev row : (demand capacity : List ℕ) (b p h : ℕ) → List Claim → Row
+row demand capacity b p h claims = record { demand = demand; capacity = capacity; setup = b; unit = p; holding = h; claims = claims }
+
+-- M1 to M12
+abbrev pub marked : List Row
+marked =
+    row (0 ∷ []) (0 ∷ []) 5 1 1 (planned (0 ∷ []) 0 0 ∷ [])
+    ∷ row (1 ∷ []) (1 ∷ []) 5 2 9 (planned (1 ∷ []) 7 1 ∷ [])
+    ∷ row (2 ∷ []) (1 ∷ []) 5 2 9 (refused 1 ∷ [])
+    ∷ row (2 ∷ 3 ∷ []) (5 ∷ 5 ∷ []) 10 1 1 (planned (5 ∷ 0 ∷ []) 18 1 ∷ [])
+    ∷ row (2 ∷ 3 ∷ []) (5 ∷ 5 ∷ []) 10 1 4 (planned (2 ∷ 3 ∷ []) 25 2 ∷ [])
+    ∷ row (2 ∷ 2 ∷ []) (4 ∷ 4 ∷ []) 10 1 5 (planned (4 ∷ 0 ∷ []) 24 1 ∷ costs (2 ∷ 2 ∷ []) 24 ∷ [])
+    ∷ row (0 ∷ 4 ∷ []) (3 ∷ 3 ∷ []) 10 1 1 (planned (1 ∷ 3 ∷ []) 25 2 ∷ [])
+    ∷ row (1 ∷ 5 ∷ []) (2 ∷ 3 ∷ []) 0 1 1 (refused 2 ∷ [])
+    ∷ row (1 ∷ 4 ∷ []) (2 ∷ 3 ∷ []) 0 1 1 (planned (2 ∷ 3 ∷ []) 6 2 ∷ [])
+    ∷ row (3 ∷ 0 ∷ []) (2 ∷ 9 ∷ []) 0 1 1 (refused 1 ∷ [])
+    ∷ row (2 ∷ 2 ∷ 3 ∷ []) (4 ∷ 4 ∷ 4 ∷ []) 6 1 1 (planned (4 ∷ 0 ∷ 3 ∷ []) 21 2 ∷ [])
+    ∷ row (0 ∷ 0 ∷ []) (0 ∷ 0 ∷ []) 5 1 1 (planned (0 ∷ 0 ∷ []) 0 0 ∷ [])
+    ∷ []
+
+-- the day of a row
+abbrev pub dayOfRow : Row → Day
+dayOfRow r = record {
+  demand = r .demand;
+  capacity = r .capacity;
+  setup = replicate (length (r .demand)) (r .setup);
+  unit = replicate (length (r .demand)) (r .unit);
+  holding = replicate (length (r .demand)) (r .holding);
+}
+
+-- a plan of the day, and what it costs
+pub record Costs (d : Day) (x : List ℕ) (c : ℕ) : Type 0 where
+  pub feasible : Feasible d (at x)
+  pub cost : cost d (at x) ≡ c
+
+-- the plan of the day, with its cost and setups
+pub record PlannedAs (d : Day) (x : List ℕ) (c s : ℕ) : Type 0 where
+  pub amounts : length x ≡ periods d
+  pub plan : Optimal d (at x)
+  pub cost : cost d (at x) ≡ c
+  pub setups : setups (periods d) (at x) ≡ s
+
+-- there is no plan, and period i, counted from 1, is the first whose summed demand is above the summed capacity
+pub record RefusedAt (d : Day) (i : ℕ) : Type 0 where
+  pub none : (y : ℕ → ℕ) → Feasible d y → ⊥
+  pub inside : i ≤ periods d
+  pub short : capacityTo d i < demandTo d i
+  pub before : (j : ℕ) → j < i → demandTo d j ≤ capacityTo d j
+
+abbrev pub Right : Day → Claim → Type 0
+Right d (planned x c s) = PlannedAs d x c s
+Right d (costs x c) = Costs d x c
+Right d (refused i) = RefusedAt d i
+
+abbrev pub All : {A : Type 0} → (A → Type 0) → List A → Type 0
+All P [] = Unit {0}
+All P (a ∷ rest) = P a × All P rest
+
+-- a test for every entry
+abbrev all? : {A : Type 0} {P : A → Type 0} → ((a : A) → Option (P a)) → (l : List A) → Option (All P l)
+all? p [] = some tt
+all? p (a ∷ rest) = both (p a) (all? p rest)
+
+-- the test of a claim
+abbrev right? : (d : Day) (c : Claim) → Option (Right d c)
+right? d (planned x c s) =
+    Option·map
+    (λ p. record { amounts = p .0; plan = p .1 .0; cost = p .1 .1 .0; setups = p .1 .1 .1 })
+    (both (sure (ℕ-discrete (length x) (periods d)))
+    (both (optimal? d (at x)) (both (sure (ℕ-discrete (cost d (at x)) c)) (sure (ℕ-discrete (setups (periods d) (at x)) s)))))
+right? d (costs x c) =
+    Option·map (λ p. record { feasible = p .0; cost = p .1 }) (both (sure (feasible? d (at x))) (sure (ℕ-discrete (cost d (at x)) c)))
+right? d (refused i) =
+    Option·map
+    (λ p. record { none = p .0; inside = p .1 .0; short = p .1 .1 .0; before = p .1 .1 .1 })
+    (both (none? d)
+    (both (sure (decLe i (periods d)))
+    (both (sure (decLt (capacityTo d i) (demandTo d i))) (sure (below? (λ j. decLe (demandTo d j) (capacityTo d j)) i)))))
+
+-- Every row's claims hold of the written meaning.
+pub marked-right : All (λ r. All (Right (dayOfRow r)) (r .claims)) marked
+unfolding iff? implies? both-below below? Dec·and feasible? smaller? precedes? decLe decLt ℕ-discrete
+marked-right = given (all? (λ r. all? (right? (dayOfRow r)) (r .claims)) marked) tt

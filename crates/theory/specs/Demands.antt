@@ -1,0 +1,64 @@
+-- What demands 2 and 3 say of a day and its plan, beyond the contract of any one call.
+-- Main statements: `feasible-iff`, `shortage-iff`, `shortage-names` (demand 2); `optimal-exists`, `plan-unique`, `plan-first` (demand 3).
+-- Assumes nothing.
+use mathlib.Core.Path.{_≡_, ap}
+use mathlib.Core.Logic.{_⊎_, _↔_}
+use mathlib.Core.Option.{none, some}
+use Prim.Native.Nat.{ℕ, suc, _≤_, _<_}
+use native.Mathlib.Omega.{arith}
+use borrow.Author.Tests.{le-ltb}
+use Rattle.day.specs.declared.Refusal.{Refusal}
+use Rattle.day.specs.declared.Refusal.the-variants.{Shortage}
+use Rattle.day.specs.Find.{nothing-found}
+use Rattle.day.specs.Day.{Day, periods, demandTo, capacityTo, total}
+use Rattle.day.specs.Plan.{Feasible, Optimal, cost}
+use Rattle.day.specs.Refusals.{short, shortage, refuseAt}
+use Rattle.checks.specs.Passed.{FirstShort, shortage-passed, shortage-refused}
+use Rattle.theory.specs.Order.{LastSmaller, smaller-means}
+use Rattle.theory.specs.Recursion as Recursion
+use Rattle.theory.specs.Reachable.{interval, feasible-covered}
+use Rattle.theory.specs.Base.{modelOf, model-rising, feasible-model, model-feasible, optimal-iff, covered-iff}
+
+-- R ≤ C at every period
+abbrev pub Supplied : Day → Type 0
+Supplied d = (k : ℕ) → k < periods d → demandTo d (suc k) ≤ capacityTo d (suc k)
+
+module _ (d : Day) where
+  -- Demand 2: whole amounts satisfy conditions (2) to (4) exactly if R ≤ C at every period.
+  pub feasible-iff : ((x : ℕ → ℕ) × Feasible d x) ↔ Supplied d
+  feasible-iff = (
+    λ p. covered-iff d .0 (feasible-covered (modelOf d) (model-rising d) (periods d) (total d) (p .0) (feasible-model d (p .0) (p .1))),
+    λ s.
+        let c = covered-iff d .1 s in
+        let w = interval (modelOf d) (model-rising d) (periods d) c (total d) (omega arith) (c (periods d) (omega arith)) in
+        (w .0, model-feasible d (w .0) (w .1)),
+  )
+
+  -- Demand 3: where there is a plan at all, there is the plan.
+  pub optimal-exists : (y : ℕ → ℕ) → Feasible d y → (x : ℕ → ℕ) × Optimal d x
+  optimal-exists y f =
+      let w = Recursion.optimal-exists (modelOf d) (periods d) (total d) y (feasible-model d y f) in
+      (w .0, optimal-iff d (w .0) .1 (w .1))
+
+  -- Demand 3: and it is one.
+  pub plan-unique : (x y : ℕ → ℕ) → Optimal d x → Optimal d y → (k : ℕ) → k < periods d → x k ≡ y k
+  plan-unique x y o p = Recursion.optimal-unique (modelOf d) (periods d) (total d) x y (optimal-iff d x .0 o) (optimal-iff d y .0 p)
+
+  -- Demand 3, in its words: every other plan that keeps the rules costs at least as much,
+  -- and one that costs the same has the larger amount in the last period where they differ.
+  pub plan-first : (x y : ℕ → ℕ) → Optimal d x → Feasible d y
+      → (cost d x ≤ cost d y) × (cost d x ≡ cost d y → ((k : ℕ) → k < periods d → x k ≡ y k) ⊎ LastSmaller (periods d) x y)
+  plan-first x y o f = let p = o .first y f in (p .cheap, λ e. smaller-means (periods d) x y (p .small e))
+
+  -- Demand 2: refusal 7 is given exactly if no plan exists.
+  pub shortage-iff : (shortage d ≡ none) ↔ ((x : ℕ → ℕ) × Feasible d x)
+  shortage-iff = (
+    λ e. feasible-iff .1 (shortage-passed d e),
+    λ p.
+        ap (refuseAt Shortage)
+        (nothing-found (short d) (periods d) (λ k l. le-ltb (capacityTo d (suc k)) (demandTo d (suc k)) (feasible-iff .0 p k l))),
+  )
+
+  -- Demand 2: and then it names the first period whose summed demand exceeds the summed capacity.
+  pub shortage-names : (r : Refusal) → shortage d ≡ some r → FirstShort d r
+  shortage-names = shortage-refused d
