@@ -8,9 +8,7 @@ use Prim.Native.Nat.{ℕ, zero, suc, _+_, _-_, _*_, _/_, _%_, _^_, _≤_, _<_}
 use native.Mathlib.Nat.{eq-or-lt-of-le, le-of-suc-le-suc, mul-le-mul-right}
 use native.Mathlib.Decide.{ℕ-discrete}
 use native.Mathlib.Omega.{arith}
-use lib.ListN.{length}
 use Rattle.day.specs.Sums.{at}
-use Rattle.day.specs.Day.{Day, periods}
 use Rattle.theory.specs.Basics.{pick, pick-yes, pick-no}
 use Rattle.theory.specs.Model.{Model}
 use Rattle.theory.specs.Stages.{Solution, begin}
@@ -23,14 +21,6 @@ use Rattle.loads.specs.Bounds.{marker, stageMost, rowMost}
 use Rattle.loads.specs.Cells.{indexOf, stateOf, cellOf}
 use Rattle.loads.specs.Told.{Told, Amount, Chosen, told-most, At, Narrow, cell-told}
 use Rattle.loads.specs.Fill.{Filled, Advanced}
-
--- five tables of one length, of at most 96 periods
-pub record Tables (d : Day) : Type 0 where
-  pub few : periods d ≤ 96
-  pub capacity : length (d .capacity) ≡ periods d
-  pub setup : length (d .setup) ≡ periods d
-  pub unit : length (d .unit) ≡ periods d
-  pub holding : length (d .holding) ≡ periods d
 
 -- p is period i of three tables of 32-bit costs
 pub record Read (setup unit holding : List ℕ) (i due : ℕ) (p : Period) : Type 0 where

@@ -7,10 +7,11 @@ ghost use Rattle.day.specs.Sums.{at};
 ghost use Rattle.day.specs.Plan.{making};
 ghost use Rattle.theory.specs.Loads.{made};
 ghost use Rattle.loads.specs.Cells.{offerOf, cheaperOf, loadOf, cellOf};
-ghost use Rattle.day.specs.Day.{dayOf, periods};
+ghost use Rattle.day.specs.Day.{dayOf};
+ghost use Rattle.checks.specs.Passed.{Limits};
 ghost use Rattle.theory.specs.Base.{modelOf};
 ghost use Rattle.loads.specs.Fill.{Filled, Advanced};
-ghost use Rattle.loads.specs.Run.{Read, Tables, Ran, startOf, stepOf, backOf};
+ghost use Rattle.loads.specs.Run.{Read, Ran, startOf, stepOf, backOf};
 ghost use Rattle.loads.specs.Bounds.{productMost, stockMost, rowMost};
 
 // A number above every cost: what can't be reached costs this or more.
@@ -174,7 +175,7 @@ pub fn run(
     row: &mut [u64],
     picks: &mut [u16],
 )
-    requires { ⌜ Tables (dayOf (now demand) (now capacity) (now setup) (now unit) (now holding)) × (l + count ≤ length (now demand)) × (top ≤ 193) × (top < width) × (top < length (now row)) × (count * width ≤ length (now picks)) ⌝ }
+    requires { ⌜ Limits (dayOf (now demand) (now capacity) (now setup) (now unit) (now holding)) × (l + count ≤ length (now demand)) × (top ≤ 193) × (top < width) × (top < length (now row)) × (count * width ≤ length (now picks)) ⌝ }
     ensures { λ _. ⌜ Ran (modelOf (dayOf (now (demand .entry)) (now (capacity .entry)) (now (setup .entry)) (now (unit .entry)) (now (holding .entry)))) l loads count top width (now (row .exit)) (now (picks .exit)) ⌝ }
 {
     start(top, row);

@@ -87,7 +87,7 @@ add-due c = omega (arith, c .shared-slice-known6 .given (c .before .before .befo
 period-at-requires : tie.Need-period-at-requires Inv-loop μ-loop
 period-at-requires c κs =
     let pre = c .before .before .before .before .before .before .before .before .before .before .before .before .before .before .pre in
-    (omega (arith, pre .0 .setup, pre .1), omega (arith, pre .0 .unit, pre .1), omega (arith, pre .0 .holding, pre .1))
+    (omega (arith, pre .0 .lengths .setup, pre .1), omega (arith, pre .0 .lengths .unit, pre .1), omega (arith, pre .0 .lengths .holding, pre .1))
 
 advance-requires : tie.Need-advance-requires Inv-loop μ-loop
 advance-requires c κs =
