@@ -8,6 +8,7 @@ use lib.ListN.{length, take, drop}
 use Rattle.day.specs.Sums.{at}
 use Rattle.theory.specs.Model.{Model}
 use Rattle.theory.specs.Stages.{Solution}
+use Rattle.theory.specs.Regeneration.{glue}
 use Rattle.theory.specs.Loads.{loadsTo}
 use Rattle.loads.specs.declared.Loads.{Loads}
 use Rattle.loads.specs.Bounds.{marker, stageMost}
@@ -43,17 +44,36 @@ pub record Sized (n : ℕ) (costs choices : List ℕ) : Type 0 where
 pub sized-as : {n : ℕ} {costs choices costs₁ choices₁ : List ℕ} → Sized n costs choices → length costs₁ ≡ length costs → length choices₁ ≡ length choices → Sized n costs₁ choices₁
 sized-as s e f = record { costs′ = e ∙ s .costs′; choices′ = f ∙ s .choices′ }
 
--- the rows are as they were
-pub record Kept (n : ℕ) (costs choices costs′ choices′ : List ℕ) : Type 0 where
-  pub rowCosts : take (n + 1) costs′ ≡ take (n + 1) costs
-  pub rowPlans : take (n * n + n) choices′ ≡ take (n * n + n) choices
+-- the first a cost cells and b choice cells are as they were
+pub record Kept (a b : ℕ) (costs choices costs₁ choices₁ : List ℕ) : Type 0 where
+  pub costs′ : take a costs₁ ≡ take a costs
+  pub choices′ : take b choices₁ ≡ take b choices
 
 -- past them stand the runs of `count` periods from l on
 pub record Laid (M : Model) (n l : ℕ) (w : Loads) (count top : ℕ) (costs choices costs′ choices′ : List ℕ) : Type 0 where
-  pub kept : Kept n costs choices costs′ choices′
+  pub kept : Kept (n + 1) (n * n + n) costs choices costs′ choices′
   pub ran : Ran M l w count top (2 * n + 2) (drop (n + 1) costs′) (drop (n * n + n) choices′)
 
 -- a run was tried: its cost and amounts
 pub record Trial (M : Model) (n l c W : ℕ) (costs choices : List ℕ) (r : ℕ) (costs′ choices′ plan : List ℕ) : Type 0 where
-  pub kept : Kept n costs choices costs′ choices′
+  pub kept : Kept (n + 1) (n * n + n) costs choices costs′ choices′
   pub held : Held (length plan * stageMost) r plan (runOf M l c W (length plan))
+
+-- the amounts of row m, and the row with its cost
+abbrev pub rowOf : ℕ → List ℕ → ℕ → List ℕ
+rowOf n choices m = take m (drop (m * n) choices)
+
+abbrev pub solutionOf : ℕ → List ℕ → List ℕ → ℕ → Solution
+solutionOf n costs choices m = record { cost = at costs m; plan = rowOf n choices m }
+
+-- row l, and after it the run to the period after which `count` more are past
+pub record Candidate (M : Model) (n l c W count : ℕ) (costs choices : List ℕ) (r : ℕ) (costs₁ choices₁ plan : List ℕ) : Type 0 where
+  pub kept : Kept (n + 1) (n * n + n) costs choices costs₁ choices₁
+  pub held : Held ((l + count) * stageMost) r plan (glue (some (solutionOf n costs choices l)) (runOf M l c W count))
+
+-- it costs and makes what the two do together
+pub glue-held : (A B v : ℕ) (f : Solution) (plan : List ℕ) (o : Option Solution) → f .cost ≤ A → Held B v plan o
+    → Held (A + B) (f .cost + v) (f .plan ++ plan) (glue (some f) o)
+glue-held A B v f plan none h t = record { told = (omega (arith, t .told .0), omega (arith, t .told .1)); amounts = tt }
+glue-held A B v f plan (some g) h t =
+    record { told = (omega (arith, t .told .0), omega (arith, t .told .1)); amounts = ap (λ (l : List ℕ). f .plan ++ l) (t .amounts) }

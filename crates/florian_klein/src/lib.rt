@@ -12,7 +12,7 @@ ghost use Rattle.theory.specs.Loads.{loadsTo};
 ghost use Rattle.loads.specs.Bounds.{stageMost};
 ghost use Rattle.loads.specs.Cells.{indexOf};
 ghost use Rattle.florian_klein.specs.Order.{Ordered, Decided};
-ghost use Rattle.florian_klein.specs.Rows.{Split, Sized, Laid, Trial};
+ghost use Rattle.florian_klein.specs.Rows.{Split, Sized, Laid, Trial, Candidate};
 use loads::Loads;
 use loads::read_back;
 use loads::run;
@@ -144,4 +144,27 @@ fn trial(
     let past = n * n + n;
     read_back(full, 2 * n + 2, &choices[past..], top, slots);
     costs[n + 1 + top]
+}
+
+// Row l, and after it the run from l that makes `left`: as many periods as there are slots. Its amounts, and its cost.
+fn candidate(
+    demand: &[u16],
+    capacity: &[u16],
+    setup: &[u32],
+    unit: &[u32],
+    holding: &[u32],
+    l: usize,
+    left: u64,
+    costs: &mut [u64],
+    choices: &mut [u16],
+    slots: &mut [u16],
+) -> u64
+    requires { ⌜ Limits (dayOf (now demand) (now capacity) (now setup) (now unit) (now holding)) × (l ≤ length (now slots)) × (length (now slots) ≤ length (now demand)) × (0 < at (now capacity) 0) × (left ≤ at (now capacity) 0 * length (now demand)) × Sized (length (now demand)) (now costs) (now choices) × (at (now costs) l ≤ l * stageMost) ⌝ }
+    ensures { λ r. ⌜ Candidate (modelOf (dayOf (now (demand .entry)) (now (capacity .entry)) (now (setup .entry)) (now (unit .entry)) (now (holding .entry)))) (length (now (demand .entry))) l (at (now (capacity .entry)) 0) left (length (now (slots .entry)) - l) (now (costs .entry)) (now (choices .entry)) r (now (costs .exit)) (now (choices .exit)) (now (slots .exit)) ⌝ }
+{
+    let from = l * demand.len();
+    copy(&choices[from..from + l], &mut slots[0..l]);
+    let before = costs[l];
+    let run = trial(demand, capacity, setup, unit, holding, l, left, costs, choices, &mut slots[l..]);
+    before + run
 }

@@ -24,8 +24,8 @@ laid M n l w count top costs choices row picks s ran =
     let f = put-end (n * n + n) choices picks b in
     record {
       kept = record {
-        rowCosts = take-put (n + 1) (length costs - (n + 1)) costs row a;
-        rowPlans = take-put (n * n + n) (length choices - (n * n + n)) choices picks b;
+        costs′ = take-put (n + 1) (length costs - (n + 1)) costs row a;
+        choices′ = take-put (n * n + n) (length choices - (n * n + n)) choices picks b;
       };
       ran = rw (e, f) ran;
     }
