@@ -5,7 +5,7 @@ ghost use mathlib.Core.Bool.{Bool};
 ghost use Prim.Native.Nat.{ℕ, _+_, _-_, _*_, _≤_, _<_, _/_, _%_, min};
 ghost use lib.ListN.{length, take, drop};
 ghost use Rattle.day.specs.Sums.{at, sumTo};
-ghost use Rattle.day.specs.Day.{dayOf, periods};
+ghost use Rattle.day.specs.Day.{dayOf, demandTo};
 ghost use Rattle.checks.specs.Passed.{Limits};
 ghost use Rattle.theory.specs.Base.{modelOf};
 ghost use Rattle.theory.specs.Loads.{loadsTo};
@@ -13,6 +13,8 @@ ghost use Rattle.loads.specs.Bounds.{stageMost};
 ghost use Rattle.loads.specs.Cells.{indexOf};
 ghost use Rattle.florian_klein.specs.Order.{Ordered, Decided};
 ghost use Rattle.florian_klein.specs.Rows.{Split, Sized, Laid, Trial, Candidate};
+ghost use Rattle.florian_klein.specs.Best.{Best, Row};
+ghost use Rattle.florian_klein.specs.Problem.{Problem, Stored, Settled, Considered};
 use loads::Loads;
 use loads::read_back;
 use loads::run;
@@ -167,4 +169,47 @@ fn candidate(
     let before = costs[l];
     let run = trial(demand, capacity, setup, unit, holding, l, left, costs, choices, &mut slots[l..]);
     before + run
+}
+
+// The amounts in the slots become the row of as many periods, at the cost v.
+fn keep(v: u64, n: usize, slots: &[u16], costs: &mut [u64], choices: &mut [u16])
+    requires { ⌜ (n ≤ 96) × (length (now slots) ≤ n) × Sized n (now costs) (now choices) ⌝ }
+    ensures { λ _. ⌜ Stored n (length (now (slots .entry))) v (now (slots .entry)) (now (costs .entry)) (now (choices .entry)) (now (costs .exit)) (now (choices .exit)) ⌝ }
+{
+    let m = slots.len();
+    let from = m * n;
+    copy(slots, &mut choices[from..from + m]);
+    costs[m] = v;
+}
+
+// They become it only where they go before what stands there.
+fn settle(v: u64, n: usize, slots: &[u16], costs: &mut [u64], choices: &mut [u16])
+    requires { ⌜ (n ≤ 96) × (length (now slots) ≤ n) × Sized n (now costs) (now choices) ⌝ }
+    ensures { λ _. ⌜ Settled n (length (now (slots .entry))) v (now (slots .entry)) (now (costs .entry)) (now (choices .entry)) (now (costs .exit)) (now (choices .exit)) ⌝ }
+{
+    let m = slots.len();
+    let from = m * n;
+    if goes_first(v, slots, costs[m], &choices[from..from + m]) {
+        keep(v, n, slots, costs, choices);
+    }
+}
+
+// The candidate that begins with row l is tried for the row of as many periods as there are slots, and kept where it goes first.
+fn consider(
+    demand: &[u16],
+    capacity: &[u16],
+    setup: &[u32],
+    unit: &[u32],
+    holding: &[u32],
+    l: usize,
+    left: u64,
+    costs: &mut [u64],
+    choices: &mut [u16],
+    slots: &mut [u16],
+)
+    requires { ⌜ Problem (dayOf (now demand) (now capacity) (now setup) (now unit) (now holding)) × (l < length (now slots)) × (length (now slots) ≤ length (now demand)) × (left ≡ demandTo (dayOf (now demand) (now capacity) (now setup) (now unit) (now holding)) (length (now slots)) - demandTo (dayOf (now demand) (now capacity) (now setup) (now unit) (now holding)) l) × Sized (length (now demand)) (now costs) (now choices) × Row (modelOf (dayOf (now demand) (now capacity) (now setup) (now unit) (now holding))) (length (now demand)) l (now costs) (now choices) × Best (modelOf (dayOf (now demand) (now capacity) (now setup) (now unit) (now holding))) (at (now capacity) 0) (length (now demand)) (length (now slots)) l (now costs) (now choices) ⌝ }
+    ensures { λ _. ⌜ Considered (dayOf (now (demand .entry)) (now (capacity .entry)) (now (setup .entry)) (now (unit .entry)) (now (holding .entry))) (length (now (slots .entry))) (l + 1) (now (costs .entry)) (now (choices .entry)) (now (costs .exit)) (now (choices .exit)) ⌝ }
+{
+    let v = candidate(demand, capacity, setup, unit, holding, l, left, costs, choices, slots);
+    settle(v, demand.len(), slots, costs, choices);
 }
