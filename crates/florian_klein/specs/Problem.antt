@@ -46,6 +46,11 @@ pub record Considered (d : Day) (m i : ℕ) (costs choices costs₁ choices₁ :
   pub kept : Kept m (m * periods d) costs choices costs₁ choices₁
   pub best : Best (modelOf d) (at (d .capacity) 0) (periods d) m i costs₁ choices₁
 
+-- row m is found; the rows before it are as they were
+pub record Found (d : Day) (m : ℕ) (costs choices costs₁ choices₁ : List ℕ) : Type 0 where
+  pub kept : Kept m (m * periods d) costs choices costs₁ choices₁
+  pub row : Row (modelOf d) (periods d) m costs₁ choices₁
+
 module _ (d : Day) (problem : Problem d) where
   abbrev M : Model
   M = modelOf d
@@ -126,3 +131,8 @@ module _ (d : Day) (problem : Problem d) where
     pub considered : (costs₂ choices₂ : List ℕ) → Settled n m v plan costs₁ choices₁ costs₂ choices₂ → Considered d m (l + 1) costs choices costs₂ choices₂
     considered costs₂ choices₂ (old s e f) = rw (e, f) (old-kept s)
     considered costs₂ choices₂ (new s stored) = new-kept costs₂ choices₂ s stored
+
+  -- All candidates for row m are tried.
+  pub all-considered : (m : ℕ) → 0 < m → m ≤ n → (costs choices costs₁ choices₁ : List ℕ) → Considered d m m costs choices costs₁ choices₁ → Found d m costs choices costs₁ choices₁
+  all-considered m pos h costs choices costs₁ choices₁ a =
+      record { kept = a .kept; row = row-found M (model-rising d) (model-unlimited d) c n m costs₁ choices₁ pos (equal-to m h) (covered-to m h) (a .best) }

@@ -14,8 +14,9 @@ ghost use Rattle.loads.specs.Cells.{indexOf};
 ghost use Rattle.florian_klein.specs.Order.{Ordered, Decided};
 ghost use Rattle.florian_klein.specs.Rows.{Split, Sized, Laid, Trial, Candidate};
 ghost use Rattle.florian_klein.specs.Best.{Best, Row};
-ghost use Rattle.florian_klein.specs.Problem.{Problem, Stored, Settled, Considered};
+ghost use Rattle.florian_klein.specs.Problem.{Problem, Stored, Settled, Considered, Found};
 use loads::Loads;
+use loads::NONE;
 use loads::read_back;
 use loads::run;
 
@@ -212,4 +213,30 @@ fn consider(
 {
     let v = candidate(demand, capacity, setup, unit, holding, l, left, costs, choices, slots);
     settle(v, demand.len(), slots, costs, choices);
+}
+
+// The row of as many periods as there are slots, whose demand is `need`, from the rows before it.
+fn row(
+    demand: &[u16],
+    capacity: &[u16],
+    setup: &[u32],
+    unit: &[u32],
+    holding: &[u32],
+    need: u64,
+    costs: &mut [u64],
+    choices: &mut [u16],
+    slots: &mut [u16],
+)
+    requires { ⌜ Problem (dayOf (now demand) (now capacity) (now setup) (now unit) (now holding)) × (0 < length (now slots)) × (length (now slots) ≤ length (now demand)) × (need ≡ demandTo (dayOf (now demand) (now capacity) (now setup) (now unit) (now holding)) (length (now slots))) × Sized (length (now demand)) (now costs) (now choices) × ((k : ℕ) → k < length (now slots) → Row (modelOf (dayOf (now demand) (now capacity) (now setup) (now unit) (now holding))) (length (now demand)) k (now costs) (now choices)) ⌝ }
+    ensures { λ _. ⌜ Found (dayOf (now (demand .entry)) (now (capacity .entry)) (now (setup .entry)) (now (unit .entry)) (now (holding .entry))) (length (now (slots .entry))) (now (costs .entry)) (now (choices .entry)) (now (costs .exit)) (now (choices .exit)) ⌝ }
+{
+    let m = slots.len();
+    costs[m] = NONE;
+    let mut left = need;
+    let mut l = 0;
+    while l < m {
+        consider(demand, capacity, setup, unit, holding, l, left, costs, choices, slots);
+        left -= demand[l] as u64;
+        l += 1;
+    }
 }
