@@ -240,3 +240,27 @@ fn row(
         l += 1;
     }
 }
+
+// Every row; the last is the plan of the day.
+pub fn rows(
+    demand: &[u16],
+    capacity: &[u16],
+    setup: &[u32],
+    unit: &[u32],
+    holding: &[u32],
+    costs: &mut [u64],
+    choices: &mut [u16],
+    slots: &mut [u16],
+)
+    requires { ⌜ Problem (dayOf (now demand) (now capacity) (now setup) (now unit) (now holding)) × Sized (length (now demand)) (now costs) (now choices) × (length (now slots) ≡ length (now demand)) ⌝ }
+    ensures { λ _. ⌜ Row (modelOf (dayOf (now (demand .entry)) (now (capacity .entry)) (now (setup .entry)) (now (unit .entry)) (now (holding .entry)))) (length (now (demand .entry))) (length (now (demand .entry))) (now (costs .exit)) (now (choices .exit)) ⌝ }
+{
+    costs[0] = 0;
+    let mut need: u64 = 0;
+    let mut m: usize = 0;
+    while m < demand.len() {
+        need += demand[m] as u64;
+        m += 1;
+        row(demand, capacity, setup, unit, holding, need, costs, choices, &mut slots[0..m]);
+    }
+}
