@@ -38,12 +38,6 @@ held M m i = sumTo (λ k. M .holding k * (M .floor m - M .floor (suc k))) i
 abbrev pub rest : Model → ℕ → ℕ → ℕ
 rest M m l = held M m m - held M m l
 
-pub rest-last : (M : Model) (m : ℕ) → rest M m m ≡ 0
-rest-last M m = omega arith
-
-pub rest-step : (M : Model) (m l : ℕ) → l < m → rest M m l ≡ M .holding l * (M .floor m - M .floor (suc l)) + rest M m (suc l)
-rest-step M m l h = omega (arith, sum-grows (λ k. M .holding k * (M .floor m - M .floor (suc k))) (suc l) m h)
-
 -- what it costs to come to m from l, where to come to l costs `costs l`
 abbrev pub price : Model → (ℕ → ℕ) → ℕ → ℕ → ℕ
 price M costs m l = costs l + production M l (M .floor m - M .floor l) + rest M m l
