@@ -21,7 +21,7 @@ use loads::read_back;
 use loads::run;
 
 // One row as another holds it.
-fn copy(from: &[u16], to: &mut [u16])
+pub fn copy(from: &[u16], to: &mut [u16])
     requires { ⌜ length (now to) ≡ length (now from) ⌝ }
     ensures { λ _. ⌜ now (to .exit) ≡ now (from .entry) ⌝ }
 {
@@ -120,7 +120,20 @@ fn lay(
     let width = 2 * n + 2;
     let from = n + 1;
     let past = n * n + n;
-    run(demand, capacity, setup, unit, holding, l, count, loads, top, width, &mut costs[from..], &mut choices[past..]);
+    run(
+        demand,
+        capacity,
+        setup,
+        unit,
+        holding,
+        l,
+        count,
+        loads,
+        top,
+        width,
+        &mut costs[from..],
+        &mut choices[past..],
+    );
 }
 
 // The run from l that makes `left` in as many periods as there are slots: its amounts, and its cost.
@@ -142,7 +155,18 @@ fn trial(
     let n = demand.len();
     let full = capacity[0];
     let lots = split(left, full);
-    lay(demand, capacity, setup, unit, holding, l, slots.len(), lots, costs, choices);
+    lay(
+        demand,
+        capacity,
+        setup,
+        unit,
+        holding,
+        l,
+        slots.len(),
+        lots,
+        costs,
+        choices,
+    );
     let top = lots.top;
     let past = n * n + n;
     read_back(full, 2 * n + 2, &choices[past..], top, slots);
@@ -168,7 +192,18 @@ fn candidate(
     let from = l * demand.len();
     copy(&choices[from..from + l], &mut slots[0..l]);
     let before = costs[l];
-    let run = trial(demand, capacity, setup, unit, holding, l, left, costs, choices, &mut slots[l..]);
+    let run = trial(
+        demand,
+        capacity,
+        setup,
+        unit,
+        holding,
+        l,
+        left,
+        costs,
+        choices,
+        &mut slots[l..],
+    );
     before + run
 }
 
@@ -211,7 +246,18 @@ fn consider(
     requires { ⌜ Problem (dayOf (now demand) (now capacity) (now setup) (now unit) (now holding)) × (l < length (now slots)) × (length (now slots) ≤ length (now demand)) × (left ≡ demandTo (dayOf (now demand) (now capacity) (now setup) (now unit) (now holding)) (length (now slots)) - demandTo (dayOf (now demand) (now capacity) (now setup) (now unit) (now holding)) l) × Sized (length (now demand)) (now costs) (now choices) × Row (modelOf (dayOf (now demand) (now capacity) (now setup) (now unit) (now holding))) (length (now demand)) l (now costs) (now choices) × Best (modelOf (dayOf (now demand) (now capacity) (now setup) (now unit) (now holding))) (at (now capacity) 0) (length (now demand)) (length (now slots)) l (now costs) (now choices) ⌝ }
     ensures { λ _. ⌜ Considered (dayOf (now (demand .entry)) (now (capacity .entry)) (now (setup .entry)) (now (unit .entry)) (now (holding .entry))) (length (now (slots .entry))) (l + 1) (now (costs .entry)) (now (choices .entry)) (now (costs .exit)) (now (choices .exit)) ⌝ }
 {
-    let v = candidate(demand, capacity, setup, unit, holding, l, left, costs, choices, slots);
+    let v = candidate(
+        demand,
+        capacity,
+        setup,
+        unit,
+        holding,
+        l,
+        left,
+        costs,
+        choices,
+        slots,
+    );
     settle(v, demand.len(), slots, costs, choices);
 }
 
@@ -235,7 +281,18 @@ fn row(
     let mut left = need;
     let mut l = 0;
     while l < m {
-        consider(demand, capacity, setup, unit, holding, l, left, costs, choices, slots);
+        consider(
+            demand,
+            capacity,
+            setup,
+            unit,
+            holding,
+            l,
+            left,
+            costs,
+            choices,
+            slots,
+        );
         left -= demand[l] as u64;
         l += 1;
     }
@@ -261,6 +318,16 @@ pub fn rows(
     while m < demand.len() {
         need += demand[m] as u64;
         m += 1;
-        row(demand, capacity, setup, unit, holding, need, costs, choices, &mut slots[0..m]);
+        row(
+            demand,
+            capacity,
+            setup,
+            unit,
+            holding,
+            need,
+            costs,
+            choices,
+            &mut slots[0..m],
+        );
     }
 }

@@ -155,7 +155,13 @@ fn better(best: Best, plan: [u16; 4], w: Weighed) -> Best {
 }
 
 // The plan of a tiny day: every plan with amounts up to 8 is weighed.
-pub fn search(demand: &[u16], capacity: &[u16], setup: &[u32], unit: &[u32], holding: &[u32]) -> Best {
+pub fn search(
+    demand: &[u16],
+    capacity: &[u16],
+    setup: &[u32],
+    unit: &[u32],
+    holding: &[u32],
+) -> Best {
     let mut best = Best {
         found: false,
         cost: 0,

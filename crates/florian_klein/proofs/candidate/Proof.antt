@@ -111,8 +111,7 @@ part-trial-end c = search needs
 trial-requires : tie.Need-trial-requires
 trial-requires c κs =
     let a = c .before .before .before .before .before .before .before .before .before .before .before .before .before .before .before .before .before .before .args in
-    let pre = c .before .before .before .before .before .before .before .before .before .before .before .before .before .before .before .before .before .before .pre in
-    (
+    let pre = c .before .before .before .before .before .before .before .before .before .before .before .before .before .before .before .before .before .before .pre in (
       pre .0,
       rest-fits (length (a .demand .now)) (a .l) (a .costs .now) (a .choices .now) (a .slots .now) (c .before .before .before .before .before .before .copy .last .1 .0) (pre .1) (pre .2) (pre .5) (c .before .before .before .before .before .before .copy .ensures),
       pre .3,

@@ -29,8 +29,7 @@ candidate-requires : tie.Need-candidate-requires
 candidate-requires c κs =
     let a = c .before .before .before .before .before .before .before .before .before .before .before .args in
     let pre = c .before .before .before .before .before .before .before .before .before .before .before .pre in
-    let d : Day = dayOf (a .demand .now) (a .capacity .now) (a .setup .now) (a .unit .now) (a .holding .now) in
-    (
+    let d : Day = dayOf (a .demand .now) (a .capacity .now) (a .setup .now) (a .unit .now) (a .holding .now) in (
       pre .0 .limits,
       omega (arith, pre .1),
       pre .2,

@@ -76,8 +76,7 @@ consider-requires c κs =
     let pre = c .before .before .before .before .before .before .before .before .before .before .before .before .before .pre in
     let inv = c .before .before .before .before .loop .inv in
     let size = length-set (a .costs .now) (length (a .slots .now)) marker in
-    rw (inv .2)
-    (
+    rw (inv .2) (
       pre .0,
       c .before .before .before .loop-test .taken,
       pre .2,
@@ -113,8 +112,7 @@ loop-again c =
     let d : Day = dayOf (a .demand .now) (a .capacity .now) (a .setup .now) (a .unit .now) (a .holding .now) in
     let inv = c .before .before .before .before .before .before .before .before .before .before .before .before .loop .inv in
     let kept = c .before .before .before .before .before .before .before .consider .kept in
-    let a′ : Considered d (length (a .slots .now)) (c .before .before .before .before .before .before .before .before .before .before .before .before .loop .l + 1) (c .before .before .before .before .before .before .before .before .before .before .before .before .loop .costs) (c .before .before .before .before .before .before .before .before .before .before .before .before .loop .choices) (c .before .before .before .before .before .before .before .consider .last .1 .1 .1 .1 .1 .1 .1 .0) (c .before .before .before .before .before .before .before .consider .last .1 .1 .1 .1 .1 .1 .1 .1 .0) = rw (inv .2) at (c .before .before .before .before .before .before .before .consider .ensures) in
-    (
+    let a′ : Considered d (length (a .slots .now)) (c .before .before .before .before .before .before .before .before .before .before .before .before .loop .l + 1) (c .before .before .before .before .before .before .before .before .before .before .before .before .loop .costs) (c .before .before .before .before .before .before .before .before .before .before .before .before .loop .choices) (c .before .before .before .before .before .before .before .consider .last .1 .1 .1 .1 .1 .1 .1 .0) (c .before .before .before .before .before .before .before .consider .last .1 .1 .1 .1 .1 .1 .1 .1 .0) = rw (inv .2) at (c .before .before .before .before .before .before .before .consider .ensures) in (
       omega arith,
       less-left d _ _ _ (c .before .before .before .before .before .before .before .before .before .before .before .loop-test .taken) (inv .1) .1,
       kept .1 .1 .1 .1 .1 .1 .1 .1 .1 .0 ∙ inv .2,

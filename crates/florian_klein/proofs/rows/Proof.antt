@@ -56,8 +56,7 @@ slice-write-costs c = omega (arith, c .before .before .before .before .before .b
 loop-holds : tie.Need-loop-holds Inv-loop μ-loop
 loop-holds c =
     let a = c .before .before .before .before .before .before .before .before .args in
-    let pre = c .before .before .before .before .before .before .before .before .pre in
-    (
+    let pre = c .before .before .before .before .before .before .before .before .pre in (
       omega arith,
       refl,
       omega arith,
@@ -97,8 +96,7 @@ row-requires c κs =
     let pre = c .before .before .before .before .before .before .before .before .before .before .before .before .before .before .pre in
     let inv = c .before .before .before .before .before .loop .inv in
     let m : ℕ = c .before .before .before .before .before .loop .m in
-    rw (part-length (m + 1) (c .before .before .before .before .before .loop .slots) (omega (arith, inv .5, pre .2, c .before .before .before .before .loop-test .taken)))
-    (
+    rw (part-length (m + 1) (c .before .before .before .before .before .loop .slots) (omega (arith, inv .5, pre .2, c .before .before .before .before .loop-test .taken))) (
       pre .0,
       omega arith,
       omega (arith, c .before .before .before .before .loop-test .taken),
@@ -120,8 +118,7 @@ loop-again c =
     let last = c .before .before .before .before .before .before .row .last in
     let m : ℕ = c .before .before .before .before .before .before .before .before .before .before .before .before .loop .m in
     let size = part-length (m + 1) (c .before .before .before .before .before .before .before .before .before .before .before .before .loop .slots) (omega (arith, inv .5, pre .2, c .before .before .before .before .before .before .before .before .before .before .before .loop-test .taken)) in
-    let found : Found d (m + 1) (c .before .before .before .before .before .before .before .before .before .before .before .before .loop .costs) (c .before .before .before .before .before .before .before .before .before .before .before .before .loop .choices) (last .1 .1 .1 .1 .1 .1 .0) (last .1 .1 .1 .1 .1 .1 .1 .0) = rw size at (c .before .before .before .before .before .before .row .ensures) in
-    (
+    let found : Found d (m + 1) (c .before .before .before .before .before .before .before .before .before .before .before .before .loop .costs) (c .before .before .before .before .before .before .before .before .before .before .before .before .loop .choices) (last .1 .1 .1 .1 .1 .1 .0) (last .1 .1 .1 .1 .1 .1 .1 .0) = rw size at (c .before .before .before .before .before .before .row .ensures) in (
       omega (arith, c .before .before .before .before .before .before .before .before .before .before .before .loop-test .taken),
       omega (arith, inv .1, ap (demandTo d) (add-one m)),
       omega (arith, inv .2, c .before .before .before .before .before .before .before .before .before .before .shared-slice-known6 .given m),

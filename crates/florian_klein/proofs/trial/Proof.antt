@@ -99,8 +99,7 @@ read-back-requires c κs =
     let pre = c .before .before .before .before .before .before .before .before .before .before .before .before .before .before .before .before .before .before .before .before .pre in
     let a = c .before .before .before .before .before .before .before .before .before .before .before .before .before .before .before .before .before .before .before .before .args in
     let kept = c .before .before .before .before .before .before .before .lay .kept in
-    let last = c .before .before .before .before .before .before .before .lay .last in
-    (
+    let last = c .before .before .before .before .before .before .before .lay .last in (
       omega (arith, ends-low _ _ _ _ _ (c .before .before .before .before .before .before .before .before .before .before .split .ensures) (pre .3)),
       past-rows (length (a .demand .now)) (length (a .slots .now)) (last .1 .1 .1 .1 .1 .1 .1 .1 .0) (last .1 .1 .1 .1 .1 .1 .1 .1 .1 .0) (sized-as (pre .4) (kept .1 .1 .1 .1 .1 .1 .1 .1 .0) (kept .1 .1 .1 .1 .1 .1 .1 .1 .1 .0)) (omega (arith, pre .1)) .1,
     )
@@ -116,11 +115,12 @@ mul-result c = omega (arith, c .before .before .before .before .before .before .
 
 slice-read-result : tie.Need-slice-read-result
 slice-read-result c =
-    omega
-    (arith,
-    c .before .before .before .before .before .before .before .before .before .before .before .before .before .before .before .before .before .before .before .before .before .before .before .before .pre .4 .costs′,
-    c .before .before .before .before .before .before .before .before .before .before .before .lay .kept .1 .1 .1 .1 .1 .1 .1 .1 .0,
-    ends-low (length (c .before .before .before .before .before .before .before .before .before .before .before .before .before .before .before .before .before .before .before .before .before .before .before .before .args .demand .now)) _ _ _ _ (c .before .before .before .before .before .before .before .before .before .before .before .before .before .before .split .ensures) (c .before .before .before .before .before .before .before .before .before .before .before .before .before .before .before .before .before .before .before .before .before .before .before .before .pre .3))
+    omega (
+      arith,
+      c .before .before .before .before .before .before .before .before .before .before .before .before .before .before .before .before .before .before .before .before .before .before .before .before .pre .4 .costs′,
+      c .before .before .before .before .before .before .before .before .before .before .before .lay .kept .1 .1 .1 .1 .1 .1 .1 .1 .0,
+      ends-low (length (c .before .before .before .before .before .before .before .before .before .before .before .before .before .before .before .before .before .before .before .before .before .before .before .before .args .demand .now)) _ _ _ _ (c .before .before .before .before .before .before .before .before .before .before .before .before .before .before .split .ensures) (c .before .before .before .before .before .before .before .before .before .before .before .before .before .before .before .before .before .before .before .before .before .before .before .before .pre .3),
+    )
 
 same-length : tie.Need-same-length
 same-length c = search needs
