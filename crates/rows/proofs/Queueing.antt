@@ -1,0 +1,258 @@
+-- What the loops over the queue compute, in plain variables.
+-- Assumes nothing.
+use mathlib.Core.Path.{_≡_, refl, sym, ap, _∙_}
+use mathlib.Core.List.{List}
+use mathlib.Core.Logic.{⊎-elim}
+use Prim.Native.Nat.{ℕ, _+_, _-_, _≤_, _<_, min}
+use native.Mathlib.Nat.{eq-or-lt-of-le, lt-trans}
+use native.Mathlib.Decide.{decLt}
+use native.Mathlib.Numerals.{add-one}
+use native.Mathlib.Omega.{arith}
+use lib.ListN.{length, set}
+use lib.Seq.{getD-set-other}
+use Rattle.day.specs.Sums.{at, below}
+use Rattle.theory.specs.Basics.{pick}
+use Rattle.rows.specs.declared.Stage.{Stage}
+use Rattle.rows.specs.declared.Choice.{Choice}
+use Rattle.rows.specs.declared.Cell.{Cell}
+use Rattle.rows.specs.Row.{rowAt, choiceOf, bestOf, cellOf, Bounded, Open, After, Leads, Ready, Stepped}
+use Rattle.rows.specs.Queue.{keyOf, Enters, Queue, Window, Trimmed, Outdone, Room, Entered, Scratch, Opened}
+use Rattle.rows.specs.Queue.{queue-none, queue-later, queue-enter, queue-ext, best-either}
+use Rattle.rows.proofs.Laws.{Stepping, stepping-none, stepping-open, stepping-free, stepping-more, stepping-all}
+
+-- the cells from head to `first` lie below `least`
+pub record Trimming (cells : List ℕ) (least head tail first : ℕ) : Type 0 where
+  pub from : head ≤ first
+  pub to : first ≤ tail
+  pub gone : (i : ℕ) → i < first → head ≤ i → at cells i < least
+
+module _ {cells : List ℕ} {least head tail first : ℕ} where
+  pub trimming-none : head ≤ tail → first ≡ head → Trimming cells least head tail first
+  trimming-none l e = record { from = omega arith; to = omega arith; gone = λ i a b. absurd (omega arith) }
+
+  pub trimming-more : Trimming cells least head tail first → first < tail → at cells first < least → Trimming cells least head tail (first + 1)
+  trimming-more t l h =
+      record {
+        from = omega (arith, t .from);
+        to = omega arith;
+        gone = rw add-one (below (λ (i : ℕ). head ≤ i → at cells i < least) first (t .gone) (λ _. h));
+      }
+
+  pub trimming-found : Trimming cells least head tail first → least ≤ at cells first → Trimmed cells least head tail first
+  trimming-found t h = record { from = t .from; to = t .to; gone = t .gone; stays = λ _. h }
+
+  pub trimming-all : Trimming cells least head tail first → tail ≤ first → Trimmed cells least head tail first
+  trimming-all t h = record { from = t .from; to = t .to; gone = t .gone; stays = λ l. absurd (omega arith) }
+
+pub entry-enters : {s : Stage} {row : ℕ → ℕ} {cells : List ℕ} {X head tail : ℕ} → Queue s row cells X head tail → Enters s X
+    → (i : ℕ) → head ≤ i → i < tail → Enters s (at cells i)
+entry-enters q e i a b = let h = q .inside i a b in record { low = h .0; high = h .1 .0; top = omega (arith, h .1 .1, e .top) }
+
+-- the newcomer Y outdoes the cells from `end` to tail
+pub record Outdoing (s : Stage) (row : ℕ → ℕ) (cells : List ℕ) (Y head tail end : ℕ) : Type 0 where
+  pub from : head ≤ end
+  pub to : end ≤ tail
+  pub gone : (i : ℕ) → end ≤ i → i < tail → keyOf s row Y ≤ keyOf s row (at cells i)
+
+module _ {s : Stage} {row : ℕ → ℕ} {cells : List ℕ} {Y head tail end : ℕ} where
+  pub outdoing-none : head ≤ tail → end ≡ tail → Outdoing s row cells Y head tail end
+  outdoing-none l e = record { from = omega arith; to = omega arith; gone = λ i a b. absurd (omega arith) }
+
+  pub outdoing-more : {limit k : ℕ} → Outdoing s row cells Y head tail end → head < end → limit ≡ keyOf s row Y → k ≡ keyOf s row (at cells (end - 1))
+      → limit ≤ k → Outdoing s row cells Y head tail (end - 1)
+  outdoing-more o l f g h =
+      record {
+        from = omega arith;
+        to = omega (arith, o .to);
+        gone = λ i a b. ⊎-elim (λ (e : end - 1 ≡ i). rw e at (rw (f, g) at h)) (λ m. o .gone i (omega arith) b) (eq-or-lt-of-le a);
+      }
+
+  pub outdoing-found : {limit k : ℕ} → Outdoing s row cells Y head tail end → Queue s row cells Y head tail → head < end
+      → limit ≡ keyOf s row Y → k ≡ keyOf s row (at cells (end - 1)) → k < limit → Outdone s row cells Y head tail end
+  outdoing-found o q l f g h =
+      record {
+        from = o .from;
+        to = o .to;
+        gone = o .gone;
+        stays = λ i a b.
+            ⊎-elim
+            (λ (e : i ≡ end - 1). rw e (rw (f, g) at h))
+            (λ m. lt-trans (q .rising i (end - 1) a m (omega (arith, o .to))) (rw (f, g) at h))
+            (eq-or-lt-of-le (omega arith));
+      }
+
+  pub outdoing-all : Outdoing s row cells Y head tail end → end ≤ head → Outdone s row cells Y head tail end
+  outdoing-all o h = record { from = o .from; to = o .to; gone = o .gone; stays = λ i a b. absurd (omega arith) }
+
+-- how a total enters
+pub room-enters : {s : Stage} {cells : List ℕ} {X tail : ℕ} → Room s cells tail X → X ≤ s .high → Enters s X
+room-enters r h = record { low = r .low; high = h; top = r .top }
+
+module _ {s : Stage} {row : ℕ → ℕ} {cells : List ℕ} {X head tail : ℕ} where
+  pub entered-not : Queue s row cells X head tail → s .high < X → Entered s row cells X head tail cells tail
+  entered-not q h = record { queue = queue-later (X + 1) (omega arith) (omega arith) q; few = omega arith; kept = λ k l. refl }
+
+  pub entered : {r : ℕ} → Queue s row cells X head tail → Room s cells tail X → X ≤ s .high → Outdone s row cells X head tail r
+      → Entered s row cells X head tail (set cells r X) (r + 1)
+  entered {r} q m h o =
+      record {
+        queue = queue-enter q (room-enters m h) o (omega (arith, o .to, m .cell));
+        few = omega (arith, o .to);
+        kept = λ k l. getD-set-other cells r k X 0 (λ e. omega (arith, o .from));
+      }
+
+-- the totals from `low` to X have entered, and those to `until` are to follow
+pub record Opening (s : Stage) (row : ℕ → ℕ) (cells : List ℕ) (start until X : ℕ) (cells′ : List ℕ) (tail : ℕ) : Type 0 where
+  pub opened : Opened s row cells start X cells′ tail
+  pub same : length cells′ ≡ length cells
+  pub begun : s .low ≤ X
+  pub inside : X ≤ until
+
+module _ {s : Stage} {row : ℕ → ℕ} {cells : List ℕ} {start until : ℕ} where
+  pub opening-none : Bounded s → until ≡ min (s .floor) (s .high + 1) → Opening s row cells start until (s .low) cells start
+  opening-none b e =
+      record {
+        opened = record { queue = queue-none cells start; few = omega arith; kept = λ k l. refl };
+        same = refl;
+        begun = omega arith;
+        inside = omega (arith, b .some, b .rises);
+      }
+
+  module _ {X : ℕ} {cells′ : List ℕ} {tail : ℕ} where
+    pub opening-room : Scratch s cells start → until ≡ min (s .floor) (s .high + 1) → Opening s row cells start until X cells′ tail → X < until
+        → Room s cells′ tail X
+    opening-room h e o l =
+        record {
+          low = o .begun;
+          top = omega (arith, h .more);
+          cell = omega (arith, h .more, h .room, o .same, o .opened .few);
+        }
+
+    pub opening-more : {cells″ : List ℕ} {r : ℕ} → Opening s row cells start until X cells′ tail → X < until
+        → Entered s row cells′ X start tail cells″ r → length cells″ ≡ length cells′ → Opening s row cells start until (X + 1) cells″ r
+    opening-more o l n e =
+        record {
+          opened = record {
+            queue = n .queue;
+            few = omega (arith, n .few, o .opened .few);
+            kept = λ k h. n .kept k h ∙ o .opened .kept k h;
+          };
+          same = e ∙ o .same;
+          begun = omega (arith, o .begun);
+          inside = omega arith;
+        }
+
+    pub opening-all : until ≡ min (s .floor) (s .high + 1) → Opening s row cells start until X cells′ tail → until ≤ X
+        → Opened s row cells start (s .floor) cells′ tail
+    opening-all e o l =
+        let i = o .inside in
+        record {
+          queue = queue-later (s .floor) (omega arith) (omega arith) (o .opened .queue);
+          few = omega (arith, o .opened .few);
+          kept = o .opened .kept;
+        }
+
+-- the amounts that the queue proposes for X lead to it
+module _ {s : Stage} {X : ℕ} where
+  pub leads-none : Bounded s → After s X → X ≤ s .high → Leads s X 0
+  leads-none b a h = record { rest = omega (arith, b .rises, a .0); enough = omega arith; under = a .1 }
+
+  pub leads-head : {row : ℕ → ℕ} {cells : List ℕ} {head tail : ℕ} → After s X → Window s row cells X head tail → head < tail → Leads s X (X - at cells head)
+  leads-head {row} {cells} {head} a w l =
+      let i = w .queue .inside head (omega arith) l in
+      record { rest = omega (arith, i .0, i .1 .1); enough = omega (arith, i .1 .0); under = a .1 }
+
+  pub best-of : {row : ℕ → ℕ} {cells : List ℕ} {head tail : ℕ} {none some r : Choice} → Bounded s → After s X → Window s row cells X head tail
+      → head < tail → X ≤ s .high → none ≡ choiceOf s row X 0 → some ≡ choiceOf s row X (X - at cells head)
+      → r ≡ pick (decLt (some .price) (none .price)) some none → r ≡ bestOf s row X
+  best-of b a w l h e f g = g ∙ rw (e, f) (best-either b a w l h)
+
+-- the row's loop before it comes to the total X: the queue stands behind the row's choices
+pub record Filling (s : Stage) (costs : List ℕ) (from to : ℕ) (costs′ choices : List ℕ) (base : ℕ) (choices′ : List ℕ) (head tail X : ℕ) : Type 0 where
+  pub ready : Ready s costs from to choices base
+  pub more : s .floor < s .top
+  pub stepping : Stepping s costs from to costs′ choices base choices′ X
+  pub queue : Queue s (rowAt costs′ from) choices′ X head tail
+  pub behind : base + s .top < head
+  pub few : tail + s .low ≤ base + (s .top + 1) + X
+
+module _ {s : Stage} {costs : List ℕ} {from to : ℕ} {choices : List ℕ} {base : ℕ} where
+  pub scratch : Ready s costs from to choices base → s .floor < s .top → Scratch s choices (base + (s .top + 1))
+  scratch r more = record { more = more; room = omega (arith, r .scratch more) }
+
+  pub filling-none : {choices′ : List ℕ} {tail : ℕ} → Ready s costs from to choices base → s .floor < s .top
+      → Opened s (rowAt costs from) choices (base + (s .top + 1)) (s .floor) choices′ tail → length choices′ ≡ length choices
+      → Filling s costs from to costs choices′ base choices′ (base + (s .top + 1)) tail (s .floor)
+  filling-none {choices′} r more o e =
+      record {
+        ready = record {
+          opened = r .opened;
+          costCells = r .costCells;
+          choiceCells = omega (arith, r .choiceCells);
+          scratch = λ l. omega (arith, r .scratch l);
+          apart = r .apart;
+        };
+        more = more;
+        stepping = stepping-none refl;
+        queue = o .queue;
+        behind = omega arith;
+        few = o .few;
+      }
+
+  module _ {costs′ choices′ : List ℕ} {head tail X : ℕ} (f : Filling s costs from to costs′ choices base choices′ head tail X) (l : X ≤ s .top) where
+    pub filling-open : Open s costs′ from
+    filling-open = stepping-open (f .ready) (f .stepping)
+
+    pub filling-after : After s X
+    filling-after = (f .stepping .begun, l)
+
+    pub filling-room : Room s choices′ tail X
+    filling-room =
+        record {
+          low = omega (arith, f .ready .opened .bounded .rises, f .stepping .begun);
+          top = l;
+          cell = omega (arith, f .ready .scratch (f .more), f .few, f .stepping .choiceCells);
+        }
+
+    pub filling-cost : to + X < length costs′
+    filling-cost = omega (arith, f .ready .costCells, f .stepping .costCells)
+
+    pub filling-choice : base + X < length choices′
+    filling-choice = omega (arith, f .ready .choiceCells, f .stepping .choiceCells)
+
+    pub filling-more : {h next least : ℕ} {best : Choice} {cell : Cell} {choices″ : List ℕ} → Trimmed choices′ least head tail h
+        → best ≡ bestOf s (rowAt costs′ from) X → cell ≡ cellOf s best X
+        → Entered s (rowAt costs′ from) choices′ X h tail choices″ next → length choices″ ≡ length choices′
+        → Filling s costs from to (set costs′ (to + X) (cell .cost)) choices base (set choices″ (base + X) (cell .amount)) h next (X + 1)
+    filling-more {h} {next} {least} {best} {cell} {choices″} t b c n e =
+        record {
+          ready = f .ready;
+          more = f .more;
+          stepping = stepping-more (f .ready) free l (c ∙ ap (λ (d : Choice). cellOf s d X) b);
+          queue = queue-ext
+              (λ Y g. getD-set-other costs′ (to + X) (from + Y) (cell .cost) 0 (f .ready .apart Y X g l))
+              (λ i g. getD-set-other choices″ (base + X) i (cell .amount) 0 (λ q. omega (arith, behind)))
+              (n .queue);
+          behind = behind;
+          few = omega (arith, n .few, f .few);
+        }
+      where
+        behind : base + s .top < h
+        behind = omega (arith, f .behind, t .from)
+
+        free : Stepping s costs from to costs′ choices base choices″ X
+        free = stepping-free (f .ready) (f .stepping) e (λ k g. n .kept k (omega (arith, behind)))
+
+pub stepped-more : {s : Stage} {costs : List ℕ} {from to : ℕ} {costs′ choices choices₀ : List ℕ} {base : ℕ} {choices′ : List ℕ} {head tail tail₀ X : ℕ}
+    → Opened s (rowAt costs from) choices (base + (s .top + 1)) (s .floor) choices₀ tail₀
+    → Filling s costs from to costs′ choices₀ base choices′ head tail X → s .top < X → Stepped s costs from to costs′ choices base choices′
+stepped-more o f l =
+    let t = stepping-all (f .stepping) l in
+    record { cost = t .cost; amount = t .amount; kept = λ k h. t .kept k h ∙ o .kept k (omega arith) }
+
+module _ {s : Stage} {costs : List ℕ} {from to : ℕ} {choices : List ℕ} {base : ℕ} where
+  pub stepped-one : {best : Choice} {cell : Cell} → Ready s costs from to choices base
+      → s .floor ≡ s .top → best ≡ bestOf s (rowAt costs from) (s .top) → cell ≡ cellOf s best (s .top)
+      → Stepped s costs from to (set costs (to + s .top) (cell .cost)) choices base (set choices (base + s .top) (cell .amount))
+  stepped-one r e b c =
+      stepping-all (stepping-more r (stepping-none (sym e)) (omega arith) (c ∙ ap (λ (d : Choice). cellOf s d (s .top)) b)) (omega arith)

@@ -1,0 +1,109 @@
+-- `rows::fill` meets its contract. The invariant: the cells of the totals below this one are written, and the totals below it have entered the queue. Assumes nothing.
+use mathlib.Core.Path.{_∙_}
+use Prim.Native.Nat.{suc, _-_}
+use native.Mathlib.Omega.{arith}
+use borrow.Author.Needs.{needs}
+use Rattle.rows.specs.Queue.{queue-trim}
+use Rattle.rows.proofs.Laws.{best-small}
+use Rattle.rows.proofs.Queueing.{Filling, scratch, filling-none, filling-open, filling-after, filling-room, filling-cost, filling-choice, filling-more, stepped-more}
+use Rattle.rows.proofs.Laws.{best-small}
+use Rattle.rows.proofs.Queueing.{Filling, scratch, filling-none, filling-room, filling-more}
+use Rattle.rows.proofs.fill.Statement.{statement}
+use Rattle.rows.proofs.fill.Tie as tie
+
+abbrev Inv-loop : tie.InvT-loop
+Inv-loop s costs₀ from to choices₀ base top head₀ tail₀ total₀ costs choices head tail total = Filling s costs₀ from to costs choices₀ base choices head tail total
+
+abbrev μ-loop : tie.MeasureT-loop
+μ-loop s costs₀ from to choices₀ base top head₀ tail₀ total₀ costs choices head tail total = suc top - total
+
+add-head : tie.Need-add-head Inv-loop μ-loop
+add-head c = search needs
+
+add-head-2 : tie.Need-add-head-2 Inv-loop μ-loop
+add-head-2 c = search needs
+
+enter-below-requires : tie.Need-enter-below-requires Inv-loop μ-loop
+enter-below-requires c κs = (c .before .before .before .before .pre .0 .opened, scratch (c .before .before .before .before .pre .0) (c .before .before .before .before .pre .1))
+
+loop-holds : tie.Need-loop-holds Inv-loop μ-loop
+loop-holds c = filling-none (c .before .before .before .before .before .before .before .pre .0) (c .before .before .before .before .before .before .before .pre .1) (c .before .before .enter-below .ensures) (c .before .before .enter-below .kept .1 .1 .1 .0)
+
+less-requires : tie.Need-less-requires Inv-loop μ-loop
+less-requires c κs = search needs
+
+drop-head-requires : tie.Need-drop-head-requires Inv-loop μ-loop
+drop-head-requires c κs = (c .before .before .before .loop .inv .queue .ordered, omega (arith, filling-room (c .before .before .before .loop .inv) (c .before .before .loop-test .taken)))
+
+best-queued-requires : tie.Need-best-queued-requires Inv-loop μ-loop
+best-queued-requires c κs = let f = c .before .before .before .before .before .before .loop .inv in let l = c .before .before .before .before .before .loop-test .taken in (filling-open f l, (queue-trim (f .queue) (c .before .before .before .less .ensures) (c .before .before .drop-head .ensures), (filling-after f l, omega (arith, filling-room f l))))
+
+cell-for-requires : tie.Need-cell-for-requires Inv-loop μ-loop
+cell-for-requires c κs = let f = c .before .before .before .before .before .before .before .loop .inv in let l = c .before .before .before .before .before .before .loop-test .taken in best-small (filling-open f l) (filling-after f l) (c .best-queued .ensures)
+
+enter-requires : tie.Need-enter-requires Inv-loop μ-loop
+enter-requires c κs = let f = c .before .before .before .before .before .before .before .before .before .before .loop .inv in let l = c .before .before .before .before .before .before .before .before .before .loop-test .taken in (filling-open f l, (queue-trim (f .queue) (c .before .before .before .before .before .before .before .less .ensures) (c .before .before .before .before .before .before .drop-head .ensures) .queue, filling-room f l))
+
+add-costs : tie.Need-add-costs Inv-loop μ-loop
+add-costs c = omega (arith, c .before .before .before .before .before .before .before .before .before .before .before .before .before .loop .inv .ready .costCells, c .before .before .before .before .before .before .before .before .before .before .before .before .loop-test .taken, c .before .before .before .before .before .before .before .before .before .before .before .before .before .before .before .before .before .before .before .before .before .good)
+
+mul-costs : tie.Need-mul-costs Inv-loop μ-loop
+mul-costs c = omega (arith, c .before .before .before .before .before .before .before .before .before .before .before .before .before .loop .inv .ready .costCells, c .before .before .before .before .before .before .before .before .before .before .before .before .loop-test .taken, c .before .before .before .before .before .before .before .before .before .before .before .before .before .before .before .before .before .before .before .before .before .good)
+
+slice-write-costs : tie.Need-slice-write-costs Inv-loop μ-loop
+slice-write-costs c = omega (arith, filling-cost (c .before .before .before .before .before .before .before .before .before .before .before .before .before .loop .inv) (c .before .before .before .before .before .before .before .before .before .before .before .before .loop-test .taken))
+
+add-choices : tie.Need-add-choices Inv-loop μ-loop
+add-choices c = omega (arith, filling-choice (c .before .before .before .before .before .before .before .before .before .before .before .before .before .loop .inv) (c .before .before .before .before .before .before .before .before .before .before .before .before .loop-test .taken))
+
+mul-choices : tie.Need-mul-choices Inv-loop μ-loop
+mul-choices c = omega (arith, c .before .before .before .before .before .before .before .before .before .before .before .before .before .loop .inv .ready .choiceCells, c .before .before .before .before .before .before .before .before .before .before .before .before .loop-test .taken, c .before .before .before .before .before .before .before .before .before .before .before .before .before .before .before .before .enter-below .kept .1 .1 .1 .0, c .before .before .before .before .before .before .before .before .before .before .before .before .before .before .before .before .before .before .before .before .before .good)
+
+slice-write-choices : tie.Need-slice-write-choices Inv-loop μ-loop
+slice-write-choices c = omega (arith, filling-choice (c .before .before .before .before .before .before .before .before .before .before .before .before .before .loop .inv) (c .before .before .before .before .before .before .before .before .before .before .before .before .loop-test .taken), c .before .before .enter .kept .1 .1 .1 .0)
+
+add-total : tie.Need-add-total Inv-loop μ-loop
+add-total c = search needs
+
+loop-less : tie.Need-loop-less Inv-loop μ-loop
+loop-less c = search needs
+
+loop-again : tie.Need-loop-again Inv-loop μ-loop
+loop-again c = filling-more (c .before .before .before .before .before .before .before .before .before .before .before .before .before .loop .inv) (c .before .before .before .before .before .before .before .before .before .before .before .before .loop-test .taken) (c .before .before .before .before .before .before .before .before .before .drop-head .ensures) (c .before .before .before .before .before .before .best-queued .ensures) (c .before .before .before .before .before .cell-for .ensures) (c .before .before .enter .ensures) (c .before .before .enter .kept .1 .1 .1 .0)
+
+same-length : tie.Need-same-length Inv-loop μ-loop
+same-length c = c .before .loop .inv .stepping .costCells
+
+same-length-2 : tie.Need-same-length-2 Inv-loop μ-loop
+same-length-2 c = c .before .loop .inv .stepping .choiceCells ∙ c .before .before .before .before .enter-below .kept .1 .1 .1 .0
+
+returns : tie.Need-returns Inv-loop μ-loop
+returns c = stepped-more (c .before .before .before .before .enter-below .ensures) (c .before .loop .inv) (c .loop-test .left)
+
+pub fill-spec : {M : Type 1} → statement M
+fill-spec =
+    tie.close
+    (tie.spec
+    Inv-loop
+    μ-loop
+    add-head
+    add-head-2
+    enter-below-requires
+    loop-holds
+    less-requires
+    drop-head-requires
+    best-queued-requires
+    cell-for-requires
+    enter-requires
+    add-costs
+    mul-costs
+    slice-write-costs
+    add-choices
+    mul-choices
+    slice-write-choices
+    add-total
+    loop-less
+    loop-again
+    same-length
+    same-length-2
+    returns)
