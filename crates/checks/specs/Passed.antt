@@ -186,9 +186,9 @@ total-passed d rest e = ltb-false _ _ (not-refused _ TotalDemand (each-none (bad
 
 -- 5, 6
 pub memory-passed :
-  (costs costCells choices choiceCells slots n : ℕ) (rest : List (Option Refusal))
-  → first (badAreas costs costCells choices choiceCells ∷ badSlots slots n ∷ rest) ≡ none
-  → Enough costs costCells choices choiceCells slots n
+    (costs costCells choices choiceCells slots n : ℕ) (rest : List (Option Refusal))
+    → first (badAreas costs costCells choices choiceCells ∷ badSlots slots n ∷ rest) ≡ none
+    → Enough costs costCells choices choiceCells slots n
 memory-passed costs costCells choices choiceCells slots n rest e =
     let each = each-none (badAreas costs costCells choices choiceCells ∷ badSlots slots n ∷ rest) e in
     let t = neither (ltb costs costCells) (ltb choices choiceCells) (not-refused _ ShortArea (each .0)) in
