@@ -16,77 +16,59 @@ use Rattle.rows.specs.declared.Stage.{Stage}
 use Rattle.rows.specs.declared.Choice.{Choice}
 use Rattle.rows.specs.declared.Cell.{Cell}
 use Rattle.rows.specs.Row.{rowAt, choiceOf, bestOf, cellOf, Bounded, Open, After, Leads, Ready, Stepped}
-use Rattle.rows.specs.Queue.{keyOf, Enters, Queue, Window, Trimmed, Outdone, Room, Entered, Scratch, Opened}
-use Rattle.rows.specs.Queue.{queue-none, queue-later, queue-enter, queue-ext, best-either}
+use Rattle.rows.specs.Queue.{keyOf, Entry, Queue, Window, Below, Trimmed, Dearer, Outdone, Room, Entered, Scratch, Queued}
+use Rattle.rows.specs.Moves.{queue-none, queue-later, queue-ext, queue-enter}
+use Rattle.rows.specs.Head.{best-either}
 use Rattle.rows.proofs.Laws.{Stepping, stepping-none, stepping-open, stepping-free, stepping-more, stepping-all}
 
--- the cells from head to `first` lie below `least`
-pub record Trimming (cells : List ℕ) (least head tail first : ℕ) : Type 0 where
-  pub from : head ≤ first
-  pub to : first ≤ tail
-  pub gone : (i : ℕ) → i < first → head ≤ i → at cells i < least
-
 module _ {cells : List ℕ} {least head tail first : ℕ} where
-  pub trimming-none : head ≤ tail → first ≡ head → Trimming cells least head tail first
-  trimming-none l e = record { from = omega arith; to = omega arith; gone = λ i a b. absurd (omega arith) }
+  pub below-none : head ≤ tail → first ≡ head → Below cells least head tail first
+  below-none l e = record { from = omega arith; to = omega arith; gone = λ i a b. absurd (omega arith) }
 
-  pub trimming-more : Trimming cells least head tail first → first < tail → at cells first < least → Trimming cells least head tail (first + 1)
-  trimming-more t l h =
+  pub below-more : Below cells least head tail first → first < tail → at cells first < least → Below cells least head tail (first + 1)
+  below-more t l h =
       record {
         from = omega (arith, t .from);
         to = omega arith;
         gone = rw add-one (below (λ (i : ℕ). head ≤ i → at cells i < least) first (t .gone) (λ _. h));
       }
 
-  pub trimming-found : Trimming cells least head tail first → least ≤ at cells first → Trimmed cells least head tail first
-  trimming-found t h = record { from = t .from; to = t .to; gone = t .gone; stays = λ _. h }
+  pub trimmed-found : Below cells least head tail first → least ≤ at cells first → Trimmed cells least head tail first
+  trimmed-found t h = record { passed = t; stays = λ _. h }
 
-  pub trimming-all : Trimming cells least head tail first → tail ≤ first → Trimmed cells least head tail first
-  trimming-all t h = record { from = t .from; to = t .to; gone = t .gone; stays = λ l. absurd (omega arith) }
-
-pub entry-enters : {s : Stage} {row : ℕ → ℕ} {cells : List ℕ} {X head tail : ℕ} → Queue s row cells X head tail → Enters s X
-    → (i : ℕ) → head ≤ i → i < tail → Enters s (at cells i)
-entry-enters q e i a b = let h = q .inside i a b in record { low = h .0; high = h .1 .0; top = omega (arith, h .1 .1, e .top) }
-
--- the newcomer Y outdoes the cells from `end` to tail
-pub record Outdoing (s : Stage) (row : ℕ → ℕ) (cells : List ℕ) (Y head tail end : ℕ) : Type 0 where
-  pub from : head ≤ end
-  pub to : end ≤ tail
-  pub gone : (i : ℕ) → end ≤ i → i < tail → keyOf s row Y ≤ keyOf s row (at cells i)
+  pub trimmed-all : Below cells least head tail first → tail ≤ first → Trimmed cells least head tail first
+  trimmed-all t h = record { passed = t; stays = λ l. absurd (omega arith) }
 
 module _ {s : Stage} {row : ℕ → ℕ} {cells : List ℕ} {Y head tail end : ℕ} where
-  pub outdoing-none : head ≤ tail → end ≡ tail → Outdoing s row cells Y head tail end
-  outdoing-none l e = record { from = omega arith; to = omega arith; gone = λ i a b. absurd (omega arith) }
+  pub dearer-none : head ≤ tail → end ≡ tail → Dearer s row cells Y head tail end
+  dearer-none l e = record { from = omega arith; to = omega arith; gone = λ i a b. absurd (omega arith) }
 
-  pub outdoing-more : {limit k : ℕ} → Outdoing s row cells Y head tail end → head < end → limit ≡ keyOf s row Y → k ≡ keyOf s row (at cells (end - 1))
-      → limit ≤ k → Outdoing s row cells Y head tail (end - 1)
-  outdoing-more o l f g h =
-      record {
-        from = omega arith;
-        to = omega (arith, o .to);
-        gone = λ i a b. ⊎-elim (λ (e : end - 1 ≡ i). rw e at (rw (f, g) at h)) (λ m. o .gone i (omega arith) b) (eq-or-lt-of-le a);
-      }
+  module _ {limit k : ℕ} (o : Dearer s row cells Y head tail end) (l : head < end) (f : limit ≡ keyOf s row Y) (g : k ≡ keyOf s row (at cells (end - 1))) where
+    pub dearer-more : limit ≤ k → Dearer s row cells Y head tail (end - 1)
+    dearer-more h =
+        record {
+          from = omega arith;
+          to = omega (arith, o .to);
+          gone = λ i a b. ⊎-elim (λ (e : end - 1 ≡ i). rw e at (rw (f, g) at h)) (λ m. o .gone i (omega arith) b) (eq-or-lt-of-le a);
+        }
 
-  pub outdoing-found : {limit k : ℕ} → Outdoing s row cells Y head tail end → Queue s row cells Y head tail → head < end
-      → limit ≡ keyOf s row Y → k ≡ keyOf s row (at cells (end - 1)) → k < limit → Outdone s row cells Y head tail end
-  outdoing-found o q l f g h =
-      record {
-        from = o .from;
-        to = o .to;
-        gone = o .gone;
-        stays = λ i a b.
-            ⊎-elim
-            (λ (e : i ≡ end - 1). rw e (rw (f, g) at h))
-            (λ m. lt-trans (q .rising i (end - 1) a m (omega (arith, o .to))) (rw (f, g) at h))
-            (eq-or-lt-of-le (omega arith));
-      }
+    pub outdone-found : Queue s row cells Y head tail → k < limit → Outdone s row cells Y head tail end
+    outdone-found q h =
+        record {
+          passed = o;
+          stays = λ i a b.
+              ⊎-elim
+              (λ (e : i ≡ end - 1). rw e (rw (f, g) at h))
+              (λ m. lt-trans (q .rising i (end - 1) a m (omega (arith, o .to))) (rw (f, g) at h))
+              (eq-or-lt-of-le (omega arith));
+        }
 
-  pub outdoing-all : Outdoing s row cells Y head tail end → end ≤ head → Outdone s row cells Y head tail end
-  outdoing-all o h = record { from = o .from; to = o .to; gone = o .gone; stays = λ i a b. absurd (omega arith) }
+  pub outdone-all : Dearer s row cells Y head tail end → end ≤ head → Outdone s row cells Y head tail end
+  outdone-all o h = record { passed = o; stays = λ i a b. absurd (omega arith) }
 
 -- how a total enters
-pub room-enters : {s : Stage} {cells : List ℕ} {X tail : ℕ} → Room s cells tail X → X ≤ s .high → Enters s X
-room-enters r h = record { low = r .low; high = h; top = r .top }
+pub room-entry : {s : Stage} {cells : List ℕ} {X tail : ℕ} (Z : ℕ) → Room s cells tail X → X ≤ s .high → X < Z → Entry s Z X
+room-entry Z r h l = record { low = r .low; high = h; below = l }
 
 module _ {s : Stage} {row : ℕ → ℕ} {cells : List ℕ} {X head tail : ℕ} where
   pub entered-not : Queue s row cells X head tail → s .high < X → Entered s row cells X head tail cells tail
@@ -95,61 +77,62 @@ module _ {s : Stage} {row : ℕ → ℕ} {cells : List ℕ} {X head tail : ℕ} 
   pub entered : {r : ℕ} → Queue s row cells X head tail → Room s cells tail X → X ≤ s .high → Outdone s row cells X head tail r
       → Entered s row cells X head tail (set cells r X) (r + 1)
   entered {r} q m h o =
+      let p = o .passed in
       record {
-        queue = queue-enter q (room-enters m h) o (omega (arith, o .to, m .cell));
-        few = omega (arith, o .to);
-        kept = λ k l. getD-set-other cells r k X 0 (λ e. omega (arith, o .from));
+        queue = queue-enter q (room-entry (X + 1) m h (omega arith)) o (omega (arith, p .to, m .cell));
+        few = omega (arith, p .to);
+        kept = λ k l. getD-set-other cells r k X 0 (λ e. omega (arith, p .from));
       }
 
 -- the totals from `low` to X have entered, and those to `until` are to follow
-pub record Opening (s : Stage) (row : ℕ → ℕ) (cells : List ℕ) (start until X : ℕ) (cells′ : List ℕ) (tail : ℕ) : Type 0 where
-  pub opened : Opened s row cells start X cells′ tail
+pub record Queuing (s : Stage) (row : ℕ → ℕ) (cells : List ℕ) (start until X : ℕ) (cells′ : List ℕ) (tail : ℕ) : Type 0 where
+  pub queued : Queued s row cells start X cells′ tail
   pub same : length cells′ ≡ length cells
   pub begun : s .low ≤ X
   pub inside : X ≤ until
 
 module _ {s : Stage} {row : ℕ → ℕ} {cells : List ℕ} {start until : ℕ} where
-  pub opening-none : Bounded s → until ≡ min (s .floor) (s .high + 1) → Opening s row cells start until (s .low) cells start
-  opening-none b e =
+  pub queuing-none : Bounded s → until ≡ min (s .floor) (s .high + 1) → Queuing s row cells start until (s .low) cells start
+  queuing-none b e =
       record {
-        opened = record { queue = queue-none cells start; few = omega arith; kept = λ k l. refl };
+        queued = record { queue = queue-none cells start; few = omega arith; kept = λ k l. refl };
         same = refl;
         begun = omega arith;
         inside = omega (arith, b .some, b .rises);
       }
 
   module _ {X : ℕ} {cells′ : List ℕ} {tail : ℕ} where
-    pub opening-room : Scratch s cells start → until ≡ min (s .floor) (s .high + 1) → Opening s row cells start until X cells′ tail → X < until
+    pub queuing-room : Scratch s cells start → until ≡ min (s .floor) (s .high + 1) → Queuing s row cells start until X cells′ tail → X < until
         → Room s cells′ tail X
-    opening-room h e o l =
+    queuing-room h e o l =
         record {
           low = o .begun;
           top = omega (arith, h .more);
-          cell = omega (arith, h .more, h .room, o .same, o .opened .few);
+          cell = omega (arith, h .more, h .room, o .same, o .queued .few);
         }
 
-    pub opening-more : {cells″ : List ℕ} {r : ℕ} → Opening s row cells start until X cells′ tail → X < until
-        → Entered s row cells′ X start tail cells″ r → length cells″ ≡ length cells′ → Opening s row cells start until (X + 1) cells″ r
-    opening-more o l n e =
+    pub queuing-more : {cells″ : List ℕ} {r : ℕ} → Queuing s row cells start until X cells′ tail → X < until
+        → Entered s row cells′ X start tail cells″ r → length cells″ ≡ length cells′ → Queuing s row cells start until (X + 1) cells″ r
+    queuing-more o l n e =
         record {
-          opened = record {
+          queued = record {
             queue = n .queue;
-            few = omega (arith, n .few, o .opened .few);
-            kept = λ k h. n .kept k h ∙ o .opened .kept k h;
+            few = omega (arith, n .few, o .queued .few);
+            kept = λ k h. n .kept k h ∙ o .queued .kept k h;
           };
           same = e ∙ o .same;
           begun = omega (arith, o .begun);
           inside = omega arith;
         }
 
-    pub opening-all : until ≡ min (s .floor) (s .high + 1) → Opening s row cells start until X cells′ tail → until ≤ X
-        → Opened s row cells start (s .floor) cells′ tail
-    opening-all e o l =
+    pub queuing-all : until ≡ min (s .floor) (s .high + 1) → Queuing s row cells start until X cells′ tail → until ≤ X
+        → Queued s row cells start (s .floor) cells′ tail
+    queuing-all e o l =
         let i = o .inside in
         record {
-          queue = queue-later (s .floor) (omega arith) (omega arith) (o .opened .queue);
-          few = omega (arith, o .opened .few);
-          kept = o .opened .kept;
+          queue = queue-later (s .floor) (omega arith) (omega arith) (o .queued .queue);
+          few = omega (arith, o .queued .few);
+          kept = o .queued .kept;
         }
 
 -- the amounts that the queue proposes for X lead to it
@@ -159,8 +142,8 @@ module _ {s : Stage} {X : ℕ} where
 
   pub leads-head : {row : ℕ → ℕ} {cells : List ℕ} {head tail : ℕ} → After s X → Window s row cells X head tail → head < tail → Leads s X (X - at cells head)
   leads-head {row} {cells} {head} a w l =
-      let i = w .queue .inside head (omega arith) l in
-      record { rest = omega (arith, i .0, i .1 .1); enough = omega (arith, i .1 .0); under = a .1 }
+      let i = w .queue .entries head (omega arith) l in
+      record { rest = omega (arith, i .low, i .below); enough = omega (arith, i .high); under = a .1 }
 
   pub best-of : {row : ℕ → ℕ} {cells : List ℕ} {head tail : ℕ} {none some r : Choice} → Bounded s → After s X → Window s row cells X head tail
       → head < tail → X ≤ s .high → none ≡ choiceOf s row X 0 → some ≡ choiceOf s row X (X - at cells head)
@@ -181,7 +164,7 @@ module _ {s : Stage} {costs : List ℕ} {from to : ℕ} {choices : List ℕ} {ba
   scratch r more = record { more = more; room = omega (arith, r .scratch more) }
 
   pub filling-none : {choices′ : List ℕ} {tail : ℕ} → Ready s costs from to choices base → s .floor < s .top
-      → Opened s (rowAt costs from) choices (base + (s .top + 1)) (s .floor) choices′ tail → length choices′ ≡ length choices
+      → Queued s (rowAt costs from) choices (base + (s .top + 1)) (s .floor) choices′ tail → length choices′ ≡ length choices
       → Filling s costs from to costs choices′ base choices′ (base + (s .top + 1)) tail (s .floor)
   filling-none {choices′} r more o e =
       record {
@@ -214,12 +197,6 @@ module _ {s : Stage} {costs : List ℕ} {from to : ℕ} {choices : List ℕ} {ba
           cell = omega (arith, f .ready .scratch (f .more), f .few, f .stepping .choiceCells);
         }
 
-    pub filling-cost : to + X < length costs′
-    filling-cost = omega (arith, f .ready .costCells, f .stepping .costCells)
-
-    pub filling-choice : base + X < length choices′
-    filling-choice = omega (arith, f .ready .choiceCells, f .stepping .choiceCells)
-
     pub filling-more : {h next least : ℕ} {best : Choice} {cell : Cell} {choices″ : List ℕ} → Trimmed choices′ least head tail h
         → best ≡ bestOf s (rowAt costs′ from) X → cell ≡ cellOf s best X
         → Entered s (rowAt costs′ from) choices′ X h tail choices″ next → length choices″ ≡ length choices′
@@ -238,13 +215,13 @@ module _ {s : Stage} {costs : List ℕ} {from to : ℕ} {choices : List ℕ} {ba
         }
       where
         behind : base + s .top < h
-        behind = omega (arith, f .behind, t .from)
+        behind = omega (arith, f .behind, t .passed .from)
 
         free : Stepping s costs from to costs′ choices base choices″ X
         free = stepping-free (f .ready) (f .stepping) e (λ k g. n .kept k (omega (arith, behind)))
 
 pub stepped-more : {s : Stage} {costs : List ℕ} {from to : ℕ} {costs′ choices choices₀ : List ℕ} {base : ℕ} {choices′ : List ℕ} {head tail tail₀ X : ℕ}
-    → Opened s (rowAt costs from) choices (base + (s .top + 1)) (s .floor) choices₀ tail₀
+    → Queued s (rowAt costs from) choices (base + (s .top + 1)) (s .floor) choices₀ tail₀
     → Filling s costs from to costs′ choices₀ base choices′ head tail X → s .top < X → Stepped s costs from to costs′ choices base choices′
 stepped-more o f l =
     let t = stepping-all (f .stepping) l in

@@ -2,3 +2,5 @@
 pub mod Row
 pub mod Laws
 pub mod Queue
+pub mod Moves
+pub mod Head

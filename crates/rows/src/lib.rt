@@ -7,7 +7,7 @@ ghost use Rattle.day.specs.Day.{maxSetup, maxRate, maxTotal};
 ghost use Rattle.day.specs.Plan.{making};
 ghost use Rattle.theory.specs.Basics.{pick};
 ghost use Rattle.rows.specs.Row.{rowAt, maxProduct, maxMaking, Worth, choiceOf, bestOf, cellOf, Small, Open, After, Leads, Ready, Stepped};
-ghost use Rattle.rows.specs.Queue.{keyOf, Enters, Queue, Window, Trimmed, Outdone, Room, Entered, Scratch, Opened};
+ghost use Rattle.rows.specs.Queue.{keyOf, Entry, Queue, Window, Trimmed, Outdone, Room, Entered, Scratch, Queued};
 
 // One period, as the row step sees it: c, b, p and H, the totals that can be reached before it and after it.
 pub struct Stage {
@@ -113,10 +113,10 @@ fn cell_for(s: Stage, best: Choice, total: usize) -> Cell
     }
 }
 
-// What a total before the stage is judged by.
+// What a total before the stage is compared by.
 fn key(s: Stage, costs: &[u64], from: usize, before: usize) -> u64
     requires { ⌜ Open s (now costs) from ⌝ }
-    requires { ⌜ Enters s before ⌝ }
+    requires { ⌜ Entry s (s .top + 1) before ⌝ }
     ensures { λ r. ⌜ r ≡ keyOf s (rowAt (now (costs .entry)) from) before ⌝ }
 {
     costs[from + before] + product(s.unit, s.top - before)
@@ -134,7 +134,7 @@ fn drop_back(
 ) -> usize
     requires { ⌜ Open s (now costs) from ⌝ }
     requires { ⌜ Queue s (rowAt (now costs) from) (now choices) newcomer head tail ⌝ }
-    requires { ⌜ Enters s newcomer × (tail ≤ length (now choices)) ⌝ }
+    requires { ⌜ Entry s (s .top + 1) newcomer × (tail ≤ length (now choices)) ⌝ }
     ensures { λ r. ⌜ Outdone s (rowAt (now (costs .entry)) from) (now (choices .entry)) newcomer head tail r ⌝ }
 {
     let limit = key(s, costs, from, newcomer);
@@ -149,7 +149,7 @@ fn drop_back(
     end
 }
 
-// The queue's end after a total that the stage may begin at has entered.
+// The queue's end once a total has entered, if it can be reached before the stage.
 fn enter(
     s: Stage,
     costs: &[u64],
@@ -176,7 +176,7 @@ fn enter(
 fn enter_below(s: Stage, costs: &[u64], from: usize, choices: &mut [u16], start: usize) -> usize
     requires { ⌜ Open s (now costs) from ⌝ }
     requires { ⌜ Scratch s (now choices) start ⌝ }
-    ensures { λ r. ⌜ Opened s (rowAt (now (costs .entry)) from) (now (choices .entry)) start (s .floor) (now (choices .exit)) r ⌝ }
+    ensures { λ r. ⌜ Queued s (rowAt (now (costs .entry)) from) (now (choices .entry)) start (s .floor) (now (choices .exit)) r ⌝ }
 {
     let mut tail = start;
     for before in s.low..smaller(s.floor, s.high + 1) {
@@ -226,7 +226,7 @@ fn best_queued(
     cheaper(choice_for(s, costs, from, total, 0), some)
 }
 
-// A row of more than one total. The queue stands behind the row's choices.
+// A row of more than one total. The queue stands behind the row's choices; each total before the stage enters once and leaves at most once.
 fn fill(s: Stage, costs: &mut [u64], from: usize, to: usize, choices: &mut [u16], base: usize)
     requires { ⌜ Ready s (now costs) from to (now choices) base ⌝ }
     requires { ⌜ s .floor < s .top ⌝ }
@@ -247,7 +247,7 @@ fn fill(s: Stage, costs: &mut [u64], from: usize, to: usize, choices: &mut [u16]
     }
 }
 
-// A row of one total.
+// A row of one total, by one scan.
 fn fill_one(s: Stage, costs: &mut [u64], from: usize, to: usize, choices: &mut [u16], base: usize)
     requires { ⌜ Ready s (now costs) from to (now choices) base ⌝ }
     requires { ⌜ s .floor ≡ s .top ⌝ }

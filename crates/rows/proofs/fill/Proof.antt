@@ -3,9 +3,9 @@ use mathlib.Core.Path.{_∙_}
 use Prim.Native.Nat.{suc, _-_}
 use native.Mathlib.Omega.{arith}
 use borrow.Author.Needs.{needs}
-use Rattle.rows.specs.Queue.{queue-trim}
+use Rattle.rows.specs.Moves.{queue-trim}
 use Rattle.rows.proofs.Laws.{best-small}
-use Rattle.rows.proofs.Queueing.{Filling, scratch, filling-none, filling-open, filling-after, filling-room, filling-cost, filling-choice, filling-more, stepped-more}
+use Rattle.rows.proofs.Queueing.{Filling, scratch, filling-none, filling-open, filling-after, filling-room, filling-more, stepped-more}
 use Rattle.rows.proofs.Laws.{best-small}
 use Rattle.rows.proofs.Queueing.{Filling, scratch, filling-none, filling-room, filling-more}
 use Rattle.rows.proofs.fill.Statement.{statement}
@@ -24,43 +24,59 @@ add-head-2 : tie.Need-add-head-2 Inv-loop μ-loop
 add-head-2 c = search needs
 
 enter-below-requires : tie.Need-enter-below-requires Inv-loop μ-loop
-enter-below-requires c κs = (c .before .before .before .before .pre .0 .opened, scratch (c .before .before .before .before .pre .0) (c .before .before .before .before .pre .1))
+enter-below-requires c κs = let pre = c .before .before .before .before .pre in (pre .0 .opened, scratch (pre .0) (pre .1))
 
 loop-holds : tie.Need-loop-holds Inv-loop μ-loop
-loop-holds c = filling-none (c .before .before .before .before .before .before .before .pre .0) (c .before .before .before .before .before .before .before .pre .1) (c .before .before .enter-below .ensures) (c .before .before .enter-below .kept .1 .1 .1 .0)
+loop-holds c =
+    let pre = c .before .before .before .before .before .before .before .pre in
+    let called = c .before .before .enter-below in
+    filling-none (pre .0) (pre .1) (called .ensures) (called .kept .1 .1 .1 .0)
 
 less-requires : tie.Need-less-requires Inv-loop μ-loop
 less-requires c κs = search needs
 
 drop-head-requires : tie.Need-drop-head-requires Inv-loop μ-loop
-drop-head-requires c κs = (c .before .before .before .loop .inv .queue .ordered, omega (arith, filling-room (c .before .before .before .loop .inv) (c .before .before .loop-test .taken)))
+drop-head-requires c κs = let f = c .before .before .before .loop .inv in (f .queue .ordered, omega (arith, filling-room f (c .before .before .loop-test .taken)))
 
 best-queued-requires : tie.Need-best-queued-requires Inv-loop μ-loop
-best-queued-requires c κs = let f = c .before .before .before .before .before .before .loop .inv in let l = c .before .before .before .before .before .loop-test .taken in (filling-open f l, (queue-trim (f .queue) (c .before .before .before .less .ensures) (c .before .before .drop-head .ensures), (filling-after f l, omega (arith, filling-room f l))))
+best-queued-requires c κs =
+    let f = c .before .before .before .before .before .before .loop .inv in
+    let l = c .before .before .before .before .before .loop-test .taken in
+    (filling-open f l, (queue-trim (f .queue) (c .before .before .before .less .ensures) (c .before .before .drop-head .ensures), (filling-after f l, omega (arith, filling-room f l))))
 
 cell-for-requires : tie.Need-cell-for-requires Inv-loop μ-loop
-cell-for-requires c κs = let f = c .before .before .before .before .before .before .before .loop .inv in let l = c .before .before .before .before .before .before .loop-test .taken in best-small (filling-open f l) (filling-after f l) (c .best-queued .ensures)
+cell-for-requires c κs =
+    let f = c .before .before .before .before .before .before .before .loop .inv in
+    let l = c .before .before .before .before .before .before .loop-test .taken in
+    best-small (filling-open f l) (filling-after f l) (c .best-queued .ensures)
 
 enter-requires : tie.Need-enter-requires Inv-loop μ-loop
-enter-requires c κs = let f = c .before .before .before .before .before .before .before .before .before .before .loop .inv in let l = c .before .before .before .before .before .before .before .before .before .loop-test .taken in (filling-open f l, (queue-trim (f .queue) (c .before .before .before .before .before .before .before .less .ensures) (c .before .before .before .before .before .before .drop-head .ensures) .queue, filling-room f l))
+enter-requires c κs =
+    let f = c .before .before .before .before .before .before .before .before .before .before .loop .inv in
+    let l = c .before .before .before .before .before .before .before .before .before .loop-test .taken in
+    (filling-open f l, (queue-trim (f .queue) (c .before .before .before .before .before .before .before .less .ensures) (c .before .before .before .before .before .before .drop-head .ensures) .queue, filling-room f l))
 
 add-costs : tie.Need-add-costs Inv-loop μ-loop
-add-costs c = omega (arith, c .before .before .before .before .before .before .before .before .before .before .before .before .before .loop .inv .ready .costCells, c .before .before .before .before .before .before .before .before .before .before .before .before .loop-test .taken, c .before .before .before .before .before .before .before .before .before .before .before .before .before .before .before .before .before .before .before .before .before .good)
+add-costs c = let turn = c .before .before .before .before .before .before .before .before .before .before .before .before .before in omega (arith, turn .loop .inv .ready .costCells, c .before .before .before .before .before .before .before .before .before .before .before .before .loop-test .taken, turn .before .before .before .before .before .before .before .before .good)
 
 mul-costs : tie.Need-mul-costs Inv-loop μ-loop
-mul-costs c = omega (arith, c .before .before .before .before .before .before .before .before .before .before .before .before .before .loop .inv .ready .costCells, c .before .before .before .before .before .before .before .before .before .before .before .before .loop-test .taken, c .before .before .before .before .before .before .before .before .before .before .before .before .before .before .before .before .before .before .before .before .before .good)
+mul-costs c = let turn = c .before .before .before .before .before .before .before .before .before .before .before .before .before in omega (arith, turn .loop .inv .ready .costCells, c .before .before .before .before .before .before .before .before .before .before .before .before .loop-test .taken, turn .before .before .before .before .before .before .before .before .good)
 
 slice-write-costs : tie.Need-slice-write-costs Inv-loop μ-loop
-slice-write-costs c = omega (arith, filling-cost (c .before .before .before .before .before .before .before .before .before .before .before .before .before .loop .inv) (c .before .before .before .before .before .before .before .before .before .before .before .before .loop-test .taken))
+slice-write-costs c = let turn = c .before .before .before .before .before .before .before .before .before .before .before .before .before in omega (arith, turn .loop .inv .ready .costCells, turn .loop .inv .stepping .costCells, c .before .before .before .before .before .before .before .before .before .before .before .before .loop-test .taken)
 
 add-choices : tie.Need-add-choices Inv-loop μ-loop
-add-choices c = omega (arith, filling-choice (c .before .before .before .before .before .before .before .before .before .before .before .before .before .loop .inv) (c .before .before .before .before .before .before .before .before .before .before .before .before .loop-test .taken))
+add-choices c = let turn = c .before .before .before .before .before .before .before .before .before .before .before .before .before in omega (arith, turn .loop .inv .ready .choiceCells, turn .loop .inv .stepping .choiceCells, c .before .before .before .before .before .before .before .before .before .before .before .before .loop-test .taken)
 
 mul-choices : tie.Need-mul-choices Inv-loop μ-loop
-mul-choices c = omega (arith, c .before .before .before .before .before .before .before .before .before .before .before .before .before .loop .inv .ready .choiceCells, c .before .before .before .before .before .before .before .before .before .before .before .before .loop-test .taken, c .before .before .before .before .before .before .before .before .before .before .before .before .before .before .before .before .enter-below .kept .1 .1 .1 .0, c .before .before .before .before .before .before .before .before .before .before .before .before .before .before .before .before .before .before .before .before .before .good)
+mul-choices c =
+    let turn = c .before .before .before .before .before .before .before .before .before .before .before .before .before in
+    omega (arith, turn .loop .inv .ready .choiceCells, c .before .before .before .before .before .before .before .before .before .before .before .before .loop-test .taken, turn .before .before .before .enter-below .kept .1 .1 .1 .0, turn .before .before .before .before .before .before .before .before .good)
 
 slice-write-choices : tie.Need-slice-write-choices Inv-loop μ-loop
-slice-write-choices c = omega (arith, filling-choice (c .before .before .before .before .before .before .before .before .before .before .before .before .before .loop .inv) (c .before .before .before .before .before .before .before .before .before .before .before .before .loop-test .taken), c .before .before .enter .kept .1 .1 .1 .0)
+slice-write-choices c =
+    let turn = c .before .before .before .before .before .before .before .before .before .before .before .before .before in
+    omega (arith, turn .loop .inv .ready .choiceCells, turn .loop .inv .stepping .choiceCells, c .before .before .before .before .before .before .before .before .before .before .before .before .loop-test .taken, c .before .before .enter .kept .1 .1 .1 .0)
 
 add-total : tie.Need-add-total Inv-loop μ-loop
 add-total c = search needs
@@ -69,7 +85,9 @@ loop-less : tie.Need-loop-less Inv-loop μ-loop
 loop-less c = search needs
 
 loop-again : tie.Need-loop-again Inv-loop μ-loop
-loop-again c = filling-more (c .before .before .before .before .before .before .before .before .before .before .before .before .before .loop .inv) (c .before .before .before .before .before .before .before .before .before .before .before .before .loop-test .taken) (c .before .before .before .before .before .before .before .before .before .drop-head .ensures) (c .before .before .before .before .before .before .best-queued .ensures) (c .before .before .before .before .before .cell-for .ensures) (c .before .before .enter .ensures) (c .before .before .enter .kept .1 .1 .1 .0)
+loop-again c =
+    let called = c .before .before .enter in
+    filling-more (c .before .before .before .before .before .before .before .before .before .before .before .before .before .loop .inv) (c .before .before .before .before .before .before .before .before .before .before .before .before .loop-test .taken) (c .before .before .before .before .before .before .before .before .before .drop-head .ensures) (c .before .before .before .before .before .before .best-queued .ensures) (c .before .before .before .before .before .cell-for .ensures) (called .ensures) (called .kept .1 .1 .1 .0)
 
 same-length : tie.Need-same-length Inv-loop μ-loop
 same-length c = c .before .loop .inv .stepping .costCells
