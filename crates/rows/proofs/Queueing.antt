@@ -15,9 +15,10 @@ use Rattle.theory.specs.Basics.{pick}
 use Rattle.rows.specs.declared.Stage.{Stage}
 use Rattle.rows.specs.declared.Choice.{Choice}
 use Rattle.rows.specs.declared.Cell.{Cell}
+use Rattle.rows.specs.declared.Next.{Next}
 use Rattle.rows.specs.Row.{rowAt, choiceOf, bestOf, cellOf, Bounded, Open, After, Leads, Ready, Stepped}
-use Rattle.rows.specs.Queue.{keyOf, Entry, Queue, Window, Below, Trimmed, Dearer, Outdone, Room, Entered, Scratch, Queued}
-use Rattle.rows.specs.Moves.{queue-none, queue-later, queue-ext, queue-enter}
+use Rattle.rows.specs.Queue.{keyOf, Entry, Queue, Window, Found, Below, Trimmed, Dearer, Outdone, Room, Entered, Scratch, Queued}
+use Rattle.rows.specs.Moves.{queue-none, queue-later, queue-ext, queue-enter, queue-trim}
 use Rattle.rows.specs.Head.{best-either}
 use Rattle.rows.proofs.Laws.{Stepping, stepping-none, stepping-open, stepping-free, stepping-more, stepping-all}
 
@@ -150,6 +151,13 @@ module _ {s : Stage} {X : ℕ} where
       → r ≡ pick (decLt (some .price) (none .price)) some none → r ≡ bestOf s row X
   best-of b a w l h e f g = g ∙ rw (e, f) (best-either b a w l h)
 
+-- one turn of the row's loop
+pub found : {s : Stage} {row : ℕ → ℕ} {cells : List ℕ} {X least head tail h : ℕ} {best : Choice} {cell : Cell} → Queue s row cells X head tail
+    → least ≡ X - s .capacity → Trimmed cells least head tail h → best ≡ bestOf s row X → cell ≡ cellOf s best X
+    → Found s row cells X head tail (record { head = h; cell = cell })
+found {s} {row} {cells} {X} q e t b c =
+    record { from = t .passed .from; queue = queue-trim q e t .queue; cell = c ∙ ap (λ (d : Choice). cellOf s d X) b }
+
 -- the row's loop before it comes to the total X: the queue stands behind the row's choices
 pub record Filling (s : Stage) (costs : List ℕ) (from to : ℕ) (costs′ choices : List ℕ) (base : ℕ) (choices′ : List ℕ) (head tail X : ℕ) : Type 0 where
   pub ready : Ready s costs from to choices base
@@ -197,25 +205,24 @@ module _ {s : Stage} {costs : List ℕ} {from to : ℕ} {choices : List ℕ} {ba
           cell = omega (arith, f .ready .scratch (f .more), f .few, f .stepping .choiceCells);
         }
 
-    pub filling-more : {h next least : ℕ} {best : Choice} {cell : Cell} {choices″ : List ℕ} → Trimmed choices′ least head tail h
-        → best ≡ bestOf s (rowAt costs′ from) X → cell ≡ cellOf s best X
-        → Entered s (rowAt costs′ from) choices′ X h tail choices″ next → length choices″ ≡ length choices′
-        → Filling s costs from to (set costs′ (to + X) (cell .cost)) choices base (set choices″ (base + X) (cell .amount)) h next (X + 1)
-    filling-more {h} {next} {least} {best} {cell} {choices″} t b c n e =
+    pub filling-more : {next : Next} {r : ℕ} {choices″ : List ℕ} → Found s (rowAt costs′ from) choices′ X head tail next
+        → Entered s (rowAt costs′ from) choices′ X (next .head) tail choices″ r → length choices″ ≡ length choices′
+        → Filling s costs from to (set costs′ (to + X) (next .cell .cost)) choices base (set choices″ (base + X) (next .cell .amount)) (next .head) r (X + 1)
+    filling-more {next} {r} {choices″} t n e =
         record {
           ready = f .ready;
           more = f .more;
-          stepping = stepping-more (f .ready) free l (c ∙ ap (λ (d : Choice). cellOf s d X) b);
+          stepping = stepping-more (f .ready) free l (t .cell);
           queue = queue-ext
-              (λ Y g. getD-set-other costs′ (to + X) (from + Y) (cell .cost) 0 (f .ready .apart Y X g l))
-              (λ i g. getD-set-other choices″ (base + X) i (cell .amount) 0 (λ q. omega (arith, behind)))
+              (λ Y g. getD-set-other costs′ (to + X) (from + Y) (next .cell .cost) 0 (f .ready .apart Y X g l))
+              (λ i g. getD-set-other choices″ (base + X) i (next .cell .amount) 0 (λ q. omega (arith, behind)))
               (n .queue);
           behind = behind;
           few = omega (arith, n .few, f .few);
         }
       where
-        behind : base + s .top < h
-        behind = omega (arith, f .behind, t .passed .from)
+        behind : base + s .top < next .head
+        behind = omega (arith, f .behind, t .from)
 
         free : Stepping s costs from to costs′ choices base choices″ X
         free = stepping-free (f .ready) (f .stepping) e (λ k g. n .kept k (omega (arith, behind)))

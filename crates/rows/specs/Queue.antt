@@ -9,6 +9,8 @@ use Prim.Native.Nat.{ℕ, _+_, _-_, _*_, _≤_, _<_}
 use lib.ListN.{length}
 use Rattle.day.specs.Sums.{at}
 use Rattle.rows.specs.declared.Stage.{Stage}
+use Rattle.rows.specs.declared.Next.{Next}
+use Rattle.rows.specs.Row.{bestOf, cellOf}
 
 -- what the total `top` would cost from Y, without the setup
 abbrev pub keyOf : Stage → (ℕ → ℕ) → ℕ → ℕ
@@ -44,6 +46,12 @@ pub record Queue (s : Stage) (row : ℕ → ℕ) (cells : List ℕ) (X head tail
 pub record Window (s : Stage) (row : ℕ → ℕ) (cells : List ℕ) (X head tail : ℕ) : Type 0 where
   pub queue : Queue s row cells X head tail
   pub near : head < tail → X ≤ at cells head + s .capacity
+
+-- what recursion (5) says of X, and where the queue begins once its head is a candidate
+pub record Found (s : Stage) (row : ℕ → ℕ) (cells : List ℕ) (X head tail : ℕ) (r : Next) : Type 0 where
+  pub from : head ≤ r .head
+  pub queue : Queue s row cells X (r .head) tail
+  pub cell : r .cell ≡ cellOf s (bestOf s row X) X
 
 -- the cells from head to r lie below `least`
 pub record Below (cells : List ℕ) (least head tail r : ℕ) : Type 0 where

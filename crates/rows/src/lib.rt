@@ -7,7 +7,7 @@ ghost use Rattle.day.specs.Day.{maxSetup, maxRate, maxTotal};
 ghost use Rattle.day.specs.Plan.{making};
 ghost use Rattle.theory.specs.Basics.{pick};
 ghost use Rattle.rows.specs.Row.{rowAt, maxProduct, maxMaking, Worth, choiceOf, bestOf, cellOf, Small, Open, After, Leads, Ready, Stepped};
-ghost use Rattle.rows.specs.Queue.{keyOf, Entry, Queue, Window, Trimmed, Outdone, Room, Entered, Scratch, Queued};
+ghost use Rattle.rows.specs.Queue.{keyOf, Entry, Queue, Window, Found, Trimmed, Outdone, Room, Entered, Scratch, Queued};
 
 // One period, as the row step sees it: c, b, p and H, the totals that can be reached before it and after it.
 pub struct Stage {
@@ -31,6 +31,12 @@ pub struct Choice {
 pub struct Cell {
     pub cost: u64,
     pub amount: u16,
+}
+
+// What a turn of the row's loop finds: where the queue begins now, and the total's cell.
+pub struct Next {
+    pub head: usize,
+    pub cell: Cell,
 }
 
 // A difference, cut off at 0.
@@ -226,6 +232,27 @@ fn best_queued(
     cheaper(choice_for(s, costs, from, total, 0), some)
 }
 
+// Recursion (5) for one total, by the queue.
+fn next_cell(
+    s: Stage,
+    costs: &[u64],
+    from: usize,
+    choices: &[u16],
+    head: usize,
+    tail: usize,
+    total: usize,
+) -> Next
+    requires { ⌜ Open s (now costs) from ⌝ }
+    requires { ⌜ Queue s (rowAt (now costs) from) (now choices) total head tail ⌝ }
+    requires { ⌜ After s total × (tail ≤ length (now choices)) ⌝ }
+    ensures { λ r. ⌜ Found s (rowAt (now (costs .entry)) from) (now (choices .entry)) total head tail r ⌝ }
+{
+    let first = drop_head(choices, head, tail, less(total, s.capacity));
+    let best = best_queued(s, costs, from, choices, first, tail, total);
+    let cell = cell_for(s, best, total);
+    Next { head: first, cell }
+}
+
 // A row of more than one total. The queue stands behind the row's choices; each total before the stage enters once and leaves at most once.
 fn fill(s: Stage, costs: &mut [u64], from: usize, to: usize, choices: &mut [u16], base: usize)
     requires { ⌜ Ready s (now costs) from to (now choices) base ⌝ }
@@ -237,12 +264,11 @@ fn fill(s: Stage, costs: &mut [u64], from: usize, to: usize, choices: &mut [u16]
     let mut tail = enter_below(s, costs, from, choices, head);
     let mut total = s.floor;
     while total <= top {
-        head = drop_head(choices, head, tail, less(total, s.capacity));
-        let best = best_queued(s, costs, from, choices, head, tail, total);
-        let next = cell_for(s, best, total);
+        let next = next_cell(s, costs, from, choices, head, tail, total);
+        head = next.head;
         tail = enter(s, costs, from, choices, head, tail, total);
-        costs[to + total] = next.cost;
-        choices[base + total] = next.amount;
+        costs[to + total] = next.cell.cost;
+        choices[base + total] = next.cell.amount;
         total += 1;
     }
 }

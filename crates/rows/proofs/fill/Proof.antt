@@ -3,11 +3,7 @@ use mathlib.Core.Path.{_∙_}
 use Prim.Native.Nat.{suc, _-_}
 use native.Mathlib.Omega.{arith}
 use borrow.Author.Needs.{needs}
-use Rattle.rows.specs.Moves.{queue-trim}
-use Rattle.rows.proofs.Laws.{best-small}
 use Rattle.rows.proofs.Queueing.{Filling, scratch, filling-none, filling-open, filling-after, filling-room, filling-more, stepped-more}
-use Rattle.rows.proofs.Laws.{best-small}
-use Rattle.rows.proofs.Queueing.{Filling, scratch, filling-none, filling-room, filling-more}
 use Rattle.rows.proofs.fill.Statement.{statement}
 use Rattle.rows.proofs.fill.Tie as tie
 
@@ -32,51 +28,47 @@ loop-holds c =
     let called = c .before .before .enter-below in
     filling-none (pre .0) (pre .1) (called .ensures) (called .kept .1 .1 .1 .0)
 
-less-requires : tie.Need-less-requires Inv-loop μ-loop
-less-requires c κs = search needs
-
-drop-head-requires : tie.Need-drop-head-requires Inv-loop μ-loop
-drop-head-requires c κs = let f = c .before .before .before .loop .inv in (f .queue .ordered, omega (arith, filling-room f (c .before .before .loop-test .taken)))
-
-best-queued-requires : tie.Need-best-queued-requires Inv-loop μ-loop
-best-queued-requires c κs =
-    let f = c .before .before .before .before .before .before .loop .inv in
-    let l = c .before .before .before .before .before .loop-test .taken in
-    (filling-open f l, (queue-trim (f .queue) (c .before .before .before .less .ensures) (c .before .before .drop-head .ensures), (filling-after f l, omega (arith, filling-room f l))))
-
-cell-for-requires : tie.Need-cell-for-requires Inv-loop μ-loop
-cell-for-requires c κs =
-    let f = c .before .before .before .before .before .before .before .loop .inv in
-    let l = c .before .before .before .before .before .before .loop-test .taken in
-    best-small (filling-open f l) (filling-after f l) (c .best-queued .ensures)
+next-cell-requires : tie.Need-next-cell-requires Inv-loop μ-loop
+next-cell-requires c κs =
+    let f = c .before .before .before .loop .inv in
+    let l = c .before .before .loop-test .taken in
+    (filling-open f l, (f .queue, (filling-after f l, omega (arith, filling-room f l))))
 
 enter-requires : tie.Need-enter-requires Inv-loop μ-loop
 enter-requires c κs =
-    let f = c .before .before .before .before .before .before .before .before .before .before .loop .inv in
-    let l = c .before .before .before .before .before .before .before .before .before .loop-test .taken in
-    (filling-open f l, (queue-trim (f .queue) (c .before .before .before .before .before .before .before .less .ensures) (c .before .before .before .before .before .before .drop-head .ensures) .queue, filling-room f l))
+    let f = c .before .before .before .before .before .before .loop .inv in
+    let l = c .before .before .before .before .before .loop-test .taken in
+    (filling-open f l, (c .before .before .next-cell .ensures .queue, filling-room f l))
 
 add-costs : tie.Need-add-costs Inv-loop μ-loop
-add-costs c = let turn = c .before .before .before .before .before .before .before .before .before .before .before .before .before in omega (arith, turn .loop .inv .ready .costCells, c .before .before .before .before .before .before .before .before .before .before .before .before .loop-test .taken, turn .before .before .before .before .before .before .before .before .good)
+add-costs c =
+    let turn = c .before .before .before .before .before .before .before .before in
+    omega (arith, turn .before .loop .inv .ready .costCells, turn .loop-test .taken, turn .before .before .before .before .before .before .before .before .before .good)
 
 mul-costs : tie.Need-mul-costs Inv-loop μ-loop
-mul-costs c = let turn = c .before .before .before .before .before .before .before .before .before .before .before .before .before in omega (arith, turn .loop .inv .ready .costCells, c .before .before .before .before .before .before .before .before .before .before .before .before .loop-test .taken, turn .before .before .before .before .before .before .before .before .good)
+mul-costs c =
+    let turn = c .before .before .before .before .before .before .before .before in
+    omega (arith, turn .before .loop .inv .ready .costCells, turn .loop-test .taken, turn .before .before .before .before .before .before .before .before .before .good)
 
 slice-write-costs : tie.Need-slice-write-costs Inv-loop μ-loop
-slice-write-costs c = let turn = c .before .before .before .before .before .before .before .before .before .before .before .before .before in omega (arith, turn .loop .inv .ready .costCells, turn .loop .inv .stepping .costCells, c .before .before .before .before .before .before .before .before .before .before .before .before .loop-test .taken)
+slice-write-costs c =
+    let turn = c .before .before .before .before .before .before .before .before in
+    omega (arith, turn .before .loop .inv .ready .costCells, turn .loop-test .taken, turn .before .loop .inv .stepping .costCells)
 
 add-choices : tie.Need-add-choices Inv-loop μ-loop
-add-choices c = let turn = c .before .before .before .before .before .before .before .before .before .before .before .before .before in omega (arith, turn .loop .inv .ready .choiceCells, turn .loop .inv .stepping .choiceCells, c .before .before .before .before .before .before .before .before .before .before .before .before .loop-test .taken)
+add-choices c =
+    let turn = c .before .before .before .before .before .before .before .before in
+    omega (arith, turn .before .loop .inv .ready .choiceCells, turn .loop-test .taken, turn .before .loop .inv .stepping .choiceCells)
 
 mul-choices : tie.Need-mul-choices Inv-loop μ-loop
 mul-choices c =
-    let turn = c .before .before .before .before .before .before .before .before .before .before .before .before .before in
-    omega (arith, turn .loop .inv .ready .choiceCells, c .before .before .before .before .before .before .before .before .before .before .before .before .loop-test .taken, turn .before .before .before .enter-below .kept .1 .1 .1 .0, turn .before .before .before .before .before .before .before .before .good)
+    let turn = c .before .before .before .before .before .before .before .before in
+    omega (arith, turn .before .loop .inv .ready .choiceCells, turn .loop-test .taken, turn .before .before .before .before .enter-below .kept .1 .1 .1 .0, turn .before .before .before .before .before .before .before .before .before .good)
 
 slice-write-choices : tie.Need-slice-write-choices Inv-loop μ-loop
 slice-write-choices c =
-    let turn = c .before .before .before .before .before .before .before .before .before .before .before .before .before in
-    omega (arith, turn .loop .inv .ready .choiceCells, turn .loop .inv .stepping .choiceCells, c .before .before .before .before .before .before .before .before .before .before .before .before .loop-test .taken, c .before .before .enter .kept .1 .1 .1 .0)
+    let turn = c .before .before .before .before .before .before .before .before in
+    omega (arith, turn .before .loop .inv .ready .choiceCells, turn .loop-test .taken, turn .before .loop .inv .stepping .choiceCells, c .before .before .enter .kept .1 .1 .1 .0)
 
 add-total : tie.Need-add-total Inv-loop μ-loop
 add-total c = search needs
@@ -86,8 +78,9 @@ loop-less c = search needs
 
 loop-again : tie.Need-loop-again Inv-loop μ-loop
 loop-again c =
+    let turn = c .before .before .before .before .before .before .before .before in
     let called = c .before .before .enter in
-    filling-more (c .before .before .before .before .before .before .before .before .before .before .before .before .before .loop .inv) (c .before .before .before .before .before .before .before .before .before .before .before .before .loop-test .taken) (c .before .before .before .before .before .before .before .before .before .drop-head .ensures) (c .before .before .before .before .before .before .best-queued .ensures) (c .before .before .before .before .before .cell-for .ensures) (called .ensures) (called .kept .1 .1 .1 .0)
+    filling-more (turn .before .loop .inv) (turn .loop-test .taken) (c .before .before .before .before .before .next-cell .ensures) (called .ensures) (called .kept .1 .1 .1 .0)
 
 same-length : tie.Need-same-length Inv-loop μ-loop
 same-length c = c .before .loop .inv .stepping .costCells
@@ -108,10 +101,7 @@ fill-spec =
     add-head-2
     enter-below-requires
     loop-holds
-    less-requires
-    drop-head-requires
-    best-queued-requires
-    cell-for-requires
+    next-cell-requires
     enter-requires
     add-costs
     mul-costs
