@@ -1,0 +1,2 @@
+-- What a made-up day's tables hold.
+pub mod Sizes
