@@ -1,4 +1,4 @@
--- What the loops over the queue compute, in plain variables.
+-- What the loops over the queue, and the row's loop by it, compute, in plain variables.
 -- Assumes nothing.
 use mathlib.Core.Path.{_≡_, refl, sym, ap, _∙_}
 use mathlib.Core.List.{List}
@@ -22,6 +22,7 @@ use Rattle.rows.specs.Moves.{queue-none, queue-later, queue-ext, queue-e
 use Rattle.rows.specs.Head.{best-either}
 use Rattle.rows.proofs.Laws.{Stepping, stepping-none, stepping-open, stepping-free, stepping-more, stepping-all}
 
+-- what leaves at the head
 module _ {cells : List ℕ} {least head tail first : ℕ} where
   pub below-none : head ≤ tail → first ≡ head → Below cells least head tail first
   below-none l e = record { from = omega arith; to = omega arith; gone = λ i a b. absurd (omega arith) }
@@ -40,6 +41,7 @@ module _ {cells : List ℕ} {least head tail first : ℕ} where
   pub trimmed-all : Below cells least head tail first → tail ≤ first → Trimmed cells least head tail first
   trimmed-all t h = record { passed = t; stays = λ l. absurd (omega arith) }
 
+-- what leaves at the back, where Y enters
 module _ {s : Stage} {row : ℕ → ℕ} {cells : List ℕ} {Y head tail end : ℕ} where
   pub dearer-none : head ≤ tail → end ≡ tail → Dearer s row cells Y head tail end
   dearer-none l e = record { from = omega arith; to = omega arith; gone = λ i a b. absurd (omega arith) }
