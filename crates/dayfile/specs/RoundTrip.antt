@@ -1,4 +1,4 @@
--- The layout both ways: the file of a day is laid out as document 01 says and holds that day (`laid-out`, `reads-back`),
+-- The layout both ways: the file of a day is laid out as document 01 says and holds that day (`file-layout`, `reads-back`),
 -- and a file of bytes that is laid out so is the file of the day that it holds (`only-file`). Assumes nothing.
 use mathlib.Core.Path.{_≡_, refl, _∙_}
 use mathlib.Core.List.{List, [], _∷_, _++_, append-assoc}

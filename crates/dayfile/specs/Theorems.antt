@@ -2,6 +2,7 @@
 --     reader-gives            what the reader gives is what the layout says
 --     read-is-written, written-is-read     a file reads as given tables exactly if it is the file that the writer makes of them
 --     lookup-hands-out        the part that a lookup hands out is where the layout has that period
+--     file-size               a file of n periods has 17 × n + 3 bytes
 -- Assumes nothing.
 use mathlib.Core.Path.{_≡_, refl, sym, ap, _∙_}
 use mathlib.Core.List.{List, [], _∷_}
@@ -15,7 +16,7 @@ use lib.Seq.{drop-at, getD-take, getD-drop}
 use Rattle.day.specs.Sums.{at, listOf, at-listOf}
 use Rattle.day.specs.Day.{Day, periods, maxPeriods}
 use Rattle.day.specs.Refusals.{first, badCount, badLengths, badValue, badSlots}
-use Rattle.day.specs.File.{body, recordAt, number2, number4, Layout, periodsIn, walk, field, dayIn, fileOf}
+use Rattle.day.specs.File.{bodyLength, body, recordAt, number2, number4, Layout, periodsIn, walk, field, dayIn, fileOf}
 use Rattle.checks.specs.Passed.{SameLengths, tables-passed}
 use Rattle.dayfile.specs.declared.ReadAnswer.the-variants.{Periods}
 use Rattle.dayfile.specs.Answers.{BodyAt, badLookup, Lookup, badRead, shortest, written, Reading, badWrite}
@@ -24,7 +25,7 @@ use Rattle.dayfile.specs.Tables.{length-listOf, written-length, day-leng
 use Rattle.dayfile.specs.Layout.{period-at, period-body, laid-out, counted, walk-clean}
 use Rattle.dayfile.specs.RoundTrip.{Bytes, only-file, file-layout, reads-back}
 
--- one table after a reading: its first n cells hold the numbers of n bytes each at an offset of the bodies, the later cells what they held
+-- one table after a reading: its first n cells hold the numbers at one offset of the bodies, the later cells what they held
 pub record TableRead (s : List ℕ) (n : ℕ) (number : List ℕ → ℕ → ℕ) (offset : ℕ) (before after : List ℕ) : Type 0 where
   pub entry : (k : ℕ) → k < n → at after k ≡ number (body s (recordAt s k)) offset
   pub rest : drop n after ≡ drop n before
@@ -133,3 +134,9 @@ lookup-hands-out file i r e w = go (rw e at w) (lookup-passed (now file) i e)
           block = b .block;
           offset = rw p at (b .offset);
         }
+
+pub file-size : (s : List ℕ) (n : ℕ) → Layout s n → length s ≡ 17 * n + 3
+file-size s n w =
+    let here = record-17 s n (omega (arith, counted s n w)) in
+    let kind : bodyLength (at s (recordAt s n)) ≡ 2 = rw (w .ends) refl in
+    omega (arith, w .size)

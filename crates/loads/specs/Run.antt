@@ -13,7 +13,7 @@ use Rattle.theory.specs.Basics.{pick, pick-yes, pick-no}
 use Rattle.theory.specs.Model.{Model}
 use Rattle.theory.specs.Stages.{Solution, begin}
 use Rattle.theory.specs.Recursion.{both?}
-use Rattle.theory.specs.Table.{last, last-snoc}
+use Rattle.theory.specs.Basics.{last, last-snoc}
 use Rattle.theory.specs.Loads.{loadsTo, Step, stay, one-part, one-full, Back, loads-back}
 use Rattle.loads.specs.declared.Loads.{Loads}
 use Rattle.loads.specs.declared.Period.{Period}

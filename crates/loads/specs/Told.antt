@@ -10,7 +10,7 @@ use Rattle.day.specs.Plan.{making}
 use Rattle.theory.specs.Basics.{pick, pick-yes, pick-no}
 use Rattle.theory.specs.Model.{Model, production}
 use Rattle.theory.specs.Stages.{Solution, better, choose, extend}
-use Rattle.theory.specs.Table.{last, last-snoc}
+use Rattle.theory.specs.Basics.{last, last-snoc}
 use Rattle.theory.specs.Loads.{made, given, moves, loadsTo, loads-next}
 use Rattle.loads.specs.declared.Loads.{Loads}
 use Rattle.loads.specs.declared.Period.{Period}

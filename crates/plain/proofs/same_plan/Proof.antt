@@ -1,3 +1,4 @@
+-- `plain::same_plan` is safe and ends. The measure is how many periods are left. Assumes nothing.
 use Prim.Native.Nat.{_-_, _≤_}
 use borrow.Author.Needs.{needs}
 use Rattle.plain.proofs.same_plan.Statement.{statement}
