@@ -1,0 +1,86 @@
+-- `weigher::judge` meets its contract: each return by the tests that led there; the sums fit by their bounds.
+-- Assumes nothing.
+use mathlib.Core.Path.{_≡_, refl}
+use mathlib.Core.Bool.{false, _&&_}
+use mathlib.Core.Logic.{⊎-elim}
+use Prim.Native.Nat.{_+_}
+use lib.Dec.{ltb}
+use borrow.Author.Needs.{needs}
+use borrow.Author.Tests.{lt-ltb, le-ltb}
+use Rattle.weigher.proofs.judge.Statement.{statement}
+use Rattle.weigher.proofs.judge.Tie as tie
+
+-- past the last test, nothing is over
+kept : (c : tie.Joined3) → let a = c .before .before .before .before .before .before .before .args in (a .last && ltb (a .s .needed + a .p .demand) (a .s .made + a .amount)) ≡ false
+kept c = ⊎-elim (λ w. rw (w .0 .taken, w .1 .left) refl) (λ w. rw (w .left) refl) (c .if3 .came)
+
+returns : tie.Need-returns
+returns c = simp (lt-ltb _ _ (c .if1 .taken))
+
+add-made : tie.Need-add-made
+add-made c = search needs
+
+cast-needed : tie.Need-cast-needed
+cast-needed c = search needs
+
+add-needed : tie.Need-add-needed
+add-needed c = search needs
+
+returns-2 : tie.Need-returns-2
+returns-2 c = simp (le-ltb _ _ (c .before .before .before .before .if1 .left), lt-ltb _ _ (c .if2 .taken))
+
+returns-3 : tie.Need-returns-3
+returns-3 c =
+    simp (
+      le-ltb _ _ (c .before .before .before .before .before .before .if1 .left),
+      le-ltb _ _ (c .before .before .if2 .left),
+      c .before .if3 .taken,
+      c .if4 .taken,
+    )
+
+production-requires : tie.Need-production-requires
+production-requires c κs = search needs
+
+add-cost : tie.Need-add-cost
+add-cost c = search needs
+
+upkeep-requires : tie.Need-upkeep-requires
+upkeep-requires c κs = search needs
+
+add-t16 : tie.Need-add-t16
+add-t16 c = search needs
+
+setup-of-requires : tie.Need-setup-of-requires
+setup-of-requires c κs = search needs
+
+add-t18 : tie.Need-add-t18
+add-t18 c = search needs
+
+returns-4 : tie.Need-returns-4
+returns-4 c =
+    simp (
+      le-ltb _ _ (c .before .before .before .before .before .before .before .before .before .before .if1 .left),
+      le-ltb _ _ (c .before .before .before .before .before .before .if2 .left),
+      kept (c .before .before .before .before .before),
+      c .before .before .before .before .production .ensures .is,
+      c .before .before .upkeep .ensures .is,
+      c .before .setup-of .ensures .is,
+    )
+
+pub judge-spec : {M : Type 1} → statement M
+judge-spec =
+    tie.close
+    (tie.spec
+    returns
+    add-made
+    cast-needed
+    add-needed
+    returns-2
+    returns-3
+    production-requires
+    add-cost
+    upkeep-requires
+    add-t16
+    setup-of-requires
+    add-t18
+    returns-4)

@@ -1,0 +1,8 @@
+-- What the weigher answers, and what that says of a plan.
+-- The verdict in the report's terms, the answers of both calls, and the numbers that they go by.
+pub mod Verdict
+pub mod Answers
+-- That a verdict is right, and the only right one.
+pub mod Theorems
+-- What the code carries from period to period.
+pub mod Walk

@@ -1,0 +1,53 @@
+-- The weigher's verdict on a plan, in the report's terms (document 01, "The weigher"; report, section 2).
+-- A plan is a function from periods to amounts, as in the crate day's Plan. Index k is period k + 1.
+-- Main definition: `verdictOf`. Assumes nothing.
+use mathlib.Core.Bool.{Bool, true, false, _&&_, _||_}
+use mathlib.Core.Option.{Option, none, some}
+use Prim.Native.Nat.{ℕ, suc}
+use lib.Dec.{eqb, ltb}
+use Rattle.day.specs.declared.Totals.{Totals}
+use Rattle.day.specs.Sums.{at, sumTo}
+use Rattle.day.specs.Find.{find}
+use Rattle.day.specs.Day.{Day, periods, demandTo}
+use Rattle.day.specs.Plan.{cost, setups}
+use Rattle.weigher.specs.declared.Rule.{Rule}
+use Rattle.weigher.specs.declared.Rule.the-variants.{AboveCapacity, Short, Over}
+use Rattle.weigher.specs.declared.Verdict.{Verdict}
+use Rattle.weigher.specs.declared.Verdict.the-variants.{Holds, Broken}
+
+-- the amount is above the capacity
+abbrev pub aboveAt : Day → (ℕ → ℕ) → ℕ → Bool
+aboveAt d x k = ltb (at (d .capacity) k) (x k)
+
+-- the charge left would be below 0
+abbrev pub shortAt : Day → (ℕ → ℕ) → ℕ → Bool
+shortAt d x k = ltb (sumTo x (suc k)) (demandTo d (suc k))
+
+-- charge is left after the last period
+abbrev pub overAt : Day → (ℕ → ℕ) → ℕ → Bool
+overAt d x k = eqb (suc k) (periods d) && ltb (demandTo d (suc k)) (sumTo x (suc k))
+
+-- a period breaks some rule
+abbrev pub breaks : Day → (ℕ → ℕ) → ℕ → Bool
+breaks d x k = aboveAt d x k || shortAt d x k || overAt d x k
+
+-- which one: above capacity goes before the other two
+abbrev pub ruleOf : (above short : Bool) → Rule
+ruleOf true b = AboveCapacity
+ruleOf false true = Short
+ruleOf false false = Over
+
+abbrev pub ruleAt : Day → (ℕ → ℕ) → ℕ → Rule
+ruleAt d x k = ruleOf (aboveAt d x k) (shortAt d x k)
+
+-- the cost, sum (1), and the setups
+abbrev pub totalsOf : Day → (ℕ → ℕ) → Totals
+totalsOf d x = record { cost = cost d x; setups = setups (periods d) x }
+
+-- the first period that breaks a rule decides
+abbrev pub verdictAt : Day → (ℕ → ℕ) → Option ℕ → Verdict
+verdictAt d x none = Holds (totalsOf d x)
+verdictAt d x (some k) = Broken (ruleAt d x k) (suc k)
+
+abbrev pub verdictOf : Day → (ℕ → ℕ) → Verdict
+verdictOf d x = verdictAt d x (find (breaks d x) (periods d))
