@@ -1,0 +1,83 @@
+//! The library's calls as a C program has them: the answer as one code, its numbers in an out-array (include/yakkurem.h).
+ghost use mathlib.Core.Path.{_≡_};
+ghost use Prim.Native.Nat.{_≤_, _<_};
+ghost use Rattle.day.specs.Day.{dayOf, maxPeriods};
+ghost use Rattle.day.specs.Refusals.{numberOf, periodOf};
+ghost use Rattle.weigher.specs.Answers.{weighedOf, comparedOf, ruleNumber};
+ghost use Rattle.station.specs.Codes.{codeOf, seen, seenWeighed, seenCompared};
+use day::Refusal;
+use weigher::Compared;
+use weigher::Rule;
+use weigher::Verdict;
+use weigher::Weighed;
+
+// A number and a period as one code.
+fn code(number: u64, period: usize) -> u64
+    requires { ⌜ (number < 256) × (period ≤ maxPeriods) ⌝ }
+    ensures { λ r. ⌜ r ≡ codeOf number period ⌝ }
+{
+    number + 256 * (period as u64)
+}
+
+fn refused(r: Refusal) -> u64
+    requires { ⌜ periodOf r ≤ maxPeriods ⌝ }
+    ensures { λ c. ⌜ c ≡ codeOf (numberOf r) (periodOf r) ⌝ }
+{
+    code(r.number(), r.period())
+}
+
+fn broken(rule: Rule, period: usize) -> u64
+    requires { ⌜ period ≤ maxPeriods ⌝ }
+    ensures { λ c. ⌜ c ≡ codeOf (ruleNumber rule) period ⌝ }
+{
+    code(rule.number(), period)
+}
+
+// Weighs a plan; the answer is its cost and setups.
+#[no_mangle]
+pub extern "C" fn yakkurem_weigh(
+    demand: &[u16],
+    capacity: &[u16],
+    setup: &[u32],
+    unit: &[u32],
+    holding: &[u32],
+    plan: &[u16],
+    answer: &mut [u64; 2],
+) -> u64
+    ensures { λ r. ⌜ seen r (now (answer .exit)) ≡ seenWeighed (now (answer .entry)) (weighedOf (dayOf (now (demand .entry)) (now (capacity .entry)) (now (setup .entry)) (now (unit .entry)) (now (holding .entry))) (now (plan .entry))) ⌝ }
+{
+    match weigher::weigh(demand, capacity, setup, unit, holding, plan) {
+        Weighed::Refused(r) => refused(r),
+        Weighed::Judged(v) => match v {
+            Verdict::Broken(rule, period) => broken(rule, period),
+            Verdict::Holds(t) => {
+                *answer = [t.cost, t.setups];
+                0
+            }
+        },
+    }
+}
+
+// Weighs two plans; the answer is the first one's cost less the second's.
+#[no_mangle]
+pub extern "C" fn yakkurem_compare(
+    demand: &[u16],
+    capacity: &[u16],
+    setup: &[u32],
+    unit: &[u32],
+    holding: &[u32],
+    first: &[u16],
+    second: &[u16],
+    difference: &mut [i64; 1],
+) -> u64
+    ensures { λ r. ⌜ seen r (now (difference .exit)) ≡ seenCompared (now (difference .entry)) (comparedOf (dayOf (now (demand .entry)) (now (capacity .entry)) (now (setup .entry)) (now (unit .entry)) (now (holding .entry))) (now (first .entry)) (now (second .entry))) ⌝ }
+{
+    match weigher::compare(demand, capacity, setup, unit, holding, first, second) {
+        Compared::Refused(r) => refused(r),
+        Compared::Broken(rule, period) => broken(rule, period),
+        Compared::Difference(v) => {
+            *difference = [v];
+            0
+        }
+    }
+}
