@@ -1,0 +1,85 @@
+-- What the calls on day files answer. Assumes nothing.
+use mathlib.Core.Path.{_≡_, refl}
+use mathlib.Core.Option.{Option, none, some}
+use mathlib.Core.List.{List, [], _∷_, _++_}
+use Prim.Native.Nat.{ℕ, _+_, _-_, _<_, min}
+use native.Mathlib.Omega.{arith}
+use lib.ListN.{length, drop}
+use denote.Ref.{RefT, now}
+use Rattle.day.specs.Sums.{listOf}
+use Rattle.day.specs.Day.{Day, dayOf}
+use Rattle.day.specs.File.{body, recordAt, number2, number4, periodsIn, walk, noSuchPeriod, field, dayIn}
+use Rattle.day.specs.Refusals.{first, badCount, badSlots, badValue}
+use Rattle.day.specs.declared.Refusal.{Refusal}
+use Rattle.dayfile.specs.declared.ReadAnswer.{ReadAnswer}
+use Rattle.dayfile.specs.declared.ReadAnswer.the-variants.{Refused, Periods}
+
+-- a number and a bound that it keeps
+pub record Below (top v r : ℕ) : Type 0 where
+  pub is : r ≡ v
+  pub low : r < top
+
+-- the body of the record at byte p, as that very part of the file: the same block of memory, so many bytes on
+pub record BodyAt (file : RefT (List ℕ)) (p : ℕ) (r : RefT (List ℕ)) : Type 0 where
+  pub bytes : now r ≡ body (now file) p
+  pub block : r .ptr .0 ≡ file .ptr .0
+  pub offset : r .ptr .1 ≡ file .ptr .1 + (p + 1)
+
+-- the first refusal, or the count of periods
+abbrev pub answered : Option Refusal → ℕ → ReadAnswer
+answered none n = Periods n
+answered (some r) n = Refused r
+
+pub answered-refused : (o : Option Refusal) (n : ℕ) {a : ReadAnswer} {r : Refusal} → a ≡ answered o n → a ≡ Refused r → o ≡ some r
+answered-refused none n is e = let z : _≡_ {A = ℕ} 0 1 = cc in absurd (omega arith)
+answered-refused (some r) n is e = cc
+
+pub answered-periods : (o : Option Refusal) (n : ℕ) {a : ReadAnswer} {m : ℕ} → a ≡ answered o n → a ≡ Periods m → (o ≡ none) × (m ≡ n)
+answered-periods none n is e = (refl, cc)
+answered-periods (some r) n is e = let z : _≡_ {A = ℕ} 0 1 = cc in absurd (omega arith)
+
+-- what opens every call on a file: the walk, 1
+abbrev pub badFile : List ℕ → List (Option Refusal) → List (Option Refusal)
+badFile s rest = walk s ∷ badCount (periodsIn s) ∷ rest
+
+-- a lookup: these, 13
+abbrev pub badLookup : List ℕ → ℕ → Option Refusal
+badLookup s i = first (badFile s (noSuchPeriod (periodsIn s) i ∷ []))
+
+-- a lookup of period i, counted from 1: the body of its record, or an empty part where it is refused
+abbrev pub Found : Option Refusal → RefT (List ℕ) → ℕ → RefT (List ℕ) → Type 0
+Found none file i r = BodyAt file (recordAt (now file) (i - 1)) r
+Found (some refusal) file i r = now r ≡ []
+
+abbrev pub Lookup : RefT (List ℕ) → ℕ → RefT (List ℕ) → Type 0
+Lookup file i r = Found (badLookup (now file) i) file i r
+
+-- a table whose first k cells take f 0, .. f (k - 1), and whose later cells stay
+abbrev pub written : (ℕ → ℕ) → ℕ → List ℕ → List ℕ
+written f k l = listOf f k ++ drop k l
+
+-- tables whose first k cells take the numbers of the file's first k periods
+abbrev pub filledTo : List ℕ → ℕ → Day → Day
+filledTo s k tables =
+    dayOf
+    (written (field number2 0 s) k (tables .demand))
+    (written (field number2 2 s) k (tables .capacity))
+    (written (field number4 4 s) k (tables .setup))
+    (written (field number4 8 s) k (tables .unit))
+    (written (field number4 12 s) k (tables .holding))
+
+abbrev pub filled : List ℕ → Day → Day
+filled s tables = filledTo s (periodsIn s) tables
+
+-- a reading: these, 6, 3
+abbrev pub shortest : Day → ℕ
+shortest tables =
+    min (length (tables .demand)) (min (length (tables .capacity)) (min (length (tables .setup)) (min (length (tables .unit)) (length (tables .holding)))))
+
+abbrev pub badRead : List ℕ → ℕ → Option Refusal
+badRead s cells = first (badFile s (badSlots cells (periodsIn s) ∷ badValue (dayIn s) ∷ []))
+
+-- refused, no cell changes; accepted, the count of periods is given and their numbers fill the tables' first cells
+abbrev pub Reading : List ℕ → Day → ReadAnswer → Day → Type 0
+Reading s before (Refused r) after = (badRead s (shortest before) ≡ some r) × (after ≡ before)
+Reading s before (Periods n) after = (badRead s (shortest before) ≡ none) × (n ≡ periodsIn s) × (after ≡ filled s before)
