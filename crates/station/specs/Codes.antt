@@ -1,10 +1,19 @@
 -- What a C program sees of a call's answer: one code, and the call's out-array (include/yakkurem.h).
 -- Main definitions: `codeOf`, and what is seen of each answer. Assumes nothing.
+use mathlib.Core.Path.{_≡_}
 use mathlib.Core.List.{List, [], _∷_}
 use Prim.Native.Nat.{ℕ, _+_, _*_}
 use lib.IntN.{ℤ}
 use Rattle.day.specs.declared.Refusal.{Refusal}
 use Rattle.day.specs.Refusals.{numberOf, periodOf}
+use Rattle.day.specs.declared.Answer.{Answer}
+use Rattle.day.specs.declared.Answer.the-variants as answer
+use Rattle.day.specs.Day.{Day}
+use Rattle.day.specs.Outcome.{Memory}
+use Rattle.day.specs.Paths.{Path, Runs}
+use Rattle.dayfile.specs.declared.ReadAnswer.{ReadAnswer}
+use Rattle.dayfile.specs.declared.ReadAnswer.the-variants as reader
+use Rattle.dayfile.specs.Answers.{Reading}
 use Rattle.weigher.specs.declared.Rule.{Rule}
 use Rattle.weigher.specs.declared.Verdict.{Verdict}
 use Rattle.weigher.specs.declared.Verdict.the-variants.{Holds, Broken}
@@ -50,3 +59,25 @@ abbrev pub seenCompared : List ℤ → Compared → Seen ℤ
 seenCompared before (compared.Refused r) = refused before r
 seenCompared before (compared.Broken r i) = broken before r i
 seenCompared before (compared.Difference v) = accepted (v ∷ [])
+
+-- some answer that the call may give, and what is seen of it
+pub record Shows {A B : Type 0} (Given : A → Type 0) (show : A → Seen B) (s : Seen B) : Type 0 where
+  pub answer : A
+  pub given : Given answer
+  pub shown : s ≡ show answer
+
+-- a path: cost and setups of the plan
+abbrev pub seenAnswer : List ℕ → Answer → Seen ℕ
+seenAnswer before (answer.Refused r) = refused before r
+seenAnswer before (answer.Planned t) = accepted (t .cost ∷ t .setups ∷ [])
+
+abbrev pub PathShows : Path → Day → (m m′ : Memory) → List ℕ → Seen ℕ → Type 0
+PathShows P d m m′ before s = Shows (λ a. Runs P d m a m′) (seenAnswer before) s
+
+-- a reading: the count of periods
+abbrev pub seenReading : List ℕ → ReadAnswer → Seen ℕ
+seenReading before (reader.Refused r) = refused before r
+seenReading before (reader.Periods n) = accepted (n ∷ [])
+
+abbrev pub ReadShows : List ℕ → (tables tables′ : Day) → List ℕ → Seen ℕ → Type 0
+ReadShows file tables tables′ before s = Shows (λ a. Reading file tables a tables′) (seenReading before) s

@@ -3,9 +3,12 @@ ghost use mathlib.Core.Path.{_≡_};
 ghost use Prim.Native.Nat.{_≤_, _<_};
 ghost use Rattle.day.specs.Day.{dayOf, maxPeriods};
 ghost use Rattle.day.specs.Refusals.{numberOf, periodOf};
+ghost use Rattle.day.specs.Paths.{uncapped};
 ghost use Rattle.weigher.specs.Answers.{weighedOf, comparedOf, ruleNumber};
-ghost use Rattle.station.specs.Codes.{codeOf, seen, seenWeighed, seenCompared};
+ghost use Rattle.station.specs.Codes.{codeOf, seen, seenWeighed, seenCompared, PathShows, ReadShows};
+use day::Answer;
 use day::Refusal;
+use dayfile::ReadAnswer;
 use weigher::Compared;
 use weigher::Rule;
 use weigher::Verdict;
@@ -77,6 +80,52 @@ pub extern "C" fn yakkurem_compare(
         Compared::Broken(rule, period) => broken(rule, period),
         Compared::Difference(v) => {
             *difference = [v];
+            0
+        }
+    }
+}
+
+// The plan of a day whose capacities can't bind; the answer is its cost and setups.
+#[no_mangle]
+pub extern "C" fn yakkurem_uncapped(
+    demand: &[u16],
+    capacity: &[u16],
+    setup: &[u32],
+    unit: &[u32],
+    holding: &[u32],
+    costs: &mut [u64],
+    choices: &mut [u16],
+    slots: &mut [u16],
+    answer: &mut [u64; 2],
+) -> u64
+    ensures { λ r. ⌜ PathShows uncapped (dayOf (now (demand .entry)) (now (capacity .entry)) (now (setup .entry)) (now (unit .entry)) (now (holding .entry))) (record { costs = now (costs .entry); choices = now (choices .entry); slots = now (slots .entry) }) (record { costs = now (costs .exit); choices = now (choices .exit); slots = now (slots .exit) }) (now (answer .entry)) (seen r (now (answer .exit))) ⌝ }
+{
+    match uncapped::plan(demand, capacity, setup, unit, holding, costs, choices, slots) {
+        Answer::Refused(r) => refused(r),
+        Answer::Planned(t) => {
+            *answer = [t.cost, t.setups];
+            0
+        }
+    }
+}
+
+// Fills tables from a day file; the answer is the count of its periods.
+#[no_mangle]
+pub extern "C" fn yakkurem_read(
+    file: &[u8],
+    demand: &mut [u16],
+    capacity: &mut [u16],
+    setup: &mut [u32],
+    unit: &mut [u32],
+    holding: &mut [u32],
+    periods: &mut [u64; 1],
+) -> u64
+    ensures { λ r. ⌜ ReadShows (now (file .entry)) (dayOf (now (demand .entry)) (now (capacity .entry)) (now (setup .entry)) (now (unit .entry)) (now (holding .entry))) (dayOf (now (demand .exit)) (now (capacity .exit)) (now (setup .exit)) (now (unit .exit)) (now (holding .exit))) (now (periods .entry)) (seen r (now (periods .exit))) ⌝ }
+{
+    match dayfile::reader::read(file, demand, capacity, setup, unit, holding) {
+        ReadAnswer::Refused(r) => refused(r),
+        ReadAnswer::Periods(n) => {
+            *periods = [n as u64];
             0
         }
     }
