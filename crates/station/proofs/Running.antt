@@ -14,12 +14,15 @@ use Rattle.day.specs.declared.Answer.the-variants.{Refused}
 use Rattle.day.specs.Day.{Day, periods, maxPeriods, maxTotal, total}
 use Rattle.day.specs.Refusals.{periodOf, first, badTotal, badAreas, badSlots, short, shortage, binds, binding}
 use Rattle.day.specs.Outcome.{Memory}
-use Rattle.day.specs.Paths.{Path, refusal, Runs, uncapped}
+use Rattle.day.specs.Paths.{Path, refusal, Runs, full, uncapped}
 use Rattle.station.proofs.Named.{Named, named-none, named-next, named-refuse, named-at, tables-named}
 
 -- a path whose own test names a period up to 96
 abbrev pub OwnNamed : Path → Type 0
 OwnNamed P = (d : Day) → periods d ≤ maxPeriods → Named (first (P .own d))
+
+pub full-named : OwnNamed full
+full-named d l = named-none
 
 pub uncapped-named : OwnNamed uncapped
 uncapped-named d l = named-next (binding d) none (named-at BindingCapacity (binds d) (periods d) (λ i. refl) l) (λ _. named-none)

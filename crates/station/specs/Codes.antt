@@ -2,6 +2,7 @@
 -- Main definitions: `codeOf`, and what is seen of each answer. Assumes nothing.
 use mathlib.Core.Path.{_≡_}
 use mathlib.Core.List.{List, [], _∷_}
+use mathlib.Core.Option.{Option, none, some}
 use Prim.Native.Nat.{ℕ, _+_, _*_}
 use lib.IntN.{ℤ}
 use Rattle.day.specs.declared.Refusal.{Refusal}
@@ -81,3 +82,8 @@ seenReading before (reader.Periods n) = accepted (n ∷ [])
 
 abbrev pub ReadShows : List ℕ → (tables tables′ : Day) → List ℕ → Seen ℕ → Type 0
 ReadShows file tables tables′ before s = Shows (λ a. Reading file tables a tables′) (seenReading before) s
+
+-- a lookup: the body's bytes
+abbrev pub seenLookup : List ℕ → Option Refusal → List ℕ → Seen ℕ
+seenLookup before none bytes = accepted bytes
+seenLookup before (some r) bytes = refused before r

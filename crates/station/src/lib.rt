@@ -1,12 +1,16 @@
 //! The library's calls as a C program has them: the answer as one code, its numbers in an out-array (include/yakkurem.h).
 ghost use mathlib.Core.Path.{_≡_};
-ghost use Prim.Native.Nat.{_≤_, _<_};
+ghost use Prim.Native.Nat.{_-_, _≤_, _<_};
+ghost use lib.ListN.{length};
 ghost use Rattle.day.specs.Day.{dayOf, maxPeriods};
 ghost use Rattle.day.specs.Refusals.{numberOf, periodOf};
-ghost use Rattle.day.specs.Paths.{uncapped};
+ghost use Rattle.day.specs.File as File;
+ghost use Rattle.day.specs.Paths.{full, uncapped};
+ghost use Rattle.dayfile.specs.Answers.{badLookup};
 ghost use Rattle.weigher.specs.Answers.{weighedOf, comparedOf, ruleNumber};
-ghost use Rattle.station.specs.Codes.{codeOf, seen, seenWeighed, seenCompared, PathShows, ReadShows};
+ghost use Rattle.station.specs.Codes.{codeOf, seen, seenWeighed, seenCompared, PathShows, ReadShows, seenLookup};
 use day::Answer;
+use day::Check;
 use day::Refusal;
 use dayfile::ReadAnswer;
 use weigher::Compared;
@@ -85,6 +89,30 @@ pub extern "C" fn yakkurem_compare(
     }
 }
 
+// The plan of any day, by recursion (5); the answer is its cost and setups.
+#[no_mangle]
+pub extern "C" fn yakkurem_full(
+    demand: &[u16],
+    capacity: &[u16],
+    setup: &[u32],
+    unit: &[u32],
+    holding: &[u32],
+    costs: &mut [u64],
+    choices: &mut [u16],
+    slots: &mut [u16],
+    answer: &mut [u64; 2],
+) -> u64
+    ensures { λ r. ⌜ PathShows full (dayOf (now (demand .entry)) (now (capacity .entry)) (now (setup .entry)) (now (unit .entry)) (now (holding .entry))) (record { costs = now (costs .entry); choices = now (choices .entry); slots = now (slots .entry) }) (record { costs = now (costs .exit); choices = now (choices .exit); slots = now (slots .exit) }) (now (answer .entry)) (seen r (now (answer .exit))) ⌝ }
+{
+    match full::plan(demand, capacity, setup, unit, holding, costs, choices, slots) {
+        Answer::Refused(r) => refused(r),
+        Answer::Planned(t) => {
+            *answer = [t.cost, t.setups];
+            0
+        }
+    }
+}
+
 // The plan of a day whose capacities can't bind; the answer is its cost and setups.
 #[no_mangle]
 pub extern "C" fn yakkurem_uncapped(
@@ -129,4 +157,26 @@ pub extern "C" fn yakkurem_read(
             0
         }
     }
+}
+
+// A part of 16 bytes, copied.
+fn copy(from: &[u8], to: &mut [u8; 16])
+    requires { ⌜ length (now from) ≡ 16 ⌝ }
+    ensures { λ _. ⌜ now (to .exit) ≡ now (from .entry) ⌝ }
+{
+    for k in 0..16 {
+        to[k] = from[k];
+    }
+}
+
+// The body of a numbered period record, copied into the out-array: C can't be handed a part of the file.
+#[no_mangle]
+pub extern "C" fn yakkurem_lookup(file: &[u8], period: usize, body: &mut [u8; 16]) -> u64
+    ensures { λ r. ⌜ seen r (now (body .exit)) ≡ seenLookup (now (body .entry)) (badLookup (now (file .entry)) period) (File.body (now (file .entry)) (File.recordAt (now (file .entry)) (period - 1))) ⌝ }
+{
+    if let Check::Refused(r) = dayfile::lookup::check(file, period) {
+        return refused(r);
+    }
+    copy(dayfile::lookup::body(file, period), body);
+    0
 }
