@@ -8,11 +8,13 @@ use lib.ListN.{length, drop}
 use denote.Ref.{RefT, now}
 use Rattle.day.specs.Sums.{listOf}
 use Rattle.day.specs.Day.{Day, dayOf}
-use Rattle.day.specs.File.{body, recordAt, number2, number4, periodsIn, walk, noSuchPeriod, field, dayIn}
-use Rattle.day.specs.Refusals.{first, badCount, badSlots, badValue}
+use Rattle.day.specs.File.{body, recordAt, number2, number4, periodsIn, walk, noSuchPeriod, field, dayIn, fileOf}
+use Rattle.day.specs.Refusals.{first, badCount, badSlots, badValue, badTables}
 use Rattle.day.specs.declared.Refusal.{Refusal}
 use Rattle.dayfile.specs.declared.ReadAnswer.{ReadAnswer}
 use Rattle.dayfile.specs.declared.ReadAnswer.the-variants.{Refused, Periods}
+use Rattle.dayfile.specs.declared.WriteAnswer.{WriteAnswer}
+use Rattle.dayfile.specs.declared.WriteAnswer.the-variants as Write
 
 -- a number and a bound that it keeps
 pub record Below (top v r : ℕ) : Type 0 where
@@ -83,3 +85,12 @@ badRead s cells = first (badFile s (badSlots cells (periodsIn s) ∷ badValue (d
 abbrev pub Reading : List ℕ → Day → ReadAnswer → Day → Type 0
 Reading s before (Refused r) after = (badRead s (shortest before) ≡ some r) × (after ≡ before)
 Reading s before (Periods n) after = (badRead s (shortest before) ≡ none) × (n ≡ periodsIn s) × (after ≡ filled s before)
+
+-- a writing: 1, 2, 3, and 6 where the slice is shorter than the file
+abbrev pub badWrite : Day → ℕ → Option Refusal
+badWrite d room = first (badTables d (badSlots room (length (fileOf d)) ∷ []))
+
+-- refused, no byte changes; accepted, the file stands at the slice's front, its length is given, and later bytes stay
+abbrev pub Writing : Day → List ℕ → WriteAnswer → List ℕ → Type 0
+Writing d before (Write.Refused r) after = (badWrite d (length before) ≡ some r) × (after ≡ before)
+Writing d before (Write.Bytes n) after = (badWrite d (length before) ≡ none) × (n ≡ length (fileOf d)) × (after ≡ fileOf d ++ drop (length (fileOf d)) before)

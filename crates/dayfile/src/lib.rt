@@ -3,6 +3,7 @@
 pub mod layout;
 pub mod lookup;
 pub mod reader;
+pub mod writer;
 
 use day::Refusal;
 
@@ -10,6 +11,12 @@ use day::Refusal;
 pub enum ReadAnswer {
     Refused(Refusal),
     Periods(usize),
+}
+
+// What the writer answers: how many bytes it wrote at the slice's front.
+pub enum WriteAnswer {
+    Refused(Refusal),
+    Bytes(usize),
 }
 
 // The numbers of one period.

@@ -1,8 +1,6 @@
 //! The full path (document 01, "Three paths, one plan"): the plan of any day by recursion (5), over lent areas.
 ghost use mathlib.Core.Path.{_≡_};
 ghost use mathlib.Core.Option.{none};
-ghost use Prim.Native.Nat.{_+_, _*_};
-ghost use lib.ListN.{length};
 ghost use Rattle.day.specs.Day.{dayOf};
 ghost use Rattle.day.specs.Refusals.{checked};
 ghost use Rattle.day.specs.Outcome.{Accepted};

@@ -1,6 +1,6 @@
 //! The row step of recursion (5) over lent areas: costs and last amounts for each total that one more period can reach.
 ghost use mathlib.Core.Path.{_≡_};
-ghost use Prim.Native.Nat.{_+_, _-_, _*_, _≤_, min};
+ghost use Prim.Native.Nat.{_-_, _*_, _≤_, min};
 ghost use native.Mathlib.Decide.{decLt};
 ghost use Rattle.day.specs.Day.{maxSetup, maxRate, maxTotal};
 ghost use Rattle.day.specs.Plan.{making};

@@ -1,7 +1,6 @@
 //! The table of recursion (5) in lent areas: its rows, one for each period, and the plan read back from it.
 ghost use mathlib.Core.Path.{_≡_};
-ghost use Prim.Native.Nat.{_≤_};
-ghost use Rattle.day.specs.Day.{dayOf, maxTotal};
+ghost use Rattle.day.specs.Day.{dayOf};
 ghost use Rattle.day.specs.Plan.{setupAt};
 ghost use Rattle.rows.specs.Row.{Worth};
 ghost use Rattle.table.specs.Table.{stageAt, Staged, Fillable, Filled, Readable, ReadBack};
