@@ -1,5 +1,5 @@
 -- What a path's answer gives a caller: a period that fits a code. Assumes nothing.
-use mathlib.Core.Path.{_≡_, refl, subst}
+use mathlib.Core.Path.{refl}
 use mathlib.Core.List.{_∷_}
 use Prim.Native.Nat.{_≤_}
 use native.Mathlib.Omega.{arith}
@@ -10,11 +10,12 @@ use lib.ListN.{length}
 use Rattle.day.specs.declared.Refusal.{Refusal}
 use Rattle.day.specs.declared.Refusal.the-variants.{TotalDemand, ShortArea, FewSlots, Shortage, BindingCapacity}
 use Rattle.day.specs.declared.Answer.{Answer}
-use Rattle.day.specs.declared.Answer.the-variants.{Refused}
+use Rattle.day.specs.declared.Answer.the-variants.{Refused, Planned}
 use Rattle.day.specs.Day.{Day, periods, maxPeriods, maxTotal, total}
-use Rattle.day.specs.Refusals.{periodOf, first, badTotal, badAreas, badSlots, short, shortage, binds, binding}
+use Rattle.day.specs.Refusals.{first, badTotal, badAreas, badSlots, short, shortage, binds, binding}
 use Rattle.day.specs.Outcome.{Memory}
 use Rattle.day.specs.Paths.{Path, refusal, Runs, full, uncapped}
+use Rattle.station.specs.Codes.{LowAnswer}
 use Rattle.station.proofs.Named.{Named, named-none, named-next, named-refuse, named-at, tables-named}
 
 -- a path whose own test names a period up to 96
@@ -45,5 +46,6 @@ module _ (P : Path) (own : OwnNamed P) (d : Day) (m : Memory) where
       slots : Option Refusal
       slots = badSlots (length (m .slots)) (periods d)
 
-  pub run-low : (m′ : Memory) {a : Answer} {r : Refusal} → Runs P d m a m′ → a ≡ Refused r → periodOf r ≤ maxPeriods
-  run-low m′ {a} {r} runs e = named r (subst (λ (v : Answer). Runs P d m v m′) e runs .0)
+  pub run-low : (a : Answer) {m′ : Memory} → Runs P d m a m′ → LowAnswer a
+  run-low (Refused r) {m′} runs = named r (runs .0)
+  run-low (Planned t) {m′} runs = tt

@@ -3,13 +3,13 @@
 use mathlib.Core.Path.{_≡_}
 use mathlib.Core.List.{List, [], _∷_}
 use mathlib.Core.Option.{Option, none, some}
-use Prim.Native.Nat.{ℕ, _+_, _*_}
+use Prim.Native.Nat.{ℕ, _+_, _*_, _≤_}
 use lib.IntN.{ℤ}
 use Rattle.day.specs.declared.Refusal.{Refusal}
 use Rattle.day.specs.Refusals.{numberOf, periodOf}
 use Rattle.day.specs.declared.Answer.{Answer}
 use Rattle.day.specs.declared.Answer.the-variants as answer
-use Rattle.day.specs.Day.{Day}
+use Rattle.day.specs.Day.{Day, maxPeriods}
 use Rattle.day.specs.Outcome.{Memory}
 use Rattle.day.specs.Paths.{Path, Runs}
 use Rattle.dayfile.specs.declared.ReadAnswer.{ReadAnswer}
@@ -71,6 +71,11 @@ pub record Shows {A B : Type 0} (Given : A → Type 0) (show : A → Seen B) (s 
 abbrev pub seenAnswer : List ℕ → Answer → Seen ℕ
 seenAnswer before (answer.Refused r) = refused before r
 seenAnswer before (answer.Planned t) = accepted (t .cost ∷ t .setups ∷ [])
+
+-- the period that it names, where it names one, is at most 96
+abbrev pub LowAnswer : Answer → Type 0
+LowAnswer (answer.Refused r) = periodOf r ≤ maxPeriods
+LowAnswer (answer.Planned t) = Unit {0}
 
 abbrev pub PathShows : Path → Day → (m m′ : Memory) → List ℕ → Seen ℕ → Type 0
 PathShows P d m m′ before s = Shows (λ a. Runs P d m a m′) (seenAnswer before) s

@@ -8,7 +8,7 @@ ghost use Rattle.day.specs.File as File;
 ghost use Rattle.day.specs.Paths.{full, uncapped};
 ghost use Rattle.dayfile.specs.Answers.{badLookup};
 ghost use Rattle.weigher.specs.Answers.{weighedOf, comparedOf, ruleNumber};
-ghost use Rattle.station.specs.Codes.{codeOf, seen, seenWeighed, seenCompared, PathShows, ReadShows, seenLookup};
+ghost use Rattle.station.specs.Codes.{codeOf, seen, seenWeighed, seenCompared, LowAnswer, seenAnswer, PathShows, ReadShows, seenLookup};
 use day::Answer;
 use day::Check;
 use day::Refusal;
@@ -40,6 +40,58 @@ fn broken(rule: Rule, period: usize) -> u64
     code(rule.number(), period)
 }
 
+// A path's answer: the cost and setups of its plan go to the out-array.
+fn answered(a: Answer, answer: &mut [u64; 2]) -> u64
+    requires { ⌜ LowAnswer a ⌝ }
+    ensures { λ r. ⌜ seen r (now (answer .exit)) ≡ seenAnswer (now (answer .entry)) a ⌝ }
+{
+    match a {
+        Answer::Refused(r) => refused(r),
+        Answer::Planned(t) => {
+            *answer = [t.cost, t.setups];
+            0
+        }
+    }
+}
+
+// The plan of any day, by recursion (5); the answer is its cost and setups.
+#[no_mangle]
+pub extern "C" fn yakkurem_full(
+    demand: &[u16],
+    capacity: &[u16],
+    setup: &[u32],
+    unit: &[u32],
+    holding: &[u32],
+    costs: &mut [u64],
+    choices: &mut [u16],
+    slots: &mut [u16],
+    answer: &mut [u64; 2],
+) -> u64
+    ensures { λ r. ⌜ PathShows full (dayOf (now (demand .entry)) (now (capacity .entry)) (now (setup .entry)) (now (unit .entry)) (now (holding .entry))) (record { costs = now (costs .entry); choices = now (choices .entry); slots = now (slots .entry) }) (record { costs = now (costs .exit); choices = now (choices .exit); slots = now (slots .exit) }) (now (answer .entry)) (seen r (now (answer .exit))) ⌝ }
+{
+    let a = full::plan(demand, capacity, setup, unit, holding, costs, choices, slots);
+    answered(a, answer)
+}
+
+// The plan of a day whose capacities can't bind; the answer is its cost and setups.
+#[no_mangle]
+pub extern "C" fn yakkurem_uncapped(
+    demand: &[u16],
+    capacity: &[u16],
+    setup: &[u32],
+    unit: &[u32],
+    holding: &[u32],
+    costs: &mut [u64],
+    choices: &mut [u16],
+    slots: &mut [u16],
+    answer: &mut [u64; 2],
+) -> u64
+    ensures { λ r. ⌜ PathShows uncapped (dayOf (now (demand .entry)) (now (capacity .entry)) (now (setup .entry)) (now (unit .entry)) (now (holding .entry))) (record { costs = now (costs .entry); choices = now (choices .entry); slots = now (slots .entry) }) (record { costs = now (costs .exit); choices = now (choices .exit); slots = now (slots .exit) }) (now (answer .entry)) (seen r (now (answer .exit))) ⌝ }
+{
+    let a = uncapped::plan(demand, capacity, setup, unit, holding, costs, choices, slots);
+    answered(a, answer)
+}
+
 // Weighs a plan; the answer is its cost and setups.
 #[no_mangle]
 pub extern "C" fn yakkurem_weigh(
@@ -57,8 +109,8 @@ pub extern "C" fn yakkurem_weigh(
         Weighed::Refused(r) => refused(r),
         Weighed::Judged(v) => match v {
             Verdict::Broken(rule, period) => broken(rule, period),
-            Verdict::Holds(t) => {
-                *answer = [t.cost, t.setups];
+            Verdict::Holds(totals) => {
+                *answer = [totals.cost, totals.setups];
                 0
             }
         },
@@ -84,54 +136,6 @@ pub extern "C" fn yakkurem_compare(
         Compared::Broken(rule, period) => broken(rule, period),
         Compared::Difference(v) => {
             *difference = [v];
-            0
-        }
-    }
-}
-
-// The plan of any day, by recursion (5); the answer is its cost and setups.
-#[no_mangle]
-pub extern "C" fn yakkurem_full(
-    demand: &[u16],
-    capacity: &[u16],
-    setup: &[u32],
-    unit: &[u32],
-    holding: &[u32],
-    costs: &mut [u64],
-    choices: &mut [u16],
-    slots: &mut [u16],
-    answer: &mut [u64; 2],
-) -> u64
-    ensures { λ r. ⌜ PathShows full (dayOf (now (demand .entry)) (now (capacity .entry)) (now (setup .entry)) (now (unit .entry)) (now (holding .entry))) (record { costs = now (costs .entry); choices = now (choices .entry); slots = now (slots .entry) }) (record { costs = now (costs .exit); choices = now (choices .exit); slots = now (slots .exit) }) (now (answer .entry)) (seen r (now (answer .exit))) ⌝ }
-{
-    match full::plan(demand, capacity, setup, unit, holding, costs, choices, slots) {
-        Answer::Refused(r) => refused(r),
-        Answer::Planned(t) => {
-            *answer = [t.cost, t.setups];
-            0
-        }
-    }
-}
-
-// The plan of a day whose capacities can't bind; the answer is its cost and setups.
-#[no_mangle]
-pub extern "C" fn yakkurem_uncapped(
-    demand: &[u16],
-    capacity: &[u16],
-    setup: &[u32],
-    unit: &[u32],
-    holding: &[u32],
-    costs: &mut [u64],
-    choices: &mut [u16],
-    slots: &mut [u16],
-    answer: &mut [u64; 2],
-) -> u64
-    ensures { λ r. ⌜ PathShows uncapped (dayOf (now (demand .entry)) (now (capacity .entry)) (now (setup .entry)) (now (unit .entry)) (now (holding .entry))) (record { costs = now (costs .entry); choices = now (choices .entry); slots = now (slots .entry) }) (record { costs = now (costs .exit); choices = now (choices .exit); slots = now (slots .exit) }) (now (answer .entry)) (seen r (now (answer .exit))) ⌝ }
-{
-    match uncapped::plan(demand, capacity, setup, unit, holding, costs, choices, slots) {
-        Answer::Refused(r) => refused(r),
-        Answer::Planned(t) => {
-            *answer = [t.cost, t.setups];
             0
         }
     }
@@ -164,8 +168,10 @@ fn copy(from: &[u8], to: &mut [u8; 16])
     requires { ⌜ length (now from) ≡ 16 ⌝ }
     ensures { λ _. ⌜ now (to .exit) ≡ now (from .entry) ⌝ }
 {
-    for k in 0..16 {
+    let mut k = 0;
+    while k < 16 {
         to[k] = from[k];
+        k += 1;
     }
 }
 
