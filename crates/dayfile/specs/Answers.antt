@@ -90,7 +90,11 @@ Reading s before (Periods n) after = (badRead s (shortest before) ≡ none) × (
 abbrev pub badWrite : Day → ℕ → Option Refusal
 badWrite d room = first (badTables d (badSlots room (length (fileOf d)) ∷ []))
 
--- refused, no byte changes; accepted, the file stands at the slice's front, its length is given, and later bytes stay
+-- the file stands at the slice's front, and later bytes stay
+abbrev pub withFile : Day → List ℕ → List ℕ
+withFile d out = fileOf d ++ drop (length (fileOf d)) out
+
+-- refused, no byte changes; accepted, the file is written and its length given
 abbrev pub Writing : Day → List ℕ → WriteAnswer → List ℕ → Type 0
 Writing d before (Write.Refused r) after = (badWrite d (length before) ≡ some r) × (after ≡ before)
-Writing d before (Write.Bytes n) after = (badWrite d (length before) ≡ none) × (n ≡ length (fileOf d)) × (after ≡ fileOf d ++ drop (length (fileOf d)) before)
+Writing d before (Write.Bytes n) after = (badWrite d (length before) ≡ none) × (n ≡ length (fileOf d)) × (after ≡ withFile d before)

@@ -100,7 +100,7 @@ records-rest d (suc n) k l =
     (λ lt. let w = records-rest d n k lt in (w .0 ++ (periodKind ∷ fieldsOf d n), rw (w .1) (simp append-assoc)))
     (eq-or-lt-of-le (le-of-suc-le-suc l))
 
-records-length : (d : Day) (k : ℕ) → length (recordsOf d k) ≡ 17 * k
+pub records-length : (d : Day) (k : ℕ) → length (recordsOf d k) ≡ 17 * k
 records-length d zero = refl
 records-length d (suc k) = rw length-append (omega (arith, records-length d k))
 
@@ -124,7 +124,7 @@ record-place d zero l = refl
 record-place d (suc k) l =
     rw (record-place d k (omega arith), placed d k l .kind, length-append) (omega arith)
 
-file-length : (d : Day) → length (fileOf d) ≡ 17 * periods d + 3
+pub file-length : (d : Day) → length (fileOf d) ≡ 17 * periods d + 3
 file-length d = rw (length-append, records-length) refl
 
 -- the file of a day is laid out as document 01 says
