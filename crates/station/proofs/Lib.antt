@@ -2,5 +2,5 @@
 pub mod Named
 pub mod Weighing
 pub mod Running
-pub mod Reading
+pub mod Files
 pub mod Showing

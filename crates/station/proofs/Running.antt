@@ -33,12 +33,12 @@ module _ (P : Path) (own : OwnNamed P) (d : Day) (m : Memory) where
   named =
       tables-named d (badTotal d ∷ areas ∷ slots ∷ shortage d ∷ P .own d)
       (λ l.
-          named-next (badTotal d) (first (areas ∷ slots ∷ shortage d ∷ P .own d)) (named-refuse (ltb maxTotal (total d)) TotalDemand (omega arith))
-          (λ _.
-              named-next areas (first (slots ∷ shortage d ∷ P .own d)) (named-refuse (ltb (length (m .costs)) (P .costCells d) || ltb (length (m .choices)) (P .choiceCells d)) ShortArea (omega arith))
-              (λ _.
-                  named-next slots (first (shortage d ∷ P .own d)) (named-refuse (ltb (length (m .slots)) (periods d)) FewSlots (omega arith))
-                  (λ _. named-next (shortage d) (first (P .own d)) (named-at Shortage (short d) (periods d) (λ i. refl) l) (λ _. own d l)))))
+      named-next (badTotal d) (first (areas ∷ slots ∷ shortage d ∷ P .own d)) (named-refuse (ltb maxTotal (total d)) TotalDemand (omega arith))
+      (λ _.
+      named-next areas (first (slots ∷ shortage d ∷ P .own d)) (named-refuse (ltb (length (m .costs)) (P .costCells d) || ltb (length (m .choices)) (P .choiceCells d)) ShortArea (omega arith))
+      (λ _.
+      named-next slots (first (shortage d ∷ P .own d)) (named-refuse (ltb (length (m .slots)) (periods d)) FewSlots (omega arith))
+      (λ _. named-next (shortage d) (first (P .own d)) (named-at Shortage (short d) (periods d) (λ i. refl) l) (λ _. own d l)))))
     where
       areas : Option Refusal
       areas = badAreas (length (m .costs)) (P .costCells d) (length (m .choices)) (P .choiceCells d)
@@ -46,6 +46,6 @@ module _ (P : Path) (own : OwnNamed P) (d : Day) (m : Memory) where
       slots : Option Refusal
       slots = badSlots (length (m .slots)) (periods d)
 
-  pub run-low : (a : Answer) {m′ : Memory} → Runs P d m a m′ → LowAnswer a
-  run-low (Refused r) {m′} runs = named r (runs .0)
-  run-low (Planned t) {m′} runs = tt
+  pub run-low : (a : Answer) (m′ : Memory) → Runs P d m a m′ → LowAnswer a
+  run-low (Refused r) m′ runs = named r (runs .0)
+  run-low (Planned t) m′ runs = tt

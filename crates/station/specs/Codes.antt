@@ -14,7 +14,9 @@ use Rattle.day.specs.Outcome.{Memory}
 use Rattle.day.specs.Paths.{Path, Runs}
 use Rattle.dayfile.specs.declared.ReadAnswer.{ReadAnswer}
 use Rattle.dayfile.specs.declared.ReadAnswer.the-variants as reader
-use Rattle.dayfile.specs.Answers.{Reading}
+use Rattle.dayfile.specs.declared.WriteAnswer.{WriteAnswer}
+use Rattle.dayfile.specs.declared.WriteAnswer.the-variants as writer
+use Rattle.dayfile.specs.Answers.{Reading, Writing}
 use Rattle.weigher.specs.declared.Rule.{Rule}
 use Rattle.weigher.specs.declared.Verdict.{Verdict}
 use Rattle.weigher.specs.declared.Verdict.the-variants.{Holds, Broken}
@@ -92,3 +94,11 @@ ReadShows file tables tables′ before s = Shows (λ a. Reading file tables a ta
 abbrev pub seenLookup : List ℕ → Option Refusal → List ℕ → Seen ℕ
 seenLookup before none bytes = accepted bytes
 seenLookup before (some r) bytes = refused before r
+
+-- a writing: the count of bytes
+abbrev pub seenWriting : List ℕ → WriteAnswer → Seen ℕ
+seenWriting before (writer.Refused r) = refused before r
+seenWriting before (writer.Bytes n) = accepted (n ∷ [])
+
+abbrev pub WriteShows : Day → (bytes bytes′ : List ℕ) → List ℕ → Seen ℕ → Type 0
+WriteShows d bytes bytes′ before s = Shows (λ a. Writing d bytes a bytes′) (seenWriting before) s

@@ -8,11 +8,12 @@ ghost use Rattle.day.specs.File as File;
 ghost use Rattle.day.specs.Paths.{full, uncapped};
 ghost use Rattle.dayfile.specs.Answers.{badLookup};
 ghost use Rattle.weigher.specs.Answers.{weighedOf, comparedOf, ruleNumber};
-ghost use Rattle.station.specs.Codes.{codeOf, seen, seenWeighed, seenCompared, LowAnswer, seenAnswer, PathShows, ReadShows, seenLookup};
+ghost use Rattle.station.specs.Codes.{codeOf, seen, seenWeighed, seenCompared, LowAnswer, seenAnswer, PathShows, ReadShows, seenLookup, WriteShows};
 use day::Answer;
 use day::Check;
 use day::Refusal;
 use dayfile::ReadAnswer;
+use dayfile::WriteAnswer;
 use weigher::Compared;
 use weigher::Rule;
 use weigher::Verdict;
@@ -69,7 +70,16 @@ pub extern "C" fn yakkurem_full(
 ) -> u64
     ensures { λ r. ⌜ PathShows full (dayOf (now (demand .entry)) (now (capacity .entry)) (now (setup .entry)) (now (unit .entry)) (now (holding .entry))) (record { costs = now (costs .entry); choices = now (choices .entry); slots = now (slots .entry) }) (record { costs = now (costs .exit); choices = now (choices .exit); slots = now (slots .exit) }) (now (answer .entry)) (seen r (now (answer .exit))) ⌝ }
 {
-    let a = full::plan(demand, capacity, setup, unit, holding, costs, choices, slots);
+    let a = full::plan(
+        demand,
+        capacity,
+        setup,
+        unit,
+        holding,
+        costs,
+        choices,
+        slots,
+    );
     answered(a, answer)
 }
 
@@ -88,7 +98,16 @@ pub extern "C" fn yakkurem_uncapped(
 ) -> u64
     ensures { λ r. ⌜ PathShows uncapped (dayOf (now (demand .entry)) (now (capacity .entry)) (now (setup .entry)) (now (unit .entry)) (now (holding .entry))) (record { costs = now (costs .entry); choices = now (choices .entry); slots = now (slots .entry) }) (record { costs = now (costs .exit); choices = now (choices .exit); slots = now (slots .exit) }) (now (answer .entry)) (seen r (now (answer .exit))) ⌝ }
 {
-    let a = uncapped::plan(demand, capacity, setup, unit, holding, costs, choices, slots);
+    let a = uncapped::plan(
+        demand,
+        capacity,
+        setup,
+        unit,
+        holding,
+        costs,
+        choices,
+        slots,
+    );
     answered(a, answer)
 }
 
@@ -163,16 +182,18 @@ pub extern "C" fn yakkurem_read(
     }
 }
 
-// A part of 16 bytes, copied.
-fn copy(from: &[u8], to: &mut [u8; 16])
-    requires { ⌜ length (now from) ≡ 16 ⌝ }
-    ensures { λ _. ⌜ now (to .exit) ≡ now (from .entry) ⌝ }
+// A part of 16 bytes as an array.
+fn array(part: &[u8]) -> [u8; 16]
+    requires { ⌜ length (now part) ≡ 16 ⌝ }
+    ensures { λ r. ⌜ r ≡ now (part .entry) ⌝ }
 {
+    let mut bytes = [0; 16];
     let mut k = 0;
     while k < 16 {
-        to[k] = from[k];
+        bytes[k] = part[k];
         k += 1;
     }
+    bytes
 }
 
 // The body of a numbered period record, copied into the out-array: C can't be handed a part of the file.
@@ -183,6 +204,28 @@ pub extern "C" fn yakkurem_lookup(file: &[u8], period: usize, body: &mut [u8; 16
     if let Check::Refused(r) = dayfile::lookup::check(file, period) {
         return refused(r);
     }
-    copy(dayfile::lookup::body(file, period), body);
+    *body = array(dayfile::lookup::body(file, period));
     0
+}
+
+// Writes the day file at the front of the lent bytes; the answer is how many they are.
+#[no_mangle]
+pub extern "C" fn yakkurem_write(
+    demand: &[u16],
+    capacity: &[u16],
+    setup: &[u32],
+    unit: &[u32],
+    holding: &[u32],
+    out: &mut [u8],
+    count: &mut [u64; 1],
+) -> u64
+    ensures { λ r. ⌜ WriteShows (dayOf (now (demand .entry)) (now (capacity .entry)) (now (setup .entry)) (now (unit .entry)) (now (holding .entry))) (now (out .entry)) (now (out .exit)) (now (count .entry)) (seen r (now (count .exit))) ⌝ }
+{
+    match dayfile::writer::write(demand, capacity, setup, unit, holding, out) {
+        WriteAnswer::Refused(r) => refused(r),
+        WriteAnswer::Bytes(n) => {
+            *count = [n as u64];
+            0
+        }
+    }
 }

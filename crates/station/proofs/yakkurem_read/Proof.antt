@@ -4,7 +4,7 @@ use Prim.Native.Nat.{ℕ}
 use borrow.Author.Needs.{needs}
 use Rattle.day.specs.Day.{dayOf}
 use Rattle.station.specs.Codes.{seen}
-use Rattle.station.proofs.Reading.{read-low}
+use Rattle.station.proofs.Files.{read-low}
 use Rattle.station.proofs.Showing.{shows}
 use Rattle.station.proofs.yakkurem_read.Statement.{statement}
 use Rattle.station.proofs.yakkurem_read.Tie as tie
