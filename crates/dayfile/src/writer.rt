@@ -4,20 +4,18 @@ ghost use mathlib.Core.List.{_∷_};
 ghost use Prim.Native.Nat.{_+_, _*_, _≤_, _<_};
 ghost use lib.ListN.{length};
 ghost use lib.Seq.{sets};
-ghost use Rattle.day.specs.Sums.{at};
 ghost use Rattle.day.specs.Day.{dayOf, maxPeriods};
-ghost use Rattle.day.specs.File.{endKind, bytes2, bytes4, recordOf, recordsOf};
+ghost use Rattle.day.specs.File.{periodKind, endKind, bytes2, fieldsOf, recordOf, recordsOf};
 ghost use Rattle.checks.specs.Passed.{SameLengths};
 ghost use Rattle.dayfile.specs.Tables.{Cells};
 ghost use Rattle.dayfile.specs.Answers.{withFile, Writing};
-use crate::Period;
 use crate::WriteAnswer;
 use day::Check;
 use day::Refusal;
 
 // A period's record. Numbers stand most significant byte first.
 fn period_record(demand: u16, capacity: u16, setup: u32, unit: u32, holding: u32) -> [u8; 17]
-    ensures { λ r. ⌜ r ≡ recordOf demand capacity setup unit holding ⌝ }
+    ensures { λ r. ⌜ r ≡ periodKind ∷ fieldsOf demand capacity setup unit holding ⌝ }
 {
     [
         1,
@@ -49,7 +47,7 @@ fn record_of(
     holding: &[u32],
 ) -> [u8; 17]
     requires { ⌜ Cells (k + 1) (dayOf (now demand) (now capacity) (now setup) (now unit) (now holding)) ⌝ }
-    ensures { λ r. ⌜ r ≡ recordOf (at (now (demand .entry)) k) (at (now (capacity .entry)) k) (at (now (setup .entry)) k) (at (now (unit .entry)) k) (at (now (holding .entry)) k) ⌝ }
+    ensures { λ r. ⌜ r ≡ recordOf (dayOf (now (demand .entry)) (now (capacity .entry)) (now (setup .entry)) (now (unit .entry)) (now (holding .entry))) k ⌝ }
 {
     period_record(demand[k], capacity[k], setup[k], unit[k], holding[k])
 }

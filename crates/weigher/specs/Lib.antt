@@ -1,8 +1,10 @@
--- What the weigher answers, and what that says of a plan.
--- The verdict in the report's terms, the answers of both calls, and the numbers that they go by.
+-- What the weigher answers, and what that says of a plan. A module uses those above it.
+-- The verdict in the report's terms; the answers of both calls, and the numbers that they go by.
 pub mod Verdict
 pub mod Answers
--- That a verdict is right, and the only right one.
+-- That a verdict is right, and the only right one; which cells of a plan count; what a difference says.
 pub mod Theorems
+pub mod Cells
+pub mod Difference
 -- What the code carries from period to period.
 pub mod Walk

@@ -1,19 +1,19 @@
 -- What a verdict says of a plan, by the report's conditions (2) to (4), and that the weigher's verdict is the only right one.
 -- Main statements: `verdict-right`, `verdict-only`; of a plan that holds `holds-feasible`, `feasible-holds`. Assumes nothing.
 use mathlib.Core.Path.{_≡_, refl, sym, ap}
-use mathlib.Core.Bool.{Bool, true, false, cond}
+use mathlib.Core.Bool.{Bool, true, false}
 use mathlib.Core.Option.{Option, none, some}
-use Prim.Native.Nat.{ℕ, zero, suc, _+_, _-_, _≤_, _<_}
+use Prim.Native.Nat.{ℕ, zero, suc, _+_, _≤_, _<_}
 use native.Mathlib.Nat.{le-of-lt}
 use native.Mathlib.Omega.{arith}
 use lib.Dec.{eqb, ltb}
-use lib.IntN.{ℤ, pos, negsuc, _-ℤ_}
 use borrow.Author.Tests.{ltb-true, ltb-false, eqb-true, eqb-false, lt-ltb, le-ltb, eq-eqb}
 use Rattle.day.specs.declared.Totals.{Totals}
 use Rattle.day.specs.Sums.{at, sumTo}
 use Rattle.day.specs.Find.{Found, find, find-here, none-found, nothing-found, some-found}
 use Rattle.day.specs.Day.{Day, periods, demandTo}
 use Rattle.day.specs.Plan.{Feasible}
+use Rattle.day.specs.Refusals.{first}
 use Rattle.day.specs.Outcome.{Counts}
 use Rattle.weigher.specs.declared.Rule.{Rule}
 use Rattle.weigher.specs.declared.Rule.the-variants.{AboveCapacity, Short, Over}
@@ -129,21 +129,3 @@ module _ (d : Day) (x : ℕ → ℕ) where
 
   pub feasible-holds : Feasible d x → verdictOf d x ≡ Holds (totalsOf d x)
   feasible-holds f = sym (verdict-only (Holds (totalsOf d x)) (f, record { cost = refl; setups = refl }))
-
--- what a difference says of two costs: equal; the first dearer, or cheaper, by so much
-abbrev pub Apart : (a b : ℕ) → ℤ → Type 0
-Apart a b (pos zero) = a ≡ b
-Apart a b (pos (suc k)) = a ≡ b + suc k
-Apart a b (negsuc k) = b ≡ a + suc k
-
-not-below : (a b k : ℕ) → a ≡ b + k → Apart a b (pos k)
-not-below a b zero e = omega arith
-not-below a b (suc k) e = e
-
-pub difference-right : (a b : ℕ) → Apart a b (pos a -ℤ pos b)
-difference-right a zero = not-below a 0 (a + 0) (omega arith)
-difference-right a (suc b) = go (ltb a (suc b)) refl
-  where
-    go : (t : Bool) → ltb a (suc b) ≡ t → Apart a (suc b) (cond t (negsuc (suc b - suc a)) (pos (a - suc b)))
-    go true e = let l = ltb-true a (suc b) e in omega arith
-    go false e = let l = ltb-false a (suc b) e in not-below a (suc b) (a - suc b) (omega arith)

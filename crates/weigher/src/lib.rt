@@ -1,7 +1,7 @@
 //! Weighs a given plan of a day: whether it keeps the report's conditions, what it costs, how two plans compare.
 //! (Document 01, "The weigher".) What the answers mean is in specs/.
 ghost use mathlib.Core.Path.{_≡_};
-ghost use Prim.Native.Nat.{_*_, _^_, _<_};
+ghost use Prim.Native.Nat.{_-_, _*_, _^_, _≤_, _<_};
 ghost use lib.IntN.{pos, _-ℤ_};
 ghost use Rattle.day.specs.Sums.{at};
 ghost use Rattle.day.specs.Day.{dayOf};
@@ -149,7 +149,7 @@ enum Step {
 fn setup_of(amount: u16) -> u64
     ensures { λ r. ⌜ Term (setupAt amount) 2 r ⌝ }
 {
-    if amount == 0 { 0 } else { 1 }
+    if 0 < amount { 1 } else { 0 }
 }
 
 // What making an amount costs (report: p_i).
@@ -162,12 +162,12 @@ fn production(setup: u32, unit: u32, amount: u16) -> u64
     (setup as u64) + (unit as u64) * (amount as u64)
 }
 
-// What keeping the inventory costs (report: h_i).
-fn upkeep(rate: u32, left: u64) -> u64
-    requires { ⌜ left < 2 ^ 24 ⌝ }
-    ensures { λ r. ⌜ Term (rate * left) (2 ^ 56) r ⌝ }
+// What keeping the inventory costs (report: h_i); document 01: upkeep.
+fn upkeep(rate: u32, made: u64, needed: u64) -> u64
+    requires { ⌜ (needed ≤ made) × (made < 2 ^ 24) ⌝ }
+    ensures { λ r. ⌜ Term (rate * (made - needed)) (2 ^ 56) r ⌝ }
 {
-    (rate as u64) * left
+    (rate as u64) * (made - needed)
 }
 
 // One period's rules in their order, then what making costs, then the upkeep.
@@ -175,21 +175,23 @@ fn judge(p: Period, amount: u16, last: bool, s: Sums) -> Step
     requires { ⌜ Low s ⌝ }
     ensures { λ r. ⌜ r ≡ stepOf p amount last s ⌝ }
 {
+    let made = s.made + (amount as u64);
+    let needed = s.needed + (p.demand as u64);
     if p.capacity < amount {
         return Step::Broke(Rule::AboveCapacity);
     }
-    let made = s.made + (amount as u64);
-    let needed = s.needed + (p.demand as u64);
     if made < needed {
         return Step::Broke(Rule::Short);
     }
     if last && needed < made {
         return Step::Broke(Rule::Over);
     }
-    let cost = s.cost + production(p.setup, p.unit, amount);
+    let making = s.cost + production(p.setup, p.unit, amount);
+    let cost = making + upkeep(p.holding, made, needed);
+    let setups = s.setups + setup_of(amount);
     Step::Kept(Sums {
-        cost: cost + upkeep(p.holding, made - needed),
-        setups: s.setups + setup_of(amount),
+        cost,
+        setups,
         made,
         needed,
     })

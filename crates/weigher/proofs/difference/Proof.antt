@@ -7,7 +7,7 @@ use lib.IntN.{ℤ, pos, negsuc, _-ℤ_}
 use mir.Syntax.{w64}
 use mir.Val.{SFits}
 use mir.ValLaws.{toZ-pos, toZ-ofZ}
-use Rattle.weigher.specs.Theorems.{Apart, difference-right}
+use Rattle.weigher.specs.Difference.{Apart, difference-right}
 use Rattle.weigher.proofs.difference.Statement.{statement}
 use Rattle.weigher.proofs.difference.Tie as tie
 

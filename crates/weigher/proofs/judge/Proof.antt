@@ -11,11 +11,10 @@ use Rattle.weigher.proofs.judge.Statement.{statement}
 use Rattle.weigher.proofs.judge.Tie as tie
 
 -- past the last test, nothing is over
-kept : (c : tie.Joined3) → let a = c .before .before .before .before .before .before .before .args in (a .last && ltb (a .s .needed + a .p .demand) (a .s .made + a .amount)) ≡ false
+kept : (c : tie.Joined3)
+    → let a = c .before .before .before .before .before .before .before .args in
+    (a .last && ltb (a .s .needed + a .p .demand) (a .s .made + a .amount)) ≡ false
 kept c = ⊎-elim (λ w. rw (w .0 .taken, w .1 .left) refl) (λ w. rw (w .left) refl) (c .if3 .came)
-
-returns : tie.Need-returns
-returns c = simp (lt-ltb _ _ (c .if1 .taken))
 
 add-made : tie.Need-add-made
 add-made c = search needs
@@ -26,43 +25,45 @@ cast-needed c = search needs
 add-needed : tie.Need-add-needed
 add-needed c = search needs
 
+returns : tie.Need-returns
+returns c = simp (lt-ltb _ _ (c .if1 .taken))
+
 returns-2 : tie.Need-returns-2
-returns-2 c = simp (le-ltb _ _ (c .before .before .before .before .if1 .left), lt-ltb _ _ (c .if2 .taken))
+returns-2 c = simp (le-ltb _ _ (c .before .if1 .left), lt-ltb _ _ (c .if2 .taken))
 
 returns-3 : tie.Need-returns-3
 returns-3 c =
-    simp (
-      le-ltb _ _ (c .before .before .before .before .before .before .if1 .left),
-      le-ltb _ _ (c .before .before .if2 .left),
-      c .before .if3 .taken,
-      c .if4 .taken,
-    )
+    let tested = c .before .before in
+    simp (le-ltb _ _ (tested .before .if1 .left), le-ltb _ _ (tested .if2 .left), c .before .if3 .taken, c .if4 .taken)
 
 production-requires : tie.Need-production-requires
 production-requires c κs = search needs
 
-add-cost : tie.Need-add-cost
-add-cost c = search needs
+add-making : tie.Need-add-making
+add-making c = search needs
 
 upkeep-requires : tie.Need-upkeep-requires
 upkeep-requires c κs = search needs
 
-add-t16 : tie.Need-add-t16
-add-t16 c = search needs
+add-cost : tie.Need-add-cost
+add-cost c = search needs
 
 setup-of-requires : tie.Need-setup-of-requires
 setup-of-requires c κs = search needs
 
-add-t18 : tie.Need-add-t18
-add-t18 c = search needs
+add-setups : tie.Need-add-setups
+add-setups c = search needs
 
 returns-4 : tie.Need-returns-4
 returns-4 c =
+    let produced = c .before .before .before .before in
+    let joined = produced .before in
+    let tested = joined .before in
     simp (
-      le-ltb _ _ (c .before .before .before .before .before .before .before .before .before .before .if1 .left),
-      le-ltb _ _ (c .before .before .before .before .before .before .if2 .left),
-      kept (c .before .before .before .before .before),
-      c .before .before .before .before .production .ensures .is,
+      le-ltb _ _ (tested .before .if1 .left),
+      le-ltb _ _ (tested .if2 .left),
+      kept joined,
+      produced .production .ensures .is,
       c .before .before .upkeep .ensures .is,
       c .before .setup-of .ensures .is,
     )
@@ -71,16 +72,16 @@ pub judge-spec : {M : Type 1} → statement M
 judge-spec =
     tie.close
     (tie.spec
-    returns
     add-made
     cast-needed
     add-needed
+    returns
     returns-2
     returns-3
     production-requires
-    add-cost
+    add-making
     upkeep-requires
-    add-t16
+    add-cost
     setup-of-requires
-    add-t18
+    add-setups
     returns-4)

@@ -1,15 +1,18 @@
 -- `weigher::upkeep` meets its contract: the product of a 32-bit rate and a bounded number fits.
 -- Assumes nothing.
+use mathlib.Core.Path.{refl}
+use Prim.Native.Nat.{_-_, _*_, _^_, _<_}
 use native.Mathlib.Omega.{arith}
 use borrow.Author.Needs.{needs}
-use mathlib.Core.Path.{refl}
-use Prim.Native.Nat.{_*_, _^_, _<_}
 use Rattle.weigher.proofs.Bounds.{paid-low}
 use Rattle.weigher.proofs.upkeep.Statement.{statement}
 use Rattle.weigher.proofs.upkeep.Tie as tie
 
-low : (c : tie.Start) → c .args .rate * c .args .left < 2 ^ 56
-low c = omega (arith, paid-low (c .args .rate) (c .args .left) (2 ^ 24) (search needs) (search needs))
+low : (c : tie.Start) → c .args .rate * (c .args .made - c .args .needed) < 2 ^ 56
+low c = omega (arith, paid-low (c .args .rate) (c .args .made - c .args .needed) (2 ^ 24) (search needs) (omega arith))
+
+sub-result : tie.Need-sub-result
+sub-result c = search needs
 
 mul-result : tie.Need-mul-result
 mul-result c = omega (arith, low c)
@@ -18,4 +21,4 @@ returns : tie.Need-returns
 returns c = record { is = refl; low = low c }
 
 pub upkeep-spec : {M : Type 1} → statement M
-upkeep-spec = tie.close (tie.spec mul-result returns)
+upkeep-spec = tie.close (tie.spec sub-result mul-result returns)

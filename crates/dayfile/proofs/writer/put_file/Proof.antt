@@ -3,7 +3,6 @@ use mathlib.Core.Path.{_∙_}
 use Prim.Native.Nat.{_*_}
 use native.Mathlib.Omega.{arith}
 use denote.Ref.{now}
-use lib.ListN.{length}
 use Rattle.day.specs.Day.{Day, dayOf, periods}
 use Rattle.day.specs.File.{recordsOf, fileOf}
 use Rattle.dayfile.specs.RoundTrip.{records-length, file-length}

@@ -1,0 +1,64 @@
+-- A plan's cells past the day's last period are not read (document 01, refusal 6).
+-- Main statement: `cells-past-unread`. Assumes nothing.
+use mathlib.Core.Path.{_≡_, sym, ap, _∙_}
+use mathlib.Core.List.{List, [], _∷_, _++_}
+use Prim.Native.Nat.{ℕ, zero, suc, _≤_, _<_}
+use native.Mathlib.Omega.{arith}
+use lib.Dec.{ltb}
+use lib.ListN.{length, length-append, List·getD-append}
+use borrow.Author.Tests.{le-ltb}
+use Rattle.day.specs.declared.Refusal.the-variants.{FewSlots}
+use Rattle.day.specs.Sums.{at, sumTo, sum-ext}
+use Rattle.day.specs.Day.{Day, periods}
+use Rattle.day.specs.Plan.{setupAt}
+use Rattle.day.specs.Search.{feasible-alike, cost-alike}
+use Rattle.day.specs.Refusals.{refuse, first, badTables, badTotal}
+use Rattle.weigher.specs.declared.Rule.{Rule}
+use Rattle.weigher.specs.declared.Rule.the-variants.{AboveCapacity, Short, Over}
+use Rattle.weigher.specs.declared.Verdict.{Verdict}
+use Rattle.weigher.specs.declared.Verdict.the-variants.{Holds, Broken}
+use Rattle.weigher.specs.Verdict.{verdictOf}
+use Rattle.weigher.specs.Answers.{orRefused, weighedOf}
+use Rattle.weigher.specs.Theorems.{Keeps, Breaks, Says, verdict-right, verdict-only}
+
+-- only the amounts in the day's periods count
+module _ (d : Day) (x y : ℕ → ℕ) (same : (k : ℕ) → k < periods d → x k ≡ y k) where
+  sums-alike : (k : ℕ) → k < periods d → sumTo x (suc k) ≡ sumTo y (suc k)
+  sums-alike k l = sum-ext x y (suc k) (λ j h. same j (omega arith))
+
+  keeps-alike : (k : ℕ) → k < periods d → Keeps d x k → Keeps d y k
+  keeps-alike k l h =
+      let s = sums-alike k l in
+      let e = same k l in
+      record { within = omega (arith, h .within); served = omega (arith, h .served); emptied = λ q. omega (arith, h .emptied q) }
+
+  breaks-alike : (r : Rule) (k : ℕ) → k < periods d → Breaks d x r k → Breaks d y r k
+  breaks-alike AboveCapacity k l b = omega (arith, same k l)
+  breaks-alike Short k l b = omega (arith, same k l, sums-alike k l)
+  breaks-alike Over k l b = (omega (arith, same k l), (b .1 .0, omega (arith, sums-alike k l)))
+
+  verdict-alike : verdictOf d x ≡ verdictOf d y
+  verdict-alike = verdict-only d y (verdictOf d x) (go (verdictOf d x) (verdict-right d x))
+    where
+      go : (v : Verdict) → Says d x v → Says d y v
+      go (Holds t) (f, c) = (
+        feasible-alike d x y same f,
+        record { cost = c .cost ∙ cost-alike d x y same; setups = c .setups ∙ sum-ext _ _ (periods d) (λ k l. ap setupAt (same k l)) },
+      )
+      go (Broken r zero) s = s
+      go (Broken r (suc k)) s =
+          record {
+            inside = s .inside;
+            broken = breaks-alike r k (s .inside) (s .broken);
+            before = λ j l. keeps-alike j (omega (arith, s .inside)) (s .before j l);
+          }
+
+-- a plan's cells past the last period are not read
+pub cells-past-unread : (d : Day) (plan more : List ℕ) → periods d ≤ length plan → weighedOf d (plan ++ more) ≡ weighedOf d plan
+cells-past-unread d plan more h = λ i. orRefused (first (badTables d (badTotal d ∷ refuse (enough i) FewSlots ∷ []))) (judged i)
+  where
+    enough : ltb (length (plan ++ more)) (periods d) ≡ ltb (length plan) (periods d)
+    enough = le-ltb (length (plan ++ more)) (periods d) (rw length-append (omega arith)) ∙ sym (le-ltb _ _ h)
+
+    judged : verdictOf d (at (plan ++ more)) ≡ verdictOf d (at plan)
+    judged = verdict-alike d (at (plan ++ more)) (at plan) (λ k l. List·getD-append plan more 0 k (omega arith))
