@@ -27,7 +27,7 @@
  *      7  summed need exceeds summed capacity, first in this period: there is no plan
  *
  * On any code but 0 nothing that was lent changes, and the out-array (the last parameter) is not written.
- * The calls keep no state, use no heap and call nothing.
+ * The calls keep no state and use no heap, no file and no clock. Of the C library they use memset and memcpy at most.
  */
 #ifndef YAKKUREM_H
 #define YAKKUREM_H

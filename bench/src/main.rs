@@ -11,7 +11,6 @@ mod random;
 use plain::{Day, Path};
 use random::Random;
 use std::hint::black_box;
-use std::time::Instant;
 use yakkurem::{Memory, Tables};
 
 const ROUNDS: usize = 9;
@@ -65,15 +64,31 @@ fn same_method(path: Path, day: &Day, areas: &mut Areas) -> u64 {
     }
 }
 
-/// Seconds of one call, over as many calls as take about 2 ms.
+/// Seconds of processor time that this thread has used, so that other programs on the machine count for less.
+fn now() -> f64 {
+    #[repr(C)]
+    struct Time {
+        seconds: i64,
+        nanoseconds: i64,
+    }
+    extern "C" {
+        fn clock_gettime(clock: i32, time: *mut Time) -> i32;
+    }
+    const THREAD_CPUTIME: i32 = 3;
+    let mut time = Time { seconds: 0, nanoseconds: 0 };
+    assert_eq!(unsafe { clock_gettime(THREAD_CPUTIME, &mut time) }, 0);
+    time.seconds as f64 + time.nanoseconds as f64 * 1e-9
+}
+
+/// Seconds of one call, over as many calls as take about 5 ms.
 fn time(mut call: impl FnMut() -> u64) -> f64 {
     let mut calls = 0;
-    let start = Instant::now();
-    while calls == 0 || start.elapsed().as_secs_f64() < 0.002 {
+    let start = now();
+    while calls == 0 || now() - start < 0.005 {
         black_box(call());
         calls += 1;
     }
-    start.elapsed().as_secs_f64() / calls as f64
+    (now() - start) / calls as f64
 }
 
 /// Median, smallest and largest.
@@ -86,7 +101,9 @@ fn spread(mut values: Vec<f64>) -> Spread {
 
 impl Spread {
     fn ratio(&self) -> String {
-        format!("{:.2} ({:.2} to {:.2})", self.0, self.1, self.2)
+        // two digits that count
+        let short = |v: f64| format!("{v:.*}", if v >= 0.1 { 2 } else { 1 + (-v.log10()).ceil() as usize });
+        format!("{} ({} to {})", short(self.0), short(self.1), short(self.2))
     }
 
     fn time(&self) -> String {
@@ -125,7 +142,7 @@ const PATHS: [(Path, &str); 3] = [(Path::Full, "full"), (Path::Uncapped, "uncapp
 fn main() {
     println!("# Benchmarks\n");
     println!("Written by `bench/run`: the library's paths beside plain Rust programs of the same methods (`bench/src/methods.rs`) and beside recursion (5) by its letter (`outside/src/plain.rs`), which knows no bounds on the totals. Same process, same days, both built for release; all work on lent memory that was not cleared before a call. The library also tests the tables and clears its areas; the plain programs do neither. Recursion (5) by its letter allocates its rows.\n");
-    println!("A figure is the median of {ROUNDS} rounds, with the smallest and the largest: that spread is the machine's noise. A ratio below 1 means that the library is faster.\n");
+    println!("Times are the thread's processor time on x86-64 Linux. A figure is the median of {ROUNDS} rounds, with the smallest and the largest: that spread is the machine's noise. A ratio below 1 means that the library is faster.\n");
     println!("## Days of 96 periods\n");
     println!("| Path | R | Capacity | Library | To the plain program | To recursion (5) |");
     println!("|---|---|---|---|---|---|");
@@ -146,7 +163,12 @@ fn main() {
     for n in [12, 24, 48, 96] {
         let capped = day(n, 500, 60);
         let free = day(n, 500, 65_535);
-        println!("| {n} | {} | {} | {} |", alone(Path::Full, &capped).time(), alone(Path::Uncapped, &free).time(), alone(Path::Equal, &capped).time());
+        println!(
+            "| {n} | {} | {} | {} |",
+            alone(Path::Full, &capped).time(),
+            alone(Path::Uncapped, &free).time(),
+            alone(Path::Equal, &capped).time()
+        );
     }
     println!("\n## Growth with R\n\nn is 96.\n");
     println!("| R | full, capacity 60 | full, capacity 65,535 | uncapped | equal, capacity 60 |");

@@ -52,7 +52,9 @@ fn out<T: Cell, const N: usize>() -> [T; N] {
 fn before(input: &Input) -> Vec<Vec<u64>> {
     let l = &input.lent;
     match input.call {
-        Call::Full | Call::Uncapped | Call::Equal => vec![wide::<u64>(&pattern(0, l[0])), wide::<u16>(&pattern(1, l[1])), wide::<u16>(&pattern(2, l[2]))],
+        Call::Full | Call::Uncapped | Call::Equal => {
+            vec![wide::<u64>(&pattern(0, l[0])), wide::<u16>(&pattern(1, l[1])), wide::<u16>(&pattern(2, l[2]))]
+        }
         Call::Read => vec![
             wide::<u16>(&pattern(0, l[0])),
             wide::<u16>(&pattern(1, l[1])),
@@ -165,8 +167,13 @@ fn run_read(input: &Input) -> Seen {
     let mut unit: Vec<u32> = pattern(3, l[3]);
     let mut holding: Vec<u32> = pattern(4, l[4]);
     let mut periods = out();
-    let filled =
-        TablesMut { demand: lent(&mut demand), capacity: lent(&mut capacity), setup: lent(&mut setup), unit: lent(&mut unit), holding: lent(&mut holding) };
+    let filled = TablesMut {
+        demand: lent(&mut demand),
+        capacity: lent(&mut capacity),
+        setup: lent(&mut setup),
+        unit: lent(&mut unit),
+        holding: lent(&mut holding),
+    };
     let code = codes::read(&input.file, filled, &mut periods);
     Seen { code, out: wide(&periods), lent: vec![wide(&demand), wide(&capacity), wide(&setup), wide(&unit), wide(&holding)] }
 }
@@ -230,7 +237,8 @@ pub fn results_agree(input: &Input, seen: &Seen) -> bool {
             let l = &input.lent;
             let (mut demand, mut capacity) = (vec![0; l[0]], vec![0; l[1]]);
             let (mut setup, mut unit, mut holding) = (vec![0; l[2]], vec![0; l[3]], vec![0; l[4]]);
-            let filled = TablesMut { demand: &mut demand, capacity: &mut capacity, setup: &mut setup, unit: &mut unit, holding: &mut holding };
+            let filled =
+                TablesMut { demand: &mut demand, capacity: &mut capacity, setup: &mut setup, unit: &mut unit, holding: &mut holding };
             yakkurem::read(&input.file, filled) == if accepted { Ok(seen.out[0]) } else { Err(refusal) }
         }
         Call::Lookup => match yakkurem::lookup(&input.file, input.period) {

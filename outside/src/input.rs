@@ -78,7 +78,9 @@ impl Input {
             Call::Full | Call::Uncapped | Call::Equal => {
                 plain::path_refusals(self.call.path().unwrap(), &self.day, self.lent[0], self.lent[1], self.lent[2])
             }
-            Call::Weigh | Call::Compare => plain::weigh_refusals(&self.day, &self.plans.iter().map(|plan| plan.as_slice()).collect::<Vec<_>>()),
+            Call::Weigh | Call::Compare => {
+                plain::weigh_refusals(&self.day, &self.plans.iter().map(|plan| plan.as_slice()).collect::<Vec<_>>())
+            }
             Call::Read => plain::read_refusals(&self.file, *self.lent.iter().min().unwrap()),
             Call::Lookup => plain::lookup_refusals(&self.file, self.period),
             Call::Write => plain::write_refusals(&self.day, self.lent[0]),
@@ -167,8 +169,20 @@ pub fn day(random: &mut Random, call: Call, size: Size) -> Day {
     let (n, total, capacity, setup, rate) = match size {
         Size::Tiny => (random.between(1, 5), random.between(0, 9), 5, random.pick(&[0, 1, 3, 5]), random.pick(&[0, 1, 2])),
         Size::Middle => (random.between(1, 20), random.between(0, 120), 30, random.pick(&[5, 100, 1000]), random.pick(&[1, 10])),
-        Size::Long => (random.between(60, 96), random.between(100, 500), random.pick(&[15, 60, 65_535]), random.pick(&[50, 5000, plain::MAX_SETUP]), random.pick(&[3, 100, plain::MAX_RATE])),
-        Size::Limits => (random.pick(&[1, 95, 96, 96, 96]), random.pick(&[4095, 4096, 4096]), random.pick(&[60, 60, 65_535]), plain::MAX_SETUP, plain::MAX_RATE),
+        Size::Long => (
+            random.between(60, 96),
+            random.between(100, 500),
+            random.pick(&[15, 60, 65_535]),
+            random.pick(&[50, 5000, plain::MAX_SETUP]),
+            random.pick(&[3, 100, plain::MAX_RATE]),
+        ),
+        Size::Limits => (
+            random.pick(&[1, 95, 96, 96, 96]),
+            random.pick(&[4095, 4096, 4096]),
+            random.pick(&[60, 60, 65_535]),
+            plain::MAX_SETUP,
+            plain::MAX_RATE,
+        ),
     };
     let n = n as usize;
     let extreme = size == Size::Limits && random.once_in(2);
@@ -371,7 +385,8 @@ fn damage_file(random: &mut Random, file: &mut Vec<u8>, number: u64) {
             }
         }
         11 => {
-            let length = if random.once_in(3) { file.len().saturating_sub(random.between(1, 3) as usize) } else { random.index(file.len()) };
+            let length =
+                if random.once_in(3) { file.len().saturating_sub(random.between(1, 3) as usize) } else { random.index(file.len()) };
             file.truncate(length);
         }
         12 => {

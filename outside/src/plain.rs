@@ -245,7 +245,10 @@ pub fn bad_lengths(day: &Day) -> Option<Refusal> {
 pub fn bad_value(day: &Day) -> Option<Refusal> {
     let above = |table: &[u32], i: usize, limit: u64| table.get(i - 1).is_some_and(|&v| v as u64 > limit);
     refused_at(3, day.periods(), |i| {
-        day.demand[i - 1] as u64 > MAX_DEMAND || above(&day.setup, i, MAX_SETUP) || above(&day.unit, i, MAX_RATE) || above(&day.holding, i, MAX_RATE)
+        day.demand[i - 1] as u64 > MAX_DEMAND
+            || above(&day.setup, i, MAX_SETUP)
+            || above(&day.unit, i, MAX_RATE)
+            || above(&day.holding, i, MAX_RATE)
     })
 }
 
@@ -300,7 +303,10 @@ pub fn path_refusals(path: Path, day: &Day, costs: usize, choices: usize, slots:
 /// What the weigher refuses, in order, for one plan or two.
 pub fn weigh_refusals(day: &Day, plans: &[&[u16]]) -> Vec<Refusal> {
     let shortest = plans.iter().map(|plan| plan.len()).min().unwrap();
-    [bad_count(day.periods()), bad_lengths(day), bad_value(day), bad_total(day), too_few(shortest, day.periods())].into_iter().flatten().collect()
+    [bad_count(day.periods()), bad_lengths(day), bad_value(day), bad_total(day), too_few(shortest, day.periods())]
+        .into_iter()
+        .flatten()
+        .collect()
 }
 
 // The day file.

@@ -12,7 +12,7 @@ use Rattle.day.specs.declared.Refusal.{Refusal}
 use Rattle.day.specs.declared.Refusal.the-variants.{PeriodCount, TableLength, AboveLimit, TotalDemand, ShortArea, FewSlots, Shortage, UnequalCapacities, BindingCapacity, UnknownKind, TruncatedFile, WrongEnd, NoSuchPeriod}
 use Rattle.day.specs.Find.{find, some-found}
 use Rattle.day.specs.Day.{Day, periods, maxPeriods}
-use Rattle.day.specs.Refusals.{numberOf, periodOf, refuse, refuseAt, orNext, first, badCount, badLengths, aboveLimit, badValue, badTables}
+use Rattle.day.specs.Refusals.{numberOf, periodOf, refuse, refuseAt, orNext, anywhere, first, badCount, badLengths, aboveLimit, badValue, badTables}
 
 pub number-low : (r : Refusal) → numberOf r < 256
 number-low PeriodCount = omega arith
@@ -51,6 +51,10 @@ named-at f P n is l = go (find P n) refl
     go : (o : Option ℕ) → find P n ≡ o → Named (refuseAt f o)
     go none e r s = named-none r s
     go (some k) e r s = let q : f (suc k) ≡ r = cc in rw (← q) (omega (arith, is (suc k), some-found P n k e .inside))
+
+pub named-anywhere : (o : Option ℕ) (r : Refusal) → periodOf r ≤ maxPeriods → Named (anywhere o r)
+named-anywhere none r l s e = named-none s e
+named-anywhere (some k) r l s e = let q : r ≡ s = cc in rw (← q) l
 
 -- what test 1 leaves
 pub few : (n : ℕ) → badCount n ≡ none → n ≤ maxPeriods

@@ -8,15 +8,16 @@ use mathlib.Core.Option.{Option, none}
 use lib.Dec.{ltb}
 use lib.ListN.{length}
 use Rattle.day.specs.declared.Refusal.{Refusal}
-use Rattle.day.specs.declared.Refusal.the-variants.{TotalDemand, ShortArea, FewSlots, Shortage, BindingCapacity}
+use Rattle.day.specs.declared.Refusal.the-variants.{TotalDemand, ShortArea, FewSlots, Shortage, UnequalCapacities, BindingCapacity}
 use Rattle.day.specs.declared.Answer.{Answer}
 use Rattle.day.specs.declared.Answer.the-variants.{Refused, Planned}
+use Rattle.day.specs.Find.{find}
 use Rattle.day.specs.Day.{Day, periods, maxPeriods, maxTotal, total}
-use Rattle.day.specs.Refusals.{first, badTotal, badAreas, badSlots, short, shortage, binds, binding}
+use Rattle.day.specs.Refusals.{first, badTotal, badAreas, badSlots, short, shortage, differs, unequal, binds, binding}
 use Rattle.day.specs.Outcome.{Memory}
-use Rattle.day.specs.Paths.{Path, refusal, Runs, full, uncapped}
+use Rattle.day.specs.Paths.{Path, refusal, Runs, full, uncapped, equal}
 use Rattle.station.specs.Codes.{LowAnswer}
-use Rattle.station.proofs.Named.{Named, named-none, named-next, named-refuse, named-at, tables-named}
+use Rattle.station.proofs.Named.{Named, named-none, named-next, named-refuse, named-at, named-anywhere, tables-named}
 
 -- a path whose own test names a period up to 96
 abbrev pub OwnNamed : Path → Type 0
@@ -27,6 +28,9 @@ full-named d l = named-none
 
 pub uncapped-named : OwnNamed uncapped
 uncapped-named d l = named-next (binding d) none (named-at BindingCapacity (binds d) (periods d) (λ i. refl) l) (λ _. named-none)
+
+pub equal-named : OwnNamed equal
+equal-named d l = named-next (unequal d) none (named-anywhere (find (differs d) (periods d)) UnequalCapacities (omega arith)) (λ _. named-none)
 
 module _ (P : Path) (own : OwnNamed P) (d : Day) (m : Memory) where
   named : Named (refusal P d m)

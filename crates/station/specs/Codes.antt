@@ -1,9 +1,11 @@
 -- What a C program sees of a call's answer: one code, and the call's out-array (include/yakkurem.h).
--- Main definitions: `codeOf`, and what is seen of each answer. Assumes nothing.
-use mathlib.Core.Path.{_≡_}
+-- Main definitions: `codeOf`, and what is seen of each answer; `code-splits` takes a code apart. Assumes nothing.
+use mathlib.Core.Path.{_≡_, _∙_}
 use mathlib.Core.List.{List, [], _∷_}
 use mathlib.Core.Option.{Option, none, some}
-use Prim.Native.Nat.{ℕ, _+_, _*_, _≤_}
+use Prim.Native.Nat.{ℕ, _+_, _*_, _/_, _%_, _≤_, _<_}
+use native.Mathlib.Nat.{add-mul-mod-self-left, mod-eq-of-lt, add-mul-div-left, div-eq-of-lt, zero-add}
+use native.Mathlib.Omega.{arith}
 use lib.IntN.{ℤ}
 use Rattle.day.specs.declared.Refusal.{Refusal}
 use Rattle.day.specs.Refusals.{numberOf, periodOf}
@@ -29,6 +31,13 @@ use Rattle.weigher.specs.Answers.{ruleNumber}
 -- the code of a number and a period; 0 is the code of an accepted call, which has neither
 abbrev pub codeOf : (number period : ℕ) → ℕ
 codeOf number period = number + 256 * period
+
+-- a code gives back its number and its period; every refusal's and rule's number is below 256
+pub code-splits : (number period : ℕ) → number < 256 → (codeOf number period % 256 ≡ number) × (codeOf number period / 256 ≡ period)
+code-splits number period low = (
+  add-mul-mod-self-left number 256 period ∙ mod-eq-of-lt low,
+  add-mul-div-left number period (omega arith) ∙ rw (div-eq-of-lt low) (zero-add period),
+)
 
 -- a call's code, and what its out-array holds after it
 pub record Seen (A : Type 0) : Type 0 where

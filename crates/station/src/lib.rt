@@ -5,7 +5,7 @@ ghost use lib.ListN.{length};
 ghost use Rattle.day.specs.Day.{dayOf, maxPeriods};
 ghost use Rattle.day.specs.Refusals.{numberOf, periodOf};
 ghost use Rattle.day.specs.File as File;
-ghost use Rattle.day.specs.Paths.{full, uncapped};
+ghost use Rattle.day.specs.Paths.{full, uncapped, equal};
 ghost use Rattle.dayfile.specs.Answers.{badLookup};
 ghost use Rattle.weigher.specs.Answers.{weighedOf, comparedOf, ruleNumber};
 ghost use Rattle.station.specs.Codes.{codeOf, seen, seenWeighed, seenCompared, LowAnswer, seenAnswer, PathShows, ReadShows, seenLookup, WriteShows};
@@ -99,6 +99,34 @@ pub extern "C" fn yakkurem_uncapped(
     ensures { λ r. ⌜ PathShows uncapped (dayOf (now (demand .entry)) (now (capacity .entry)) (now (setup .entry)) (now (unit .entry)) (now (holding .entry))) (record { costs = now (costs .entry); choices = now (choices .entry); slots = now (slots .entry) }) (record { costs = now (costs .exit); choices = now (choices .exit); slots = now (slots .exit) }) (now (answer .entry)) (seen r (now (answer .exit))) ⌝ }
 {
     let a = uncapped::plan(
+        demand,
+        capacity,
+        setup,
+        unit,
+        holding,
+        costs,
+        choices,
+        slots,
+    );
+    answered(a, answer)
+}
+
+// The plan of a day with one capacity throughout; the answer is its cost and setups.
+#[no_mangle]
+pub extern "C" fn yakkurem_equal(
+    demand: &[u16],
+    capacity: &[u16],
+    setup: &[u32],
+    unit: &[u32],
+    holding: &[u32],
+    costs: &mut [u64],
+    choices: &mut [u16],
+    slots: &mut [u16],
+    answer: &mut [u64; 2],
+) -> u64
+    ensures { λ r. ⌜ PathShows equal (dayOf (now (demand .entry)) (now (capacity .entry)) (now (setup .entry)) (now (unit .entry)) (now (holding .entry))) (record { costs = now (costs .entry); choices = now (choices .entry); slots = now (slots .entry) }) (record { costs = now (costs .exit); choices = now (choices .exit); slots = now (slots .exit) }) (now (answer .entry)) (seen r (now (answer .exit))) ⌝ }
+{
+    let a = equal::plan(
         demand,
         capacity,
         setup,

@@ -54,7 +54,11 @@ impl Panel {
         }
         let whole = WIDTH / PERIODS as f64;
         let (y, width) = (self.y(amount as f64), whole * part);
-        println!("<rect x='{:.1}' y='{y:.1}' width='{width:.1}' height='{:.1}' fill='{colour}'/>", x(period) + (whole - width) / 2.0, self.bottom - y);
+        println!(
+            "<rect x='{:.1}' y='{y:.1}' width='{width:.1}' height='{:.1}' fill='{colour}'/>",
+            x(period) + (whole - width) / 2.0,
+            self.bottom - y
+        );
     }
 }
 
@@ -82,7 +86,10 @@ fn main() {
 
     println!("<svg xmlns='http://www.w3.org/2000/svg' viewBox='0 0 960 540' font-family='sans-serif' font-size='13' fill='#333'>");
     println!("<rect width='960' height='540' fill='white'/>");
-    println!("<text x='{LEFT}' y='26' font-size='17'>A planned day: {total} Wh in 96 periods, {} µl of fuel, {} starts</text>", planned.cost, planned.setups);
+    println!(
+        "<text x='{LEFT}' y='26' font-size='17'>A planned day: {total} Wh in 96 periods, {} µl of fuel, {} starts</text>",
+        planned.cost, planned.setups
+    );
     legend(600.0, "#b9c6d6", "need");
     legend(680.0, "#d9772b", "amount made");
     legend(812.0, "#4f8f6b", "charge left");

@@ -3,8 +3,23 @@
 use crate::{Memory, Tables, TablesMut};
 
 type Path = unsafe extern "C" fn(
-    *const u16, usize, *const u16, usize, *const u32, usize, *const u32, usize, *const u32, usize,
-    *mut u64, usize, *mut u16, usize, *mut u16, usize, *mut u64,
+    *const u16,
+    usize,
+    *const u16,
+    usize,
+    *const u32,
+    usize,
+    *const u32,
+    usize,
+    *const u32,
+    usize,
+    *mut u64,
+    usize,
+    *mut u16,
+    usize,
+    *mut u16,
+    usize,
+    *mut u64,
 ) -> u64;
 
 #[rustfmt::skip]
