@@ -1,0 +1,161 @@
+//! Plain programs of the three paths' methods, on the same lent memory, for comparison of speed.
+//! They test nothing and leave their areas as they are.
+use crate::plain::Day;
+
+fn production(day: &Day, i: usize, x: u64) -> u64 {
+    if x == 0 {
+        0
+    } else {
+        day.setup[i] as u64 + day.unit[i] as u64 * x
+    }
+}
+
+/// Recursion (5) over the totals that can be reached, two cost rows taking turns.
+pub fn full(day: &Day, costs: &mut [u64], choices: &mut [u16], slots: &mut [u16]) -> u64 {
+    let (n, total) = (day.periods(), day.total() as usize);
+    let width = total + 1;
+    let (mut before, mut after) = costs[..2 * width].split_at_mut(width);
+    before[0] = 0;
+    let (mut low, mut high) = (0, 0);
+    for i in 0..n {
+        let capacity = day.capacity[i] as usize;
+        let (floor, top) = (low + day.demand[i] as usize, (high + capacity).min(total));
+        let row = &mut choices[i * width..(i + 1) * width];
+        for made in floor..=top {
+            let mut best = u64::MAX;
+            let mut amount = 0;
+            for x in made.saturating_sub(high)..=capacity.min(made - low) {
+                let price = before[made - x] + production(day, i, x as u64);
+                if price < best {
+                    best = price;
+                    amount = x;
+                }
+            }
+            after[made] = best + day.holding[i] as u64 * (made - floor) as u64;
+            row[made] = amount as u16;
+        }
+        (low, high) = (floor, top);
+        (before, after) = (after, before);
+    }
+    let cost = before[total];
+    let mut made = total;
+    for i in (0..n).rev() {
+        slots[i] = choices[i * width + made];
+        made -= slots[i] as usize;
+    }
+    cost
+}
+
+/// Wagner and Whitin: of the candidates for the last lot, from the last to the first, the sums are kept up.
+pub fn uncapped(day: &Day, costs: &mut [u64], choices: &mut [u16], slots: &mut [u16]) -> u64 {
+    let n = day.periods();
+    costs[0] = 0;
+    for m in 0..n {
+        let mut made = day.demand[m] as u64;
+        let mut held = 0;
+        let mut best = costs[m] + production(day, m, made);
+        let mut from = m;
+        if made > 0 {
+            for l in (0..m).rev() {
+                held += day.holding[l] as u64 * made;
+                made += day.demand[l] as u64;
+                let price = costs[l] + production(day, l, made) + held;
+                if price <= best {
+                    best = price;
+                    from = l;
+                }
+            }
+        }
+        costs[m + 1] = best;
+        choices[m + 1] = from as u16;
+    }
+    slots[..n].fill(0);
+    let mut m = n;
+    while m > 0 {
+        let from = choices[m] as usize;
+        slots[from] = day.demand[from..m].iter().sum();
+        m = from;
+    }
+    costs[n]
+}
+
+const NONE: u64 = u64::MAX / 4;
+
+/// Florian and Klein: the plan of the first m periods is that of the first l and a run of full loads and at most one part load.
+pub fn equal(day: &Day, costs: &mut [u64], choices: &mut [u16], slots: &mut [u16]) -> u64 {
+    let n = day.periods();
+    let c = day.capacity[0] as u64;
+    let width = 2 * n + 2;
+    let (rows, picks) = choices.split_at_mut((n + 1) * n);
+    let (row_costs, state_costs) = costs.split_at_mut(n + 1);
+    let mut candidate = vec![0u16; n];
+    row_costs[0] = 0;
+    for m in 1..=n {
+        row_costs[m] = NONE;
+        for l in (0..m).rev() {
+            let left: u64 = day.demand[l..m].iter().map(|&v| v as u64).sum();
+            let (full, part) = if c == 0 { (0, 0) } else { (left / c, left % c) };
+            if full as usize > m - l || row_costs[l] >= NONE {
+                continue;
+            }
+            let top = 2 * full as usize + usize::from(part > 0);
+            run(day, l, m, top, part, state_costs, picks, width);
+            let cost = row_costs[l] + state_costs[top];
+            if cost > row_costs[m] || state_costs[top] >= NONE {
+                continue;
+            }
+            candidate[..l].copy_from_slice(&rows[l * n..l * n + l]);
+            read_back(c as u16, picks, width, top, &mut candidate[l..m]);
+            let row = &mut rows[m * n..m * n + m];
+            if cost < row_costs[m] || candidate[..m].iter().rev().lt(row.iter().rev()) {
+                row_costs[m] = cost;
+                row.copy_from_slice(&candidate[..m]);
+            }
+        }
+    }
+    slots[..n].copy_from_slice(&rows[n * n..n * n + n]);
+    row_costs[n]
+}
+
+/// The costs of a run's states (twice the full loads made, and 1 if the part load is), and what each period makes on the way to them.
+fn run(day: &Day, l: usize, m: usize, top: usize, part: u64, costs: &mut [u64], picks: &mut [u16], width: usize) {
+    let c = day.capacity[0] as u64;
+    costs[0] = 0;
+    costs[1..=top].fill(NONE);
+    let mut due = 0;
+    for i in l..m {
+        due += day.demand[i] as u64;
+        let row = &mut picks[(i - l) * width..][..width];
+        for s in (0..=top).rev() {
+            let made = (s as u64 / 2) * c + (s as u64 % 2) * part;
+            if made < due {
+                costs[s] = NONE;
+                continue;
+            }
+            let mut best = costs[s];
+            let mut amount = 0;
+            if s % 2 == 1 && costs[s - 1] + production(day, i, part) < best {
+                best = costs[s - 1] + production(day, i, part);
+                amount = part;
+            }
+            if s >= 2 && costs[s - 2] + production(day, i, c) < best {
+                best = costs[s - 2] + production(day, i, c);
+                amount = c;
+            }
+            costs[s] = best + day.holding[i] as u64 * (made - due);
+            row[s] = amount as u16;
+        }
+    }
+}
+
+fn read_back(full: u16, picks: &[u16], width: usize, top: usize, amounts: &mut [u16]) {
+    let mut state = top;
+    for k in (0..amounts.len()).rev() {
+        amounts[k] = picks[k * width + state];
+        state -= match amounts[k] {
+            0 => 0,
+            x if x == full => 2,
+            _ => 1,
+        };
+    }
+}

@@ -1,0 +1,2 @@
+-- What a C program sees of the library's answers.
+pub mod Codes

@@ -1,0 +1,263 @@
+//! What a call should answer and leave behind, and what it does.
+use crate::input::{Call, Input};
+use crate::plain::{self, Path, Rule, Verdict};
+use crate::random::mix;
+use yakkurem::{codes, fault, Fault, Memory, Refusal, Tables, TablesMut};
+
+/// Everything that a caller can see after a call: its code, its out-array, and each lent part with the cells around it.
+#[derive(Clone, Debug, PartialEq)]
+pub struct Seen {
+    pub code: u64,
+    pub out: Vec<u64>,
+    pub lent: Vec<Vec<u64>>,
+}
+
+/// Cells before and after what is lent, which no call may touch.
+const AROUND: usize = 8;
+
+/// A cell of any width, filled from a wide pattern and shown as a wide number.
+pub trait Cell: Copy {
+    fn of(wide: u64) -> Self;
+    fn wide(self) -> u64;
+}
+
+macro_rules! cells {
+    ($($t:ty),*) => { $(impl Cell for $t {
+        fn of(wide: u64) -> Self { wide as $t }
+        fn wide(self) -> u64 { self as u64 }
+    })* };
+}
+cells!(u8, u16, u32, u64, i64);
+
+/// Cells with a pattern, never 0, in and around the lent ones; `area` tells parts of one call apart.
+fn pattern<T: Cell>(area: usize, length: usize) -> Vec<T> {
+    (0..length + 2 * AROUND).map(|i| T::of(mix(((area as u64) << 32) + i as u64) | 1)).collect()
+}
+
+fn lent<T>(cells: &mut [T]) -> &mut [T] {
+    let end = cells.len() - AROUND;
+    &mut cells[AROUND..end]
+}
+
+fn wide<T: Cell>(cells: &[T]) -> Vec<u64> {
+    cells.iter().map(|&cell| cell.wide()).collect()
+}
+
+/// The out-array's pattern.
+fn out<T: Cell, const N: usize>() -> [T; N] {
+    std::array::from_fn(|i| T::of(mix(0xabcd + i as u64)))
+}
+
+/// The parts that a call is lent, as they are before it.
+fn before(input: &Input) -> Vec<Vec<u64>> {
+    let l = &input.lent;
+    match input.call {
+        Call::Full | Call::Uncapped | Call::Equal => {
+            vec![wide::<u64>(&pattern(0, l[0])), wide::<u16>(&pattern(1, l[1])), wide::<u16>(&pattern(2, l[2]))]
+        }
+        Call::Read => vec![
+            wide::<u16>(&pattern(0, l[0])),
+            wide::<u16>(&pattern(1, l[1])),
+            wide::<u32>(&pattern(2, l[2])),
+            wide::<u32>(&pattern(3, l[3])),
+            wide::<u32>(&pattern(4, l[4])),
+        ],
+        Call::Write => vec![wide::<u8>(&pattern(0, l[0]))],
+        Call::Weigh | Call::Compare | Call::Lookup => vec![],
+    }
+}
+
+/// Writes cells at the front of a lent part.
+fn fill<T: Cell>(part: &mut [u64], cells: &[T]) {
+    for (i, &cell) in cells.iter().enumerate() {
+        part[AROUND + i] = cell.wide();
+    }
+}
+
+fn broken(rule: Rule, period: usize) -> u64 {
+    let number = match rule {
+        Rule::AboveCapacity => 101,
+        Rule::Short => 102,
+        Rule::Over => 103,
+    };
+    number + 256 * period as u64
+}
+
+fn accepted_path(path: Path, input: &Input, seen: &mut Seen) {
+    let planned = plain::plan(&input.day).expect("no plan, and no shortage");
+    let (costs, choices) = plain::cells(path, &input.day);
+    fill(&mut seen.lent[0], &vec![0u64; costs]);
+    fill(&mut seen.lent[1], &vec![0u16; choices]);
+    fill(&mut seen.lent[2], &planned.plan);
+    seen.out = vec![planned.totals.cost, planned.totals.setups];
+}
+
+fn accepted_comparison(input: &Input, seen: &mut Seen) {
+    match (plain::verdict(&input.day, &input.plans[0]), plain::verdict(&input.day, &input.plans[1])) {
+        (Verdict::Holds(first), Verdict::Holds(second)) => seen.out = vec![(first.cost as i64 - second.cost as i64) as u64],
+        (Verdict::Broken(rule, period), _) | (_, Verdict::Broken(rule, period)) => seen.code = broken(rule, period),
+    }
+}
+
+/// What the papers say.
+pub fn expected(input: &Input) -> Seen {
+    let unwritten = match input.call {
+        Call::Full | Call::Uncapped | Call::Equal | Call::Weigh => wide(&out::<u64, 2>()),
+        Call::Compare => wide(&out::<i64, 1>()),
+        Call::Lookup => wide(&out::<u8, 16>()),
+        Call::Read | Call::Write => wide(&out::<u64, 1>()),
+    };
+    let mut seen = Seen { code: 0, out: unwritten, lent: before(input) };
+    if let Some(refusal) = input.refusals().first() {
+        seen.code = refusal.number + 256 * refusal.period as u64;
+        return seen;
+    }
+    match input.call {
+        Call::Full => accepted_path(Path::Full, input, &mut seen),
+        Call::Uncapped => accepted_path(Path::Uncapped, input, &mut seen),
+        Call::Equal => accepted_path(Path::Equal, input, &mut seen),
+        Call::Weigh => match plain::verdict(&input.day, &input.plans[0]) {
+            Verdict::Holds(totals) => seen.out = vec![totals.cost, totals.setups],
+            Verdict::Broken(rule, period) => seen.code = broken(rule, period),
+        },
+        Call::Compare => accepted_comparison(input, &mut seen),
+        Call::Read => {
+            let n = plain::walk(&input.file).unwrap();
+            let day = plain::day_in(&input.file, n);
+            fill(&mut seen.lent[0], &day.demand);
+            fill(&mut seen.lent[1], &day.capacity);
+            fill(&mut seen.lent[2], &day.setup);
+            fill(&mut seen.lent[3], &day.unit);
+            fill(&mut seen.lent[4], &day.holding);
+            seen.out = vec![n as u64];
+        }
+        Call::Lookup => seen.out = wide(plain::body(&input.file, input.period)),
+        Call::Write => {
+            let file = plain::file_of(&input.day);
+            fill(&mut seen.lent[0], &file);
+            seen.out = vec![file.len() as u64];
+        }
+    }
+    seen
+}
+
+fn tables(input: &Input) -> Tables<'_> {
+    let day = &input.day;
+    Tables { demand: &day.demand, capacity: &day.capacity, setup: &day.setup, unit: &day.unit, holding: &day.holding }
+}
+
+/// A path's call, with or without its code.
+type PathCall = fn(Tables, Memory, &mut [u64; 2]) -> u64;
+
+fn run_path(call: PathCall, input: &Input) -> Seen {
+    let mut costs: Vec<u64> = pattern(0, input.lent[0]);
+    let mut choices: Vec<u16> = pattern(1, input.lent[1]);
+    let mut slots: Vec<u16> = pattern(2, input.lent[2]);
+    let mut answer = out();
+    let memory = Memory { costs: lent(&mut costs), choices: lent(&mut choices), slots: lent(&mut slots) };
+    let code = call(tables(input), memory, &mut answer);
+    Seen { code, out: wide(&answer), lent: vec![wide(&costs), wide(&choices), wide(&slots)] }
+}
+
+fn run_read(input: &Input) -> Seen {
+    let l = &input.lent;
+    let mut demand: Vec<u16> = pattern(0, l[0]);
+    let mut capacity: Vec<u16> = pattern(1, l[1]);
+    let mut setup: Vec<u32> = pattern(2, l[2]);
+    let mut unit: Vec<u32> = pattern(3, l[3]);
+    let mut holding: Vec<u32> = pattern(4, l[4]);
+    let mut periods = out();
+    let filled = TablesMut {
+        demand: lent(&mut demand),
+        capacity: lent(&mut capacity),
+        setup: lent(&mut setup),
+        unit: lent(&mut unit),
+        holding: lent(&mut holding),
+    };
+    let code = codes::read(&input.file, filled, &mut periods);
+    Seen { code, out: wide(&periods), lent: vec![wide(&demand), wide(&capacity), wide(&setup), wide(&unit), wide(&holding)] }
+}
+
+/// What the library does. The tables, plans and file that it only reads are to be as they were.
+pub fn actual(given: &Input) -> Seen {
+    let input = &given.clone();
+    let seen = match input.call {
+        Call::Full => run_path(codes::full, input),
+        Call::Uncapped => run_path(codes::uncapped, input),
+        Call::Equal => run_path(codes::equal, input),
+        Call::Weigh => {
+            let mut answer = out();
+            let code = codes::weigh(tables(input), &input.plans[0], &mut answer);
+            Seen { code, out: wide(&answer), lent: vec![] }
+        }
+        Call::Compare => {
+            let mut difference = out();
+            let code = codes::compare(tables(input), &input.plans[0], &input.plans[1], &mut difference);
+            Seen { code, out: wide(&difference), lent: vec![] }
+        }
+        Call::Read => run_read(input),
+        Call::Lookup => {
+            let mut body = out();
+            let code = codes::lookup(&input.file, input.period, &mut body);
+            Seen { code, out: wide(&body), lent: vec![] }
+        }
+        Call::Write => {
+            let mut bytes: Vec<u8> = pattern(0, input.lent[0]);
+            let mut count = out();
+            let code = codes::write(tables(input), lent(&mut bytes), &mut count);
+            Seen { code, out: wide(&count), lent: vec![wide(&bytes)] }
+        }
+    };
+    assert!(input == given, "an input that is only read was changed: {given:?}");
+    seen
+}
+
+/// The same input through the crate's results, which are to say what code and out-array say.
+pub fn results_agree(input: &Input, seen: &Seen) -> bool {
+    let refusal = Refusal { number: seen.code % 256, period: seen.code / 256 };
+    let accepted = seen.code == 0;
+    let path = |call: fn(Tables, Memory) -> Result<yakkurem::Totals, Refusal>| {
+        let (mut costs, mut choices, mut slots) = (vec![7u64; input.lent[0]], vec![7u16; input.lent[1]], vec![7u16; input.lent[2]]);
+        let result = call(tables(input), Memory { costs: &mut costs, choices: &mut choices, slots: &mut slots });
+        result == if accepted { Ok(yakkurem::Totals { cost: seen.out[0], setups: seen.out[1] }) } else { Err(refusal) }
+    };
+    match input.call {
+        Call::Full => path(yakkurem::full),
+        Call::Uncapped => path(yakkurem::uncapped),
+        Call::Equal => path(yakkurem::equal),
+        Call::Weigh => match yakkurem::weigh(tables(input), &input.plans[0]) {
+            Ok(totals) => accepted && seen.out == [totals.cost, totals.setups],
+            Err(why) => why == said(seen.code),
+        },
+        Call::Compare => match yakkurem::compare(tables(input), &input.plans[0], &input.plans[1]) {
+            Ok(difference) => accepted && seen.out == [difference as u64],
+            Err(why) => why == said(seen.code),
+        },
+        Call::Read => {
+            let l = &input.lent;
+            let (mut demand, mut capacity) = (vec![0; l[0]], vec![0; l[1]]);
+            let (mut setup, mut unit, mut holding) = (vec![0; l[2]], vec![0; l[3]], vec![0; l[4]]);
+            let filled =
+                TablesMut { demand: &mut demand, capacity: &mut capacity, setup: &mut setup, unit: &mut unit, holding: &mut holding };
+            yakkurem::read(&input.file, filled) == if accepted { Ok(seen.out[0]) } else { Err(refusal) }
+        }
+        Call::Lookup => match yakkurem::lookup(&input.file, input.period) {
+            Ok(body) => accepted && seen.out == wide(&body),
+            Err(why) => why == refusal,
+        },
+        Call::Write => yakkurem::write(tables(input), &mut vec![0; input.lent[0]]) == if accepted { Ok(seen.out[0]) } else { Err(refusal) },
+    }
+}
+
+/// A code by the header's words, beside the crate's own reading of it.
+fn said(code: u64) -> Fault {
+    let (number, period) = (code % 256, code / 256);
+    let expected = match number {
+        101 => Fault::Broken(yakkurem::Rule::AboveCapacity, period),
+        102 => Fault::Broken(yakkurem::Rule::Short, period),
+        103 => Fault::Broken(yakkurem::Rule::Over, period),
+        _ => Fault::Refused(Refusal { number, period }),
+    };
+    assert_eq!(fault(code), expected);
+    expected
+}

@@ -1,0 +1,497 @@
+//! Inputs of every call: valid ones of several sizes, at the limits, and damaged so that a wanted refusal's condition holds.
+use crate::plain::{self, Day, Path};
+use crate::random::Random;
+
+#[derive(Clone, Copy, Debug, PartialEq)]
+pub enum Call {
+    Full,
+    Uncapped,
+    Equal,
+    Weigh,
+    Compare,
+    Read,
+    Lookup,
+    Write,
+}
+
+pub const CALLS: [Call; 8] = [Call::Full, Call::Uncapped, Call::Equal, Call::Weigh, Call::Compare, Call::Read, Call::Lookup, Call::Write];
+
+impl Call {
+    pub fn path(self) -> Option<Path> {
+        match self {
+            Call::Full => Some(Path::Full),
+            Call::Uncapped => Some(Path::Uncapped),
+            Call::Equal => Some(Path::Equal),
+            _ => None,
+        }
+    }
+
+    /// The refusals that the call can give, in document 01's order.
+    pub fn refusals(self) -> &'static [u64] {
+        match self {
+            Call::Full => &[1, 2, 3, 4, 5, 6, 7],
+            Call::Uncapped => &[1, 2, 3, 4, 5, 6, 7, 9],
+            Call::Equal => &[1, 2, 3, 4, 5, 6, 7, 8],
+            Call::Weigh | Call::Compare => &[1, 2, 3, 4, 6],
+            Call::Read => &[10, 11, 12, 1, 6, 3],
+            Call::Lookup => &[10, 11, 12, 1, 13],
+            Call::Write => &[1, 2, 3, 6],
+        }
+    }
+
+    fn reads_file(self) -> bool {
+        matches!(self, Call::Read | Call::Lookup)
+    }
+}
+
+/// Everything that a caller hands over. What a call does not take stays empty.
+#[derive(Clone, Debug, PartialEq)]
+pub struct Input {
+    pub call: Call,
+    /// the day in the tables
+    pub day: Day,
+    /// plans to weigh: one, or two to compare
+    pub plans: Vec<Vec<u16>>,
+    pub file: Vec<u8>,
+    /// the asked-for period
+    pub period: usize,
+    /// lengths of what is lent: cost area, choice area and slots; or the five tables to fill; or the bytes to write
+    pub lent: Vec<usize>,
+}
+
+/// How large a day is, and how its numbers are drawn.
+#[derive(Clone, Copy, PartialEq)]
+pub enum Size {
+    /// few periods and few units, so that all plans can be tried and many cost the same
+    Tiny,
+    Middle,
+    /// many periods
+    Long,
+    /// as much as the limits allow
+    Limits,
+}
+
+impl Input {
+    /// The refusals whose conditions hold, in order; the first is the answer.
+    pub fn refusals(&self) -> Vec<plain::Refusal> {
+        match self.call {
+            Call::Full | Call::Uncapped | Call::Equal => {
+                plain::path_refusals(self.call.path().unwrap(), &self.day, self.lent[0], self.lent[1], self.lent[2])
+            }
+            Call::Weigh | Call::Compare => {
+                plain::weigh_refusals(&self.day, &self.plans.iter().map(|plan| plan.as_slice()).collect::<Vec<_>>())
+            }
+            Call::Read => plain::read_refusals(&self.file, *self.lent.iter().min().unwrap()),
+            Call::Lookup => plain::lookup_refusals(&self.file, self.period),
+            Call::Write => plain::write_refusals(&self.day, self.lent[0]),
+        }
+    }
+
+    /// How long each lent part has to be.
+    pub fn needed(&self) -> Vec<usize> {
+        match self.call {
+            Call::Full | Call::Uncapped | Call::Equal => {
+                let (costs, choices) = plain::cells(self.call.path().unwrap(), &self.day);
+                vec![costs, choices, self.day.periods()]
+            }
+            Call::Read => vec![plain::walk(&self.file).unwrap_or(self.file.len() / 17); 5],
+            Call::Write => vec![plain::file_length(self.day.periods())],
+            Call::Weigh | Call::Compare | Call::Lookup => vec![],
+        }
+    }
+}
+
+/// A table of n numbers up to `high`: one value throughout, or several.
+fn table(random: &mut Random, n: usize, high: u64) -> Vec<u64> {
+    if random.once_in(3) {
+        vec![random.between(0, high); n]
+    } else {
+        (0..n).map(|_| random.between(0, high)).collect()
+    }
+}
+
+fn narrow16(table: Vec<u64>) -> Vec<u16> {
+    table.into_iter().map(|v| v as u16).collect()
+}
+
+fn narrow32(table: Vec<u64>) -> Vec<u32> {
+    table.into_iter().map(|v| v as u32).collect()
+}
+
+/// Demands that sum to `total`, spread at random.
+fn spread(random: &mut Random, n: usize, total: u64) -> Vec<u64> {
+    let mut demand = vec![0; n];
+    let mut rest = total;
+    while rest > 0 {
+        let part = random.between(1, (2 * total / n as u64 + 1).min(rest));
+        demand[random.index(n)] += part;
+        rest -= part;
+    }
+    demand
+}
+
+/// Lowers demands until there is a plan.
+fn supply(day: &mut Day) {
+    for i in 1..=day.periods() {
+        let short = day.demand_to(i).saturating_sub(day.capacity_to(i));
+        day.demand[i - 1] -= short as u16;
+    }
+}
+
+/// Capacities of the form that a call's path asks for, mostly; any for other calls.
+fn shape(random: &mut Random, call: Call, day: &mut Day) {
+    let n = day.periods();
+    match call {
+        Call::Equal => {
+            let least = (1..=n).map(|i| day.demand_to(i).div_ceil(i as u64)).max().unwrap_or(0);
+            let total = day.total();
+            let capacity = match random.between(0, 3) {
+                0 => least,
+                1 => least + random.between(0, 3),
+                2 => random.between(0, total + 1),
+                _ => day.capacity[0] as u64,
+            };
+            day.capacity = vec![capacity.min(65_535) as u16; n];
+        }
+        Call::Uncapped => {
+            for i in 0..n {
+                let rest = day.total() - day.demand_to(i);
+                let spare = random.pick(&[0, 0, 1, 1000, 65_535]);
+                day.capacity[i] = (rest + spare).min(65_535) as u16;
+            }
+        }
+        _ => {}
+    }
+}
+
+/// A day within the limits; three of four have a plan.
+pub fn day(random: &mut Random, call: Call, size: Size) -> Day {
+    let (n, total, capacity, setup, rate) = match size {
+        Size::Tiny => (random.between(1, 5), random.between(0, 9), 5, random.pick(&[0, 1, 3, 5]), random.pick(&[0, 1, 2])),
+        Size::Middle => (random.between(1, 20), random.between(0, 120), 30, random.pick(&[5, 100, 1000]), random.pick(&[1, 10])),
+        Size::Long => (
+            random.between(60, 96),
+            random.between(100, 500),
+            random.pick(&[15, 60, 65_535]),
+            random.pick(&[50, 5000, plain::MAX_SETUP]),
+            random.pick(&[3, 100, plain::MAX_RATE]),
+        ),
+        Size::Limits => (
+            random.pick(&[1, 95, 96, 96, 96]),
+            random.pick(&[4095, 4096, 4096]),
+            random.pick(&[60, 60, 65_535]),
+            plain::MAX_SETUP,
+            plain::MAX_RATE,
+        ),
+    };
+    let n = n as usize;
+    let extreme = size == Size::Limits && random.once_in(2);
+    let costs = |random: &mut Random, high: u64| if extreme { vec![high; n] } else { table(random, n, high) };
+    let mut day = Day {
+        demand: narrow16(spread(random, n, total)),
+        capacity: narrow16(table(random, n, capacity)),
+        setup: narrow32(costs(random, setup)),
+        unit: narrow32(costs(random, rate)),
+        holding: narrow32(costs(random, rate)),
+    };
+    if size == Size::Limits {
+        // the whole demand in the first period or in the last is the longest way through the tables
+        match random.between(0, 3) {
+            0 => day.demand = narrow16((0..n).map(|i| if i == 0 { total } else { 0 }).collect()),
+            1 => day.demand = narrow16((0..n).map(|i| if i + 1 == n { total } else { 0 }).collect()),
+            _ => {}
+        }
+        // R equal to C at every period leaves one plan
+        if call != Call::Equal && random.once_in(4) {
+            day.capacity = day.demand.clone();
+        }
+    }
+    shape(random, call, &mut day);
+    if !random.once_in(4) {
+        supply(&mut day);
+        if call == Call::Uncapped {
+            shape(random, call, &mut day);
+        }
+    }
+    day
+}
+
+/// A plan to weigh: the day's own with something moved, or any amounts; with cells past n that are not to be read.
+fn weighed(random: &mut Random, day: &Day) -> Vec<u16> {
+    let n = day.periods();
+    let mut plan = match plain::shortage(day) {
+        None if plain::plans(day) <= 2000.0 && !random.once_in(3) => plain::search(day).unwrap().plan,
+        // make what is needed as late as capacity allows
+        None => {
+            let mut plan = vec![0u16; n];
+            let mut wanted = 0u64;
+            for i in (0..n).rev() {
+                wanted += day.demand[i] as u64;
+                plan[i] = wanted.min(day.capacity[i] as u64) as u16;
+                wanted -= plan[i] as u64;
+            }
+            plan
+        }
+        Some(_) => narrow16(table(random, n, 5)),
+    };
+    for _ in 0..random.pick(&[0, 0, 0, 1, 1, 2]) {
+        let (from, to) = (random.index(n), random.index(n));
+        let amount = random.pick(&[1, 1, 2, 100]).min(plan[from]);
+        plan[from] -= amount;
+        if !random.once_in(6) {
+            plan[to] = plan[to].saturating_add(amount);
+        }
+        if random.once_in(12) {
+            plan[to] = random.pick(&[65_535, plan[to].saturating_add(1)]);
+        }
+    }
+    plan.extend((0..random.pick(&[0, 0, 1, 3])).map(|_| random.next() as u16));
+    plan
+}
+
+/// A length that serves, mostly exactly.
+fn enough(random: &mut Random, needed: usize) -> usize {
+    needed + random.pick(&[0, 0, 0, 1, 2, 7])
+}
+
+/// Fills in what goes with the day, and lends enough.
+fn complete(random: &mut Random, call: Call, day: Day, plans: usize) -> Input {
+    let plans = (0..plans).map(|_| weighed(random, &day)).collect();
+    let mut input = Input { call, day, plans, file: vec![], period: 0, lent: vec![] };
+    if call.reads_file() {
+        input.file = plain::file_of(&input.day);
+        input.period = random.between(1, input.day.periods() as u64) as usize;
+        input.day = Day::default();
+    }
+    input.lent = input.needed().into_iter().map(|needed| enough(random, needed)).collect();
+    if call == Call::Lookup {
+        input.lent.clear();
+    }
+    input
+}
+
+/// An input that is refused, if at all, for a shortage or a capacity alone.
+pub fn valid(random: &mut Random, call: Call, size: Size) -> Input {
+    let day = day(random, call, size);
+    let plans = match call {
+        Call::Weigh => 1,
+        Call::Compare => 2,
+        _ => 0,
+    };
+    complete(random, call, day, plans)
+}
+
+fn push_period(random: &mut Random, day: &mut Day) {
+    let i = random.index(day.periods());
+    day.demand.push(0);
+    day.capacity.push(day.capacity[i]);
+    day.setup.push(day.setup[i]);
+    day.unit.push(day.unit[i]);
+    day.holding.push(day.holding[i]);
+}
+
+fn shorten<T>(random: &mut Random, table: &mut Vec<T>) {
+    let length = if random.once_in(3) { 0 } else { table.len().saturating_sub(1) };
+    table.truncate(length);
+}
+
+fn change_length(random: &mut Random, day: &mut Day) {
+    fn change<T: Copy + Default>(random: &mut Random, table: &mut Vec<T>) {
+        if random.once_in(2) {
+            shorten(random, table);
+        } else {
+            table.push(T::default());
+        }
+    }
+    match random.between(0, 3) {
+        0 => change(random, &mut day.capacity),
+        1 => change(random, &mut day.setup),
+        2 => change(random, &mut day.unit),
+        _ => change(random, &mut day.holding),
+    }
+}
+
+fn raise_value(random: &mut Random, day: &mut Day) {
+    let n = day.periods();
+    if n == 0 {
+        return;
+    }
+    let i = random.index(n);
+    let over = |random: &mut Random, limit: u64, top: u64| random.pick(&[limit + 1, limit + 1, limit + 2, top]);
+    match random.between(0, 3) {
+        0 => day.demand[i] = over(random, plain::MAX_DEMAND, 65_535) as u16,
+        1 if i < day.setup.len() => day.setup[i] = over(random, plain::MAX_SETUP, u32::MAX as u64) as u32,
+        2 if i < day.unit.len() => day.unit[i] = over(random, plain::MAX_RATE, u32::MAX as u64) as u32,
+        _ if i < day.holding.len() => day.holding[i] = over(random, plain::MAX_RATE, u32::MAX as u64) as u32,
+        _ => {}
+    }
+}
+
+/// Changes a day's tables so that the numbered condition may hold; one that does not suit the day leaves it.
+fn damage_tables(random: &mut Random, day: &mut Day, number: u64) {
+    let n = day.periods();
+    match number {
+        1 if random.once_in(2) => {
+            day.demand.clear();
+            if random.once_in(2) {
+                *day = Day::default();
+            }
+        }
+        1 if n > 0 => {
+            for _ in n..random.pick(&[97, 97, 98, 120]) {
+                push_period(random, day);
+            }
+        }
+        2 => change_length(random, day),
+        3 => raise_value(random, day),
+        4 if n >= 2 => {
+            let (i, j) = (random.index(n), random.index(n));
+            day.demand[i] = 4096;
+            day.demand[j] = day.demand[j].max(1);
+        }
+        7 if n > 0 => {
+            let i = random.index(n);
+            day.demand[i] = day.demand[i].max(1);
+            let needed = day.demand_to(i + 1);
+            if random.once_in(2) {
+                let each = (needed - 1) / (i as u64 + 1);
+                day.capacity = vec![each as u16; n];
+            } else {
+                day.capacity.truncate(i + 1);
+                day.capacity.fill(0);
+                day.capacity.resize(n, 0);
+            }
+        }
+        8 if n >= 2 && day.capacity.len() == n => {
+            let i = random.index(n);
+            day.capacity[i] = if day.capacity[i] < 65_535 { day.capacity[i] + 1 } else { 65_534 };
+        }
+        9 if n > 0 && day.capacity.len() == n => {
+            let i = random.index(n);
+            let rest = day.total() - day.demand_to(i);
+            day.capacity[i] = rest.saturating_sub(random.pick(&[1, 1, 2, rest])).min(65_535) as u16;
+        }
+        _ => {}
+    }
+}
+
+fn damage_file(random: &mut Random, file: &mut Vec<u8>, number: u64) {
+    match number {
+        10 => {
+            let kinds = file.len().saturating_sub(3) / 17;
+            let at = 17 * random.index(kinds + 1);
+            if at < file.len() {
+                file[at] = random.pick(&[0, 3, 7, 255]);
+            }
+        }
+        11 => {
+            let length =
+                if random.once_in(3) { file.len().saturating_sub(random.between(1, 3) as usize) } else { random.index(file.len()) };
+            file.truncate(length);
+        }
+        12 => {
+            let last = file.len() - 1;
+            match random.between(0, 2) {
+                0 => file[last] = file[last].wrapping_add(random.pick(&[1, 255])),
+                1 => file[last - 1] = file[last - 1].wrapping_add(1),
+                _ => file.extend((0..random.between(1, 20)).map(|_| random.pick(&[0, 1, 2, 7]))),
+            }
+        }
+        _ => {}
+    }
+}
+
+/// An input that was damaged for each of the numbers.
+pub fn damaged(random: &mut Random, call: Call, size: Size, numbers: &[u64]) -> Input {
+    let mut day = day(random, call, size);
+    // in an order in which what comes later mostly keeps what came before
+    for number in [7, 8, 9, 4, 3, 1, 2] {
+        if numbers.contains(&number) {
+            damage_tables(random, &mut day, number);
+        }
+    }
+    let mut input = Input { call, day, plans: vec![], file: vec![], period: 0, lent: vec![] };
+    let n = input.day.periods();
+    let plans = match call {
+        Call::Weigh => 1,
+        Call::Compare => 2,
+        _ => 0,
+    };
+    input.plans = (0..plans).map(|_| vec![random.between(0, 3) as u16; enough(random, n)]).collect();
+    if call.reads_file() {
+        let mut day = std::mem::take(&mut input.day);
+        day.capacity.truncate(n);
+        input.file = plain::file_of(&day);
+        input.period = if n > 0 { random.between(1, n as u64) as usize } else { 1 };
+        if numbers.contains(&13) {
+            input.period = random.pick(&[0, n + 1, n + 2, usize::MAX]);
+        }
+        for number in [12, 10, 11] {
+            if numbers.contains(&number) {
+                damage_file(random, &mut input.file, number);
+            }
+        }
+    }
+    input.lent = input.needed().into_iter().map(|needed| enough(random, needed)).collect();
+    let needed = input.needed();
+    let short = |random: &mut Random, needed: usize| if random.once_in(3) { 0 } else { needed.saturating_sub(1) };
+    if numbers.contains(&5) {
+        let area = random.index(2);
+        input.lent[area] = short(random, needed[area]);
+    }
+    if numbers.contains(&6) {
+        if plans > 0 {
+            let which = random.index(plans);
+            input.plans[which].truncate(short(random, n));
+        } else {
+            let which = if call.path().is_some() { 2 } else { random.index(needed.len()) };
+            input.lent[which] = short(random, needed[which]);
+        }
+    }
+    input
+}
+
+/// An input with something changed that no rule names: any value, length or byte.
+pub fn changed(random: &mut Random, call: Call, size: Size) -> Input {
+    let mut input = valid(random, call, size);
+    for _ in 0..random.between(1, 3) {
+        if call.reads_file() {
+            let at = random.index(input.file.len());
+            match random.between(0, 4) {
+                0 => input.file[at] = random.next() as u8,
+                1 => input.file[at] = random.pick(&[0, 1, 2, 3]),
+                2 => input.file.insert(at, random.pick(&[0, 1, 2])),
+                3 if input.file.len() > 1 => {
+                    input.file.remove(at);
+                }
+                _ => input.period = random.between(0, 100) as usize,
+            }
+        } else {
+            let n = input.day.periods();
+            let i = random.index(n);
+            match random.between(0, 5) {
+                0 => input.day.demand[i] = random.pick(&[0, 1, 4096, 4097, 65_535]),
+                1 => input.day.capacity[i] = random.pick(&[0, 1, 4095, 4096, 65_535]),
+                2 => input.day.setup[i] = random.pick(&[0, 999_999_999, 1_000_000_000, 1_000_000_001, u32::MAX]),
+                3 => input.day.unit[i] = random.pick(&[0, 999_999, 1_000_000, 1_000_001, u32::MAX]),
+                4 => input.day.holding[i] = random.pick(&[0, 999_999, 1_000_000, 1_000_001, u32::MAX]),
+                _ if input.plans.is_empty() => {}
+                _ => {
+                    let which = random.index(input.plans.len());
+                    input.plans[which][i] = random.pick(&[0, 1, 4096, 65_535]);
+                }
+            }
+        }
+    }
+    if !input.lent.is_empty() && random.once_in(4) {
+        let which = random.index(input.lent.len());
+        input.lent[which] = random.index(input.lent[which] + 2);
+    } else if call.path() == Some(Path::Full) {
+        // the areas go by the demand, which may have changed; a full one is too large to lend every time
+        let needed = input.needed();
+        if needed[1] < 100_000 {
+            input.lent = needed;
+        }
+    }
+    input
+}

@@ -1,0 +1,131 @@
+//! Makes a failing input smaller as long as it still fails, and prints it.
+use crate::input::{Call, Input};
+use std::time::{Duration, Instant};
+
+/// Smaller numbers to try in place of one.
+fn smaller(v: u64) -> Vec<u64> {
+    let mut tries = vec![];
+    for w in [0, 1, v / 2, v.saturating_sub(1)] {
+        if w < v && !tries.contains(&w) {
+            tries.push(w);
+        }
+    }
+    tries
+}
+
+fn without<T: Clone>(table: &[T], i: usize) -> Vec<T> {
+    let mut rest = table.to_vec();
+    if i < rest.len() {
+        rest.remove(i);
+    }
+    rest
+}
+
+/// Each input with one entry of a table made smaller.
+fn values<T: Copy + Into<u64>>(input: &Input, table: fn(&mut Input) -> &mut Vec<T>, of: fn(u64) -> T, tries: &mut Vec<Input>) {
+    let mut copy = input.clone();
+    for i in 0..table(&mut copy).len() {
+        for v in smaller(table(&mut copy)[i].into()) {
+            let mut next = input.clone();
+            table(&mut next)[i] = of(v);
+            tries.push(next);
+        }
+    }
+}
+
+/// Inputs that are a step smaller, the largest steps first.
+fn steps(input: &Input) -> Vec<Input> {
+    let mut tries = vec![];
+    let day = &input.day;
+    let longest = [day.demand.len(), day.capacity.len(), day.setup.len(), day.unit.len(), day.holding.len()].into_iter().max().unwrap();
+    for i in 0..longest {
+        let mut next = input.clone();
+        next.day.demand = without(&day.demand, i);
+        next.day.capacity = without(&day.capacity, i);
+        next.day.setup = without(&day.setup, i);
+        next.day.unit = without(&day.unit, i);
+        next.day.holding = without(&day.holding, i);
+        next.plans = input.plans.iter().map(|plan| without(plan, i)).collect();
+        tries.push(next);
+    }
+    for at in (0..input.file.len()).step_by(17) {
+        let mut next = input.clone();
+        next.file.drain(at..(at + 17).min(input.file.len()));
+        tries.push(next);
+    }
+    values(input, |x| &mut x.day.demand, |v| v as u16, &mut tries);
+    values(input, |x| &mut x.day.capacity, |v| v as u16, &mut tries);
+    values(input, |x| &mut x.day.setup, |v| v as u32, &mut tries);
+    values(input, |x| &mut x.day.unit, |v| v as u32, &mut tries);
+    values(input, |x| &mut x.day.holding, |v| v as u32, &mut tries);
+    values(input, |x| &mut x.file, |v| v as u8, &mut tries);
+    if !input.plans.is_empty() {
+        values(input, |x| &mut x.plans[0], |v| v as u16, &mut tries);
+    }
+    if input.plans.len() > 1 {
+        values(input, |x| &mut x.plans[1], |v| v as u16, &mut tries);
+    }
+    for period in smaller(input.period as u64) {
+        tries.push(Input { period: period as usize, ..input.clone() });
+    }
+    for i in 0..input.lent.len() {
+        for length in smaller(input.lent[i] as u64) {
+            let mut next = input.clone();
+            next.lent[i] = length as usize;
+            tries.push(next);
+        }
+    }
+    // lent parts that went with a larger day: as many cells as are needed now
+    for next in tries.clone() {
+        let needed = next.needed();
+        if needed.len() == next.lent.len() && next.lent != needed {
+            tries.push(Input { lent: needed, ..next });
+        }
+    }
+    tries
+}
+
+/// The smallest failing input that is found in a few seconds.
+pub fn shrink(input: &Input, fails: impl Fn(&Input) -> bool) -> Input {
+    let end = Instant::now() + Duration::from_secs(10);
+    let mut best = input.clone();
+    loop {
+        let next = steps(&best).into_iter().find(|next| Instant::now() < end && fails(next));
+        match next {
+            Some(next) => best = next,
+            None => return best,
+        }
+    }
+}
+
+/// An input in document 01's form.
+pub fn show(input: &Input) -> String {
+    let Input { day, plans, file, period, lent, .. } = input;
+    let words = |numbers: Vec<u64>| numbers.iter().map(u64::to_string).collect::<Vec<_>>().join(" ");
+    let words16 = |table: &[u16]| words(table.iter().map(|&v| v as u64).collect());
+    let words32 = |table: &[u32]| words(table.iter().map(|&v| v as u64).collect());
+    let mut lines = vec![format!("call {:?}", input.call)];
+    if !matches!(input.call, Call::Read | Call::Lookup) {
+        lines.push(format!(
+            "needs {}; capacities {}; b {}; p {}; h {}",
+            words16(&day.demand),
+            words16(&day.capacity),
+            words32(&day.setup),
+            words32(&day.unit),
+            words32(&day.holding)
+        ));
+    }
+    for plan in plans {
+        lines.push(format!("plan {}", words16(plan)));
+    }
+    if matches!(input.call, Call::Read | Call::Lookup) {
+        lines.push(format!("file {}", file.iter().map(|byte| format!("{byte:02X}")).collect::<Vec<_>>().join(" ")));
+    }
+    if input.call == Call::Lookup {
+        lines.push(format!("period {period}"));
+    }
+    if !lent.is_empty() {
+        lines.push(format!("cells lent {}", words(lent.iter().map(|&v| v as u64).collect())));
+    }
+    lines.join("\n  ")
+}

@@ -1,0 +1,108 @@
+//! Plans a day of 96 quarter hours and draws it as an SVG: need and amounts made above, charge left below.
+//!
+//!     cargo run --offline --release --package yakkurem --example draw > docs/day.svg
+use yakkurem::{full, Memory, Tables};
+
+const PERIODS: usize = 96;
+
+/// A mild day: a base load, a peak in the morning and a longer one in the evening; fuel goes further around noon.
+fn demand(i: usize) -> u16 {
+    let hour = i as f64 / 4.0;
+    let peak = |at: f64, width: f64, height: f64| height * (-((hour - at) / width).powi(2)).exp();
+    (3.0 + peak(7.5, 1.2, 11.0) + peak(19.5, 2.4, 14.0) + (i % 3) as f64).round() as u16
+}
+
+fn unit(i: usize) -> u32 {
+    let from_noon = (i as f64 / 4.0 - 13.0).abs();
+    (100.0 + 4.0 * from_noon).round() as u32
+}
+
+/// A panel of the picture: where its axis stands, how tall it is, and the amount that fills it.
+struct Panel {
+    bottom: f64,
+    height: f64,
+    most: f64,
+}
+
+const LEFT: f64 = 64.0;
+const WIDTH: f64 = 864.0;
+
+fn x(period: usize) -> f64 {
+    LEFT + WIDTH * period as f64 / PERIODS as f64
+}
+
+impl Panel {
+    fn y(&self, amount: f64) -> f64 {
+        self.bottom - self.height * amount / self.most
+    }
+
+    /// Lines and figures at round amounts, and the panel's name.
+    fn grid(&self, step: usize, name: &str) {
+        for amount in (0..=self.most as usize).step_by(step) {
+            let y = self.y(amount as f64);
+            let colour = if amount == 0 { "#555" } else { "#ddd" };
+            println!("<line x1='{LEFT}' x2='{}' y1='{y:.1}' y2='{y:.1}' stroke='{colour}'/>", LEFT + WIDTH);
+            println!("<text x='{}' y='{:.1}' text-anchor='end'>{amount}</text>", LEFT - 8.0, y + 4.0);
+        }
+        println!("<text x='{LEFT}' y='{:.1}' font-weight='bold'>{name}</text>", self.bottom - self.height - 12.0);
+    }
+
+    /// A bar of the whole period's width, or a part of it, in its middle.
+    fn bar(&self, period: usize, amount: u16, part: f64, colour: &str) {
+        if amount == 0 {
+            return;
+        }
+        let whole = WIDTH / PERIODS as f64;
+        let (y, width) = (self.y(amount as f64), whole * part);
+        println!(
+            "<rect x='{:.1}' y='{y:.1}' width='{width:.1}' height='{:.1}' fill='{colour}'/>",
+            x(period) + (whole - width) / 2.0,
+            self.bottom - y
+        );
+    }
+}
+
+fn legend(at: f64, colour: &str, name: &str) {
+    println!("<rect x='{at}' y='40' width='12' height='12' fill='{colour}'/><text x='{}' y='51'>{name}</text>", at + 18.0);
+}
+
+fn main() {
+    let demand: Vec<u16> = (0..PERIODS).map(demand).collect();
+    let unit: Vec<u32> = (0..PERIODS).map(unit).collect();
+    let (capacity, setup, holding) = (vec![60; PERIODS], vec![5000; PERIODS], vec![6; PERIODS]);
+    let total: usize = demand.iter().map(|&need| need as usize).sum();
+    let (mut costs, mut choices, mut amounts) = (vec![0; 2 * (total + 1)], vec![0; PERIODS * (total + 1)], vec![0; PERIODS]);
+    let day = Tables { demand: &demand, capacity: &capacity, setup: &setup, unit: &unit, holding: &holding };
+    let memory = Memory { costs: &mut costs, choices: &mut choices, slots: &mut amounts };
+    let planned = full(day, memory).expect("a day with a plan");
+
+    let mut charge = Vec::with_capacity(PERIODS);
+    let mut left = 0;
+    for i in 0..PERIODS {
+        left = left + amounts[i] as u64 - demand[i] as u64;
+        charge.push(left);
+    }
+    let most = charge.iter().max().unwrap().div_ceil(20) * 20;
+
+    println!("<svg xmlns='http://www.w3.org/2000/svg' viewBox='0 0 960 540' font-family='sans-serif' font-size='13' fill='#333'>");
+    println!("<rect width='960' height='540' fill='white'/>");
+    println!(
+        "<text x='{LEFT}' y='26' font-size='17'>A planned day: {total} Wh in 96 periods, {} µl of fuel, {} starts</text>",
+        planned.cost, planned.setups
+    );
+    legend(600.0, "#b9c6d6", "need");
+    legend(680.0, "#d9772b", "amount made");
+    legend(812.0, "#4f8f6b", "charge left");
+    let (above, below) = (Panel { bottom: 300.0, height: 200.0, most: 60.0 }, Panel { bottom: 500.0, height: 140.0, most: most as f64 });
+    above.grid(10, "Wh in a period (capacity 60)");
+    below.grid(20, "Wh left at a period's end");
+    for i in 0..PERIODS {
+        above.bar(i, demand[i], 1.0, "#b9c6d6");
+        above.bar(i, amounts[i], 0.6, "#d9772b");
+        below.bar(i, charge[i] as u16, 1.0, "#4f8f6b");
+    }
+    for hour in (0..=24).step_by(3) {
+        println!("<text x='{:.1}' y='522' text-anchor='middle'>{hour}:00</text>", x(4 * hour));
+    }
+    println!("</svg>");
+}

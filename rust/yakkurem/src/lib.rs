@@ -1,0 +1,150 @@
+//! Safe calls of the proved planner. The meaning of each is in include/yakkurem.h; this crate turns codes into results.
+//!
+//! Names are lot sizing's. Document 01's: demand is need, setup is start cost, holding is upkeep, setups are starts.
+pub mod codes;
+
+/// A day: one entry a period in each table.
+#[derive(Clone, Copy)]
+pub struct Tables<'a> {
+    pub demand: &'a [u16],
+    pub capacity: &'a [u16],
+    pub setup: &'a [u32],
+    pub unit: &'a [u32],
+    pub holding: &'a [u32],
+}
+
+/// Tables that a reader fills.
+pub struct TablesMut<'a> {
+    pub demand: &'a mut [u16],
+    pub capacity: &'a mut [u16],
+    pub setup: &'a mut [u32],
+    pub unit: &'a mut [u32],
+    pub holding: &'a mut [u32],
+}
+
+/// What a caller lends a path: its two work areas, and the slots for the plan.
+pub struct Memory<'a> {
+    pub costs: &'a mut [u64],
+    pub choices: &'a mut [u16],
+    pub slots: &'a mut [u16],
+}
+
+/// A plan's cost in microlitres, and in how many periods it makes something.
+#[derive(Clone, Copy, Debug, PartialEq, Eq)]
+pub struct Totals {
+    pub cost: u64,
+    pub setups: u64,
+}
+
+/// Document 01's number of a refusal, and the period that it names; 0 where it names none.
+#[derive(Clone, Copy, Debug, PartialEq, Eq)]
+pub struct Refusal {
+    pub number: u64,
+    pub period: u64,
+}
+
+/// The rules that a plan can break.
+#[derive(Clone, Copy, Debug, PartialEq, Eq)]
+pub enum Rule {
+    AboveCapacity,
+    Short,
+    Over,
+}
+
+/// Why a plan was not weighed, or the first rule that it breaks and the period.
+#[derive(Clone, Copy, Debug, PartialEq, Eq)]
+pub enum Fault {
+    Refused(Refusal),
+    Broken(Rule, u64),
+}
+
+/// What a code other than 0 says.
+pub fn fault(code: u64) -> Fault {
+    let (number, period) = (code % 256, code / 256);
+    match number {
+        101 => Fault::Broken(Rule::AboveCapacity, period),
+        102 => Fault::Broken(Rule::Short, period),
+        103 => Fault::Broken(Rule::Over, period),
+        _ => Fault::Refused(Refusal { number, period }),
+    }
+}
+
+fn refusal(code: u64) -> Refusal {
+    Refusal { number: code % 256, period: code / 256 }
+}
+
+fn totals([cost, setups]: [u64; 2]) -> Totals {
+    Totals { cost, setups }
+}
+
+/// The plan of any day, by the report's recursion (5).
+pub fn full(day: Tables, memory: Memory) -> Result<Totals, Refusal> {
+    let mut answer = [0; 2];
+    match codes::full(day, memory, &mut answer) {
+        0 => Ok(totals(answer)),
+        code => Err(refusal(code)),
+    }
+}
+
+/// The plan of a day whose capacities can't bind, after Wagner and Whitin.
+pub fn uncapped(day: Tables, memory: Memory) -> Result<Totals, Refusal> {
+    let mut answer = [0; 2];
+    match codes::uncapped(day, memory, &mut answer) {
+        0 => Ok(totals(answer)),
+        code => Err(refusal(code)),
+    }
+}
+
+/// The plan of a day with one capacity throughout, after Florian and Klein.
+pub fn equal(day: Tables, memory: Memory) -> Result<Totals, Refusal> {
+    let mut answer = [0; 2];
+    match codes::equal(day, memory, &mut answer) {
+        0 => Ok(totals(answer)),
+        code => Err(refusal(code)),
+    }
+}
+
+/// Weighs somebody's plan.
+pub fn weigh(day: Tables, plan: &[u16]) -> Result<Totals, Fault> {
+    let mut answer = [0; 2];
+    match codes::weigh(day, plan, &mut answer) {
+        0 => Ok(totals(answer)),
+        code => Err(fault(code)),
+    }
+}
+
+/// The first plan's cost less the second's.
+pub fn compare(day: Tables, first: &[u16], second: &[u16]) -> Result<i64, Fault> {
+    let mut difference = [0];
+    match codes::compare(day, first, second, &mut difference) {
+        0 => Ok(difference[0]),
+        code => Err(fault(code)),
+    }
+}
+
+/// Fills the tables from a day file, and gives the number of its periods.
+pub fn read(file: &[u8], tables: TablesMut) -> Result<u64, Refusal> {
+    let mut periods = [0];
+    match codes::read(file, tables, &mut periods) {
+        0 => Ok(periods[0]),
+        code => Err(refusal(code)),
+    }
+}
+
+/// The body of a numbered period record of a day file.
+pub fn lookup(file: &[u8], period: usize) -> Result<[u8; 16], Refusal> {
+    let mut body = [0; 16];
+    match codes::lookup(file, period, &mut body) {
+        0 => Ok(body),
+        code => Err(refusal(code)),
+    }
+}
+
+/// Writes the day file at the front of `out`, and gives the count of its bytes.
+pub fn write(day: Tables, out: &mut [u8]) -> Result<u64, Refusal> {
+    let mut count = [0];
+    match codes::write(day, out, &mut count) {
+        0 => Ok(count[0]),
+        code => Err(refusal(code)),
+    }
+}
