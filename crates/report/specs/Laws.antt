@@ -5,14 +5,19 @@ use mathlib.Core.List.{List, _++_}
 use Prim.Native.Nat.{ℕ, zero, suc, _+_, _-_, _^_, _≤_, _<_}
 use native.Mathlib.Nat.{pow-le-pow-right}
 use native.Mathlib.Decide.{decLt}
+use native.Mathlib.Numerals.{add-one}
 use native.Mathlib.Omega.{arith}
 use borrow.Author.Tests.{lt-ltb, le-ltb}
 use lib.Dec.{ltb}
-use lib.ListN.{length, take}
-use lib.Seq.{paste, length-paste, take-paste, take-all}
+use lib.ListN.{length, take, drop}
+use lib.Seq.{getD-take, length-take-le, paste, length-paste, take-paste, take-all}
 use Rattle.io.specs.Digits.{digits, Fewest}
-use Rattle.day.specs.Find.{find, find-here, nothing-found}
-use Rattle.report.specs.Text.{places, placesOf, decimal, Put}
+use Rattle.day.specs.Sums.{at, sumTo, sum-ext}
+use Rattle.checks.specs.Passed.{TotalIs}
+use Rattle.day.specs.Day.{Day}
+use Rattle.day.specs.Plan.{inventory}
+use Rattle.day.specs.Find.{find-here, nothing-found}
+use Rattle.report.specs.Text.{places, placesOf, decimal, periodLine, amountLine, Put}
 
 -- all of a text, copied
 pub pasted-put : (line : List ℕ) (place : ℕ) (text : List ℕ) → place + length text ≤ length line
@@ -21,6 +26,7 @@ pasted-put line place text h =
     record {
       front = take-paste line place text (length text) (omega arith) (omega arith) ∙ ap (λ (t : List ℕ). take place line ++ t) (take-all (length text) text (omega arith));
       end = refl;
+      inside = omega (arith, length-paste line place text (length text) h (omega arith));
       size = length-paste line place text (length text) h (omega arith);
     }
 
@@ -55,3 +61,16 @@ pub number-put : {before after : List ℕ} {place next : ℕ} (n k : ℕ) (text 
 number-put n k text f h is p =
     let e : text ≡ decimal n = is ∙ ap (λ (j : ℕ). digits 10 j n) (sym (places-are n k f (few-digits n k f h))) in
     rw e at p
+
+-- the sum of the first i entries, as that of a part
+pub part-total : (l : List ℕ) (i r : ℕ) → i ≤ length l → TotalIs (take (i - 0) (drop 0 l)) r → r ≡ sumTo (at l) i
+part-total l i r h t =
+    let e : i - 0 ≡ i = omega arith in
+    let size : length (take (i - 0) l) ≡ i = rw e (length-take-le i l h) in
+    t .is ∙ ap (sumTo (at (take (i - 0) l))) size ∙ sum-ext (at (take (i - 0) l)) (at l) i (λ k b. getD-take (i - 0) l k 0 (omega arith))
+
+-- a period's line is its amount's
+pub amount-put : {before after : List ℕ} {next : ℕ} (d : Day) (x : ℕ → ℕ) (i left : ℕ) → left ≡ inventory d x (i + 1)
+    → Put before 0 (periodLine (i + 1) (x i) left) after next
+    → Put before 0 (amountLine d x i) after next
+amount-put d x i left e p = rw (e, add-one) at p

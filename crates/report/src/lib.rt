@@ -2,7 +2,11 @@
 ghost use mathlib.Core.Path.{_≡_};
 ghost use Prim.Native.Nat.{_+_, _≤_};
 ghost use lib.ListN.{length};
-ghost use Rattle.report.specs.Text.{decimal, planLine, periodLine, refusalLine, Put};
+ghost use mathlib.Core.List.{[]};
+ghost use Rattle.day.specs.Sums.{at};
+ghost use Rattle.day.specs.Day.{dayOf};
+ghost use Rattle.day.specs.Plan.{inventory as left};
+ghost use Rattle.report.specs.Text.{decimal, planLine, periodLine, amountLine, refusalLine, Put, Held};
 use day::Refusal;
 
 // Puts text at a place of the line, and answers the place after it.
@@ -43,7 +47,7 @@ pub fn plan_line(n: u64, cost: u64, setups: u64, line: &mut [u8; 96]) -> usize
 }
 
 // One period of a plan: its amount, and the inventory left after it.
-pub fn period_line(period: u64, amount: u64, inventory: u64, line: &mut [u8; 96]) -> usize
+fn period_line(period: u64, amount: u64, inventory: u64, line: &mut [u8; 96]) -> usize
     ensures { λ r. ⌜ Put (now (line .entry)) 0 (periodLine period amount inventory) (now (line .exit)) r ⌝ }
 {
     let a = put_number(line, 0, period);
@@ -52,6 +56,25 @@ pub fn period_line(period: u64, amount: u64, inventory: u64, line: &mut [u8; 96]
     let d = put(line, c, b" left ");
     let e = put_number(line, d, inventory);
     put(line, e, b"\n")
+}
+
+// The inventory left after the first i periods.
+fn inventory(demand: &[u16], plan: &[u16], i: usize) -> u64
+    requires { ⌜ Held (now demand) (now plan) i ⌝ }
+    ensures { λ r. ⌜ r ≡ left (dayOf (now (demand .entry)) [] [] [] []) (at (now (plan .entry))) i ⌝ }
+{
+    let made = checks::total(&plan[0..i]);
+    let needed = checks::total(&demand[0..i]);
+    if made < needed { 0 } else { made - needed }
+}
+
+// The period at index i of a plan.
+pub fn amount_line(demand: &[u16], plan: &[u16], i: usize, line: &mut [u8; 96]) -> usize
+    requires { ⌜ Held (now demand) (now plan) (i + 1) ⌝ }
+    ensures { λ r. ⌜ Put (now (line .entry)) 0 (amountLine (dayOf (now (demand .entry)) [] [] [] []) (at (now (plan .entry))) i) (now (line .exit)) r ⌝ }
+{
+    let inventory = inventory(demand, plan, i + 1);
+    period_line((i + 1) as u64, plan[i] as u64, inventory, line)
 }
 
 // A refusal.
