@@ -1,5 +1,6 @@
-//! Document 01's tests on lent tables, each alone and in the order in which calls apply them.
-//! Every function answers what the condition that it cites from the crate day's Refusals says.
+//! Document 01's tests on lent tables and memory, by its numbers: each alone, and in the order in which calls apply them.
+//! Every function answers what the condition says that it cites from Refusals of the crate day. What a caller learns from
+//! an answer is in specs/.
 ghost use mathlib.Core.Path.{_≡_};
 ghost use mathlib.Core.Bool.{_||_};
 ghost use mathlib.Core.List.{[], _∷_};
@@ -12,17 +13,18 @@ ghost use Rattle.checks.specs.Passed.{SameLengths, TotalIs};
 use day::Check;
 use day::Refusal;
 
+// document 01's limits
 const MAX_PERIODS: usize = 96;
 
 const MAX_DEMAND: u16 = 4096;
 
-const MAX_SETUP: u32 = 1000000000;
+const MAX_SETUP: u32 = 1_000_000_000;
 
-const MAX_RATE: u32 = 1000000;
+const MAX_RATE: u32 = 1_000_000;
 
 const MAX_TOTAL: u64 = 4096;
 
-// 1
+// 1: the number of periods
 pub fn count(n: usize) -> Check
     ensures { λ r. ⌜ r ≡ checked (badCount n) ⌝ }
 {
@@ -32,7 +34,7 @@ pub fn count(n: usize) -> Check
     Check::Passed
 }
 
-// 2
+// 2: every table is as long as the demand table
 pub fn lengths(
     demand: &[u16],
     capacity: &[u16],
@@ -49,14 +51,14 @@ pub fn lengths(
     Check::Passed
 }
 
-// Whether one of a period's values is above its limit. Its capacity never is.
+// Whether one of a period's values is above its limit. A capacity of 16 bits never is.
 fn above_limit(demand: u16, setup: u32, unit: u32, holding: u32) -> bool
     ensures { λ r. ⌜ r ≡ (ltb maxDemand demand || ltb maxSetup setup || ltb maxRate unit || ltb maxRate holding) ⌝ }
 {
     MAX_DEMAND < demand || MAX_SETUP < setup || MAX_RATE < unit || MAX_RATE < holding
 }
 
-// 3, for tables of one length
+// 3, for tables of one length: the first period with a value above its limit
 pub fn values(
     demand: &[u16],
     capacity: &[u16],
@@ -77,7 +79,7 @@ pub fn values(
     Check::Passed
 }
 
-// 1, 2, 3: what opens every call on tables
+// 1, 2, 3, which open every call on tables
 pub fn tables(
     demand: &[u16],
     capacity: &[u16],
@@ -96,7 +98,7 @@ pub fn tables(
     values(demand, capacity, setup, unit, holding)
 }
 
-// R over the day
+// R over the day; the sum needs more than 16 bits
 pub fn total(demand: &[u16]) -> u64
     requires { ⌜ length (now demand) ≤ maxPeriods ⌝ }
     ensures { λ r. ⌜ TotalIs (now (demand .entry)) r ⌝ }
@@ -123,7 +125,7 @@ pub fn day(demand: &[u16], capacity: &[u16], setup: &[u32], unit: &[u32], holdin
     Check::Passed
 }
 
-// 5, 6: how many cells and slots are lent, and how many are needed
+// 5, 6: the cells and slots that are lent, and how many the call needs
 pub fn memory(
     costs: usize,
     cost_cells: usize,
@@ -143,7 +145,7 @@ pub fn memory(
     Check::Passed
 }
 
-// 7, for tables of one length; it reads no other table
+// 7, for tables of one length: the first period with R above C
 pub fn shortage(demand: &[u16], capacity: &[u16]) -> Check
     requires { ⌜ length (now capacity) ≡ length (now demand) ⌝ }
     requires { ⌜ length (now demand) ≤ maxPeriods ⌝ }
@@ -163,7 +165,7 @@ pub fn shortage(demand: &[u16], capacity: &[u16]) -> Check
     Check::Passed
 }
 
-// 8, for tables of one length
+// 8, for tables of one length: every capacity is as the first
 pub fn equal(demand: &[u16], capacity: &[u16]) -> Check
     requires { ⌜ length (now capacity) ≡ length (now demand) ⌝ }
     ensures { λ r. ⌜ r ≡ checked (unequal (dayOf (now (demand .entry)) (now (capacity .entry)) [] [] [])) ⌝ }
@@ -178,7 +180,7 @@ pub fn equal(demand: &[u16], capacity: &[u16]) -> Check
     Check::Passed
 }
 
-// 9, for tables of one length; `remaining` is R over the day less R before the period
+// 9, for tables of one length: the first capacity below what remains, R over the day less R before its period
 pub fn binding(demand: &[u16], capacity: &[u16]) -> Check
     requires { ⌜ length (now capacity) ≡ length (now demand) ⌝ }
     requires { ⌜ length (now demand) ≤ maxPeriods ⌝ }

@@ -1,18 +1,19 @@
 -- What demands 2 and 3 say of a day and its plan, beyond the contract of any one call.
 -- Main statements: `feasible-iff`, `shortage-iff`, `shortage-names` (demand 2); `optimal-exists`, `plan-unique`, `plan-first` (demand 3).
 -- Assumes nothing.
-use mathlib.Core.Path.{_≡_, refl, ap}
+use mathlib.Core.Path.{_≡_, ap}
 use mathlib.Core.Logic.{_⊎_, _↔_}
-use mathlib.Core.Option.{Option, none, some}
+use mathlib.Core.Option.{none, some}
 use Prim.Native.Nat.{ℕ, suc, _≤_, _<_}
 use native.Mathlib.Omega.{arith}
-use borrow.Author.Tests.{le-ltb, ltb-true, ltb-false}
+use borrow.Author.Tests.{le-ltb}
 use Rattle.day.specs.declared.Refusal.{Refusal}
 use Rattle.day.specs.declared.Refusal.the-variants.{Shortage}
-use Rattle.day.specs.Find.{find, none-found, nothing-found, some-found}
+use Rattle.day.specs.Find.{nothing-found}
 use Rattle.day.specs.Day.{Day, periods, demandTo, capacityTo, total}
 use Rattle.day.specs.Plan.{Feasible, Optimal, cost}
 use Rattle.day.specs.Refusals.{short, shortage, refuseAt}
+use Rattle.checks.specs.Passed.{FirstShort, shortage-passed, shortage-refused}
 use Rattle.theory.specs.Order.{LastSmaller, smaller-means}
 use Rattle.theory.specs.Recursion as Recursion
 use Rattle.theory.specs.Reachable.{interval, feasible-covered}
@@ -21,21 +22,6 @@ use Rattle.theory.specs.Base.{modelOf, model-rising, feasible-model, mod
 -- R ≤ C at every period
 abbrev pub Supplied : Day → Type 0
 Supplied d = (k : ℕ) → k < periods d → demandTo d (suc k) ≤ capacityTo d (suc k)
-
--- index k is the first period whose summed demand is above the summed capacity
-pub record FirstShort (d : Day) (k : ℕ) : Type 0 where
-  pub inside : k < periods d
-  pub short : capacityTo d (suc k) < demandTo d (suc k)
-  pub before : (j : ℕ) → j < k → demandTo d (suc j) ≤ capacityTo d (suc j)
-
--- a refusal that names a period, from what was found
-named-none : (o : Option ℕ) → refuseAt Shortage o ≡ none → o ≡ none
-named-none none e = refl
-named-none (some k) e = let z : _≡_ {A = ℕ} 0 1 = cc in absurd (omega arith)
-
-named-some : (o : Option ℕ) (r : Refusal) → refuseAt Shortage o ≡ some r → (k : ℕ) × (o ≡ some k) × (r ≡ Shortage (suc k))
-named-some none r e = let z : _≡_ {A = ℕ} 0 1 = cc in absurd (omega arith)
-named-some (some k) r e = (k, refl, cc)
 
 module _ (d : Day) where
   -- Demand 2: whole amounts satisfy conditions (2) to (4) exactly if R ≤ C at every period.
@@ -65,24 +51,14 @@ module _ (d : Day) where
   plan-first x y o f = let p = o .first y f in (p .cheap, λ e. smaller-means (periods d) x y (p .small e))
 
   -- Demand 2: refusal 7 is given exactly if no plan exists.
-  pub shortage-iff : (shortage d ≡ none) ↔ Supplied d
+  pub shortage-iff : (shortage d ≡ none) ↔ ((x : ℕ → ℕ) × Feasible d x)
   shortage-iff = (
-    λ e k l. ltb-false (capacityTo d (suc k)) (demandTo d (suc k)) (none-found (short d) (periods d) (named-none (find (short d) (periods d)) e) k l),
-    λ s.
+    λ e. feasible-iff .1 (shortage-passed d e),
+    λ p.
         ap (refuseAt Shortage)
-        (nothing-found (short d) (periods d) (λ k l. le-ltb (capacityTo d (suc k)) (demandTo d (suc k)) (s k l))),
+        (nothing-found (short d) (periods d) (λ k l. le-ltb (capacityTo d (suc k)) (demandTo d (suc k)) (feasible-iff .0 p k l))),
   )
 
   -- Demand 2: and then it names the first period whose summed demand exceeds the summed capacity.
-  pub shortage-names : (r : Refusal) → shortage d ≡ some r → (k : ℕ) × (r ≡ Shortage (suc k)) × FirstShort d k
-  shortage-names r e =
-      let w = named-some (find (short d) (periods d)) r e in
-      let f = some-found (short d) (periods d) (w .0) (w .1) in (
-        w .0,
-        w .2,
-        record {
-          inside = f .inside;
-          short = ltb-true (capacityTo d (suc (w .0))) (demandTo d (suc (w .0))) (f .passes);
-          before = λ j l. ltb-false (capacityTo d (suc j)) (demandTo d (suc j)) (f .first j l);
-        },
-      )
+  pub shortage-names : (r : Refusal) → shortage d ≡ some r → FirstShort d r
+  shortage-names = shortage-refused d

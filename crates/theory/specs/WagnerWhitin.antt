@@ -1,26 +1,26 @@
--- The uncapped path: a row for each m, found from the rows before it. Row m is the plan of (m, N m), with its cost.
--- Assumes nothing.
+-- The uncapped path (report, section 3; Wagner and Whitin): a row for each m, found from the rows before it. Row m is the plan of (m, N m), with its cost.
+-- Main definition: `wagnerWhitin`. Main statement: `wagnerWhitin-right`. Assumes nothing.
 use mathlib.Core.Path.{_≡_, refl, sym, ap, _∙_}
 use mathlib.Core.List.{List, [], _∷_, _++_}
-use Prim.Native.Nat.{ℕ, zero, suc, _+_, _-_, _≤_, _<_}
+use Prim.Native.Nat.{ℕ, suc, _+_, _-_, _≤_, _<_}
 use native.Mathlib.Decide.{ℕ-discrete}
 use native.Mathlib.Omega.{arith}
 use lib.ListN.{length, length-append, replicate, length-replicate, getD-replicate, List·getD-append}
 use lib.Seq.{getD-at, getD-append-add}
 use Rattle.day.specs.Sums.{at}
 use Rattle.theory.specs.Model.{Model, Rising, Unlimited, production, OptimalTo}
-use Rattle.theory.specs.Basics.{pick, upTo, upTo-zero}
+use Rattle.theory.specs.Basics.{pick}
 use Rattle.theory.specs.Cheapest.{cheapest, Cheapest, cheapest-right, cheapest-unique, cheapest-ext}
 use Rattle.theory.specs.Memo.{memo, memo-zero, memo-next, memo-all}
 use Rattle.theory.specs.Stages.{Solution}
 use Rattle.theory.specs.Recursion.{PlanOf, leads-optimal}
 use Rattle.theory.specs.Uncapped.{Uncapped, uncapped-less, Through, rest, price, through-cost, copy-step, run-step}
 
--- where the store is last empty before m + 1
+-- where the inventory is last empty before m + 1
 abbrev pub from : Model → (ℕ → ℕ) → ℕ → ℕ
 from M costs m = pick (ℕ-discrete (M .floor (suc m)) (M .floor m)) m (cheapest (price M costs (suc m)) m)
 
--- the amounts of a run from l to m + 1, all made in period l
+-- the lot of a regeneration interval from l to m + 1: all of it made in period l
 abbrev pub lot : Model → ℕ → ℕ → List ℕ
 lot M m l = (M .floor (suc m) - M .floor l) ∷ replicate (m - l) 0
 
@@ -140,46 +140,37 @@ module _ (M : Model) where
     unfolding wagnerWhitin
     wagnerWhitin-right n room = memo-all none (next M) Row n row-zero (λ m h rows right. next-right m (uncapped-less M rising (suc m) n h room) rows right)
 
--- costs and places kept in tables are right for row m + 1, given the costs before it
-pub record Chosen (M : Model) (costs froms : ℕ → ℕ) (m : ℕ) : Type 0 where
-  pub still : M .floor (suc m) ≡ M .floor m → froms (suc m) ≡ m
-  pub moves : M .floor m < M .floor (suc m) → Cheapest (price M costs (suc m)) m (froms (suc m))
-  pub tells : costs (suc m) ≡ price M costs (suc m) (froms (suc m))
+-- the cost and the place found for row m + 1 are right, given the costs of the rows before it
+pub record Chosen (M : Model) (costs : ℕ → ℕ) (m cost place : ℕ) : Type 0 where
+  pub still : M .floor (suc m) ≡ M .floor m → place ≡ m
+  pub moves : M .floor m < M .floor (suc m) → Cheapest (price M costs (suc m)) m place
+  pub tells : cost ≡ price M costs (suc m) place
 
-module _ (M : Model) (rising : Rising M) (costs froms : ℕ → ℕ) (zeroth : costs 0 ≡ 0) where
-  chosen-from : (m : ℕ) → Chosen M costs froms m → froms (suc m) ≡ from M costs m
-  chosen-from m c = go (ℕ-discrete (M .floor (suc m)) (M .floor m))
+module _ (M : Model) (rising : Rising M) (costs : ℕ → ℕ) (m cost place : ℕ) (c : Chosen M costs m cost place) where
+  chosen-from : place ≡ from M costs m
+  chosen-from = go (ℕ-discrete (M .floor (suc m)) (M .floor m))
     where
-      go : (d : Dec (M .floor (suc m) ≡ M .floor m)) → froms (suc m) ≡ pick d m (cheapest (price M costs (suc m)) m)
+      go : (d : Dec (M .floor (suc m) ≡ M .floor m)) → place ≡ pick d m (cheapest (price M costs (suc m)) m)
       go (yes e) = c .still e
       go (no h) =
-          cheapest-unique (price M costs (suc m)) m (froms (suc m)) (cheapest (price M costs (suc m)) m) (c .moves (omega (arith, rising .rises m)))
+          cheapest-unique (price M costs (suc m)) m place (cheapest (price M costs (suc m)) m) (c .moves (omega (arith, rising .rises m)))
           (cheapest-right (price M costs (suc m)) m)
 
-  abbrev wcost : ℕ → ℕ
-  wcost l = wagnerWhitin M l .cost
+  chosen-le : place ≤ m
+  chosen-le = omega (arith, chosen-from, from-le M costs m)
 
-  module _ (m : ℕ) (c : Chosen M costs froms m) (before : (l : ℕ) → l ≤ m → wcost l ≡ costs l) where
-    place : from M wcost m ≡ froms (suc m)
-    place = from-ext M wcost costs m before ∙ sym (chosen-from m c)
+  module _ (before : (l : ℕ) → l ≤ m → wagnerWhitin M l .cost ≡ costs l) where
+    same : from M (λ l. wagnerWhitin M l .cost) m ≡ place
+    same = from-ext M (λ l. wagnerWhitin M l .cost) costs m before ∙ sym chosen-from
 
-    pub chosen-le : froms (suc m) ≤ m
-    chosen-le = omega (arith, place, from-le M wcost m)
-
-    chosen-cost : wcost (suc m) ≡ costs (suc m)
+    -- Where the costs before it are those of the rows, the cost is that of row m + 1.
+    pub chosen-cost : wagnerWhitin M (suc m) .cost ≡ cost
     chosen-cost =
         ap (λ (f : Solution). f .cost) (wagnerWhitin-next M m)
-        ∙ ap (price M wcost (suc m)) place
-        ∙ ap (λ (v : ℕ). v + production M (froms (suc m)) (M .floor (suc m) - M .floor (froms (suc m))) + rest M (suc m) (froms (suc m))) (before (froms (suc m)) chosen-le)
+        ∙ ap (price M (λ l. wagnerWhitin M l .cost) (suc m)) same
+        ∙ ap (λ (v : ℕ). v + production M place (M .floor (suc m) - M .floor place) + rest M (suc m) place) (before place chosen-le)
         ∙ sym (c .tells)
 
-    -- the plan is read back: row m + 1 is the row of its place, and a burst
-    pub chosen-plan : wagnerWhitin M (suc m) .plan ≡ wagnerWhitin M (froms (suc m)) .plan ++ lot M m (froms (suc m))
-    chosen-plan = ap (λ (f : Solution). f .plan) (wagnerWhitin-next M m) ∙ ap (λ (v : ℕ). wagnerWhitin M v .plan ++ lot M m v) place
-
-  -- Where the tables are right, they hold the costs of the rows.
-  pub chosen-costs : (n : ℕ) → ((m : ℕ) → m < n → Chosen M costs froms m) → (l : ℕ) → l ≤ n → wagnerWhitin M l .cost ≡ costs l
-  chosen-costs zero c = upTo-zero (λ (l : ℕ). wcost l ≡ costs l) (ap (λ (f : Solution). f .cost) (wagnerWhitin-zero M) ∙ sym zeroth)
-  chosen-costs (suc n) c =
-      let before = chosen-costs n (λ m h. c m (omega arith)) in
-      upTo (λ (l : ℕ). wcost l ≡ costs l) n before (chosen-cost n (c n (omega arith)) before)
+    -- The plan is read back: row m + 1 is the row of its place, and a lot.
+    pub chosen-plan : wagnerWhitin M (suc m) .plan ≡ wagnerWhitin M place .plan ++ lot M m place
+    chosen-plan = ap (λ (f : Solution). f .plan) (wagnerWhitin-next M m) ∙ ap (λ (v : ℕ). wagnerWhitin M v .plan ++ lot M m v) same

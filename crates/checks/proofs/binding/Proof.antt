@@ -25,7 +25,9 @@ abbrev μ-loop : tie.MeasureT-loop
 
 -- the tables at the loop
 abbrev tables : tie.At-loop Inv-loop μ-loop → Day
-tables c = dayOf (c .before .before .before .before .args .demand .now) (c .before .before .before .before .args .capacity .now) [] [] []
+tables c =
+    let a = c .before .before .before .before .args in
+    dayOf (a .demand .now) (a .capacity .now) [] [] []
 
 total-requires : tie.Need-total-requires Inv-loop μ-loop
 total-requires c κs = c .before .before .pre .1
@@ -50,7 +52,8 @@ returns c =
     let p = c .before .before .before in
     let d = tables p in
     let i = p .loop .i in
-    refused-here (p .loop .inv .0) BindingCapacity (lt-ltb (at (d .capacity) i) (total d - demandTo d i) (omega arith)) (omega arith)
+    let below = lt-ltb (at (d .capacity) i) (total d - demandTo d i) (omega arith) in
+    refused-here (p .loop .inv .0) BindingCapacity below (omega arith)
 
 mul-remaining : tie.Need-mul-remaining Inv-loop μ-loop
 mul-remaining c = omega arith
@@ -76,10 +79,9 @@ loop-again : tie.Need-loop-again Inv-loop μ-loop
 loop-again c =
     let p = c .before .before .before .before in
     let d = tables p in
-    let i = p .loop .i in (
-      searched-next (p .loop .inv .0) (le-ltb (at (d .capacity) i) (total d - demandTo d i) (omega arith)) (omega arith),
-      rw add-one (omega arith),
-    )
+    let i = p .loop .i in
+    let free = le-ltb (at (d .capacity) i) (total d - demandTo d i) (omega arith) in
+    (searched-next (p .loop .inv .0) free (omega arith), rw add-one (omega arith))
 
 returns-2 : tie.Need-returns-2 Inv-loop μ-loop
 returns-2 c = rw (searched-all (c .before .loop .inv .0) (c .loop-test .left)) refl

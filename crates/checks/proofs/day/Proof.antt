@@ -23,7 +23,11 @@ tested : (c : tie.After-enum-told) → first (badTables (tables (c .before .befo
 tested c = passed _ (c .before .before .tables .ensures) (c .enum-told .given .1)
 
 -- so the test of the total decides
-decides : (d : Day) → first (badTables d []) ≡ none → {answer : Check} → answer ≡ checked (badTotal d) → answer ≡ checked (first (badTables d (badTotal d ∷ [])))
+decides :
+    (d : Day) {answer : Check}
+    → first (badTables d []) ≡ none
+    → answer ≡ checked (badTotal d)
+    → answer ≡ checked (first (badTables d (badTotal d ∷ [])))
 decides d ok is = is ∙ ap checked (sym (first-passed (badTables d []) (badTotal d ∷ []) ok ∙ first-one (badTotal d)))
 
 tables-requires : tie.Need-tables-requires
@@ -36,7 +40,8 @@ returns : tie.Need-returns
 returns c =
     let p = c .before .before .before in
     let d = tables p in
-    sym (ap checked (first-refused (badTables d []) (badTotal d ∷ []) (refused (first (badTables d [])) (p .tables .ensures) (c .before .r .given .1))))
+    let e = refused (first (badTables d [])) (p .tables .ensures) (c .before .r .given .1) in
+    sym (ap checked (first-refused (badTables d []) (badTotal d ∷ []) e))
 
 enum-told : tie.Need-enum-told
 enum-told c = search needs

@@ -1,10 +1,12 @@
 -- `checks::equal` meets its contract. The loop's invariant: no capacity passed differs from the first. Assumes nothing.
-use mathlib.Core.Path.{refl}
+use mathlib.Core.Path.{refl, ap}
+use mathlib.Core.Bool.{not}
 use mathlib.Core.List.{[]}
 use Prim.Native.Nat.{_-_}
 use native.Mathlib.Omega.{arith}
 use lib.ListN.{length}
 use borrow.Author.Tests.{eq-eqb, ne-eqb}
+use Rattle.day.specs.Sums.{at}
 use Rattle.day.specs.Day.{dayOf}
 use Rattle.day.specs.Refusals.{differs}
 use Rattle.checks.proofs.Search.{Searched, searched-next, searched-all, found-here}
@@ -30,7 +32,11 @@ shared-slice-read-if1-2 : tie.Need-shared-slice-read-if1-2 Inv-loop μ-loop
 shared-slice-read-if1-2 c = omega arith
 
 returns : tie.Need-returns Inv-loop μ-loop
-returns c = rw (found-here (c .before .before .before .before .loop .inv) (simp (ne-eqb _ _ (c .if1 .taken))) (omega arith)) refl
+returns c =
+    let p = c .before .before .before .before in
+    let capacity = p .before .args .capacity .now in
+    let differ = ne-eqb (at capacity (p .loop .i)) (at capacity 0) (λ e. omega arith) in
+    rw (found-here (p .loop .inv) (ap not differ) (omega arith)) refl
 
 add-i : tie.Need-add-i Inv-loop μ-loop
 add-i c = omega arith
@@ -39,7 +45,11 @@ loop-less : tie.Need-loop-less Inv-loop μ-loop
 loop-less c = omega arith
 
 loop-again : tie.Need-loop-again Inv-loop μ-loop
-loop-again c = searched-next (c .before .before .before .before .loop .inv) (simp (eq-eqb _ _ (c .if1 .left))) (omega arith)
+loop-again c =
+    let p = c .before .before .before .before in
+    let capacity = p .before .args .capacity .now in
+    let alike = eq-eqb (at capacity (p .loop .i)) (at capacity 0) (omega arith) in
+    searched-next (p .loop .inv) (ap not alike) (omega arith)
 
 returns-2 : tie.Need-returns-2 Inv-loop μ-loop
 returns-2 c = rw (searched-all (c .before .loop .inv) (c .loop-test .left)) refl

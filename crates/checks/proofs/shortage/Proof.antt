@@ -2,7 +2,6 @@
 -- Assumes nothing.
 use mathlib.Core.Path.{_≡_, refl}
 use mathlib.Core.List.{[]}
-use mathlib.Core.Option.{none}
 use Prim.Native.Nat.{suc, _≤_, _*_, _-_}
 use native.Mathlib.Numerals.{add-one}
 use native.Mathlib.Omega.{arith}
@@ -65,7 +64,8 @@ returns c =
     let p = c .before .before .before .before in
     let i = p .loop .i in
     let d = tables p in
-    refused-here (p .loop .inv .0) Shortage (lt-ltb (capacityTo d (suc i)) (demandTo d (suc i)) (omega arith)) (omega arith)
+    let above = lt-ltb (capacityTo d (suc i)) (demandTo d (suc i)) (omega arith) in
+    refused-here (p .loop .inv .0) Shortage above (omega arith)
 
 loop-less : tie.Need-loop-less Inv-loop μ-loop
 loop-less c = omega arith
@@ -74,8 +74,9 @@ loop-again : tie.Need-loop-again Inv-loop μ-loop
 loop-again c =
     let p = c .before .before .before .before in
     let i = p .loop .i in
-    let d = tables p in (
-      searched-next (p .loop .inv .0) (le-ltb (capacityTo d (suc i)) (demandTo d (suc i)) (omega arith)) (omega arith),
+    let d = tables p in
+    let covered = le-ltb (capacityTo d (suc i)) (demandTo d (suc i)) (omega arith) in (
+      searched-next (p .loop .inv .0) covered (omega arith),
       rw add-one (omega arith),
       omega (arith, c .before .before .shared-slice-known .given i),
       rw add-one (omega arith),

@@ -1,9 +1,9 @@
 -- `checks::tables` meets its contract: each answer is the first refusal, given those of the tests before it. Assumes nothing.
-use mathlib.Core.Path.{_≡_, refl, sym, ap, _∙_}
+use mathlib.Core.Path.{_≡_, refl}
 use mathlib.Core.Option.{none}
 use borrow.Author.Needs.{needs}
 use Rattle.day.specs.Day.{Day, dayOf, periods}
-use Rattle.day.specs.Refusals.{checked, badCount, badLengths, badValue}
+use Rattle.day.specs.Refusals.{badCount, badLengths, badValue}
 use Rattle.checks.specs.Passed.{passed, refused, first-one, lengths-passed}
 use Rattle.checks.proofs.tables.Statement.{statement}
 use Rattle.checks.proofs.tables.Tie as tie
@@ -28,7 +28,9 @@ enum-known-r : tie.Need-enum-known-r
 enum-known-r c = search needs
 
 returns : tie.Need-returns
-returns c = rw (refused (badCount (periods (tables (c .before .before .before)))) (c .before .before .before .count .ensures) (c .before .r .given .1)) refl
+returns c =
+    let p = c .before .before .before in
+    rw (refused (badCount (periods (tables p))) (p .count .ensures) (c .before .r .given .1)) refl
 
 enum-told : tie.Need-enum-told
 enum-told c = search needs
@@ -42,7 +44,8 @@ enum-known-r-2 c = search needs
 returns-2 : tie.Need-returns-2
 returns-2 c =
     let p = c .before .before .before in
-    rw (counted (p .before), refused (badLengths (tables (p .before .before .before))) (p .lengths .ensures) (c .before .r2 .given .1)) refl
+    let e = refused (badLengths (tables (p .before .before .before))) (p .lengths .ensures) (c .before .r2 .given .1) in
+    rw (counted (p .before), e) refl
 
 enum-told-2 : tie.Need-enum-told-2
 enum-told-2 c = search needs
@@ -52,8 +55,8 @@ values-requires c κs = lengths-passed _ (measured c)
 
 returns-3 : tie.Need-returns-3
 returns-3 c =
-    rw (counted (c .before .before .before .before), measured (c .before))
-    (c .values .ensures ∙ ap checked (sym (first-one (badValue (tables (c .before .before .before .before .before .before))))))
+    let p = c .before .before .before .before in
+    rw (counted p, measured (c .before), first-one (badValue (tables (p .before .before)))) (c .values .ensures)
 
 pub tables-spec : {M : Type 1} → statement M
 tables-spec =

@@ -16,7 +16,11 @@ use Rattle.checks.proofs.values.Statement.{statement}
 use Rattle.checks.proofs.values.Tie as tie
 
 -- a capacity that fits 16 bits is not above its limit, so the other four values decide
-others-decide : (d : Day) (k : ℕ) → at (d .capacity) k ≤ maxCapacity → aboveLimit d k ≡ (ltb maxDemand (at (d .demand) k) || ltb maxSetup (at (d .setup) k) || ltb maxRate (at (d .unit) k) || ltb maxRate (at (d .holding) k))
+others-decide :
+    (d : Day) (k : ℕ)
+    → at (d .capacity) k ≤ maxCapacity
+    → aboveLimit d k
+    ≡ (ltb maxDemand (at (d .demand) k) || ltb maxSetup (at (d .setup) k) || ltb maxRate (at (d .unit) k) || ltb maxRate (at (d .holding) k))
 others-decide d k low = simp (le-ltb maxCapacity (at (d .capacity) k) low, or-false)
 
 abbrev Inv-loop : tie.InvT-loop
@@ -66,10 +70,12 @@ tables c =
     dayOf (a .demand .now) (a .capacity .now) (a .setup .now) (a .unit .now) (a .holding .now)
 
 -- the call answers the test of the period
-answered : (c : tie.After-above-limit Inv-loop μ-loop) → aboveLimit (tables (at-loop c)) (at-loop c .loop .i) ≡ c .above-limit .result
+answered :
+    (c : tie.After-above-limit Inv-loop μ-loop) → aboveLimit (tables (at-loop c)) (at-loop c .loop .i) ≡ c .above-limit .result
 answered c =
     let p = at-loop c in
-    others-decide (tables p) (p .loop .i) (omega (arith, p .before .before .before .before .shared-slice-known2 .given (p .loop .i))) ∙ sym (c .above-limit .ensures)
+    let fits = p .before .before .before .before .shared-slice-known2 .given (p .loop .i) in
+    others-decide (tables p) (p .loop .i) (omega (arith, fits)) ∙ sym (c .above-limit .ensures)
 
 add-t21 : tie.Need-add-t21 Inv-loop μ-loop
 add-t21 c = omega arith

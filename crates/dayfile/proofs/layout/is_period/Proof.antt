@@ -1,0 +1,26 @@
+-- `dayfile::layout::is_period` meets its contract: past the file's end no kind is 1; else by its tests. Assumes nothing.
+use borrow.Author.Needs.{needs}
+use borrow.Author.Tests.{eq-eqb, ne-eqb}
+use lib.ListN.{List·getD-eq-default}
+use denote.Ref.{now}
+use Prim.Native.Nat.{ℕ}
+use Rattle.dayfile.proofs.layout.is_period.Statement.{statement}
+use Rattle.dayfile.proofs.layout.is_period.Tie as tie
+
+returns : tie.Need-returns
+returns c = simp (List·getD-eq-default {A = ℕ} (now (c .before .before .args .file)) 0 (c .if1 .taken))
+
+shared-slice-read-if2 : tie.Need-shared-slice-read-if2
+shared-slice-read-if2 c = search needs
+
+returns-2 : tie.Need-returns-2
+returns-2 c = simp (ne-eqb _ _ (c .if2 .taken))
+
+next-requires : tie.Need-next-requires
+next-requires c κs = search needs
+
+returns-3 : tie.Need-returns-3
+returns-3 c = simp (eq-eqb _ _ (c .before .if2 .left), c .next .ensures)
+
+pub is-period-spec : {M : Type 1} → statement M
+is-period-spec = tie.close (tie.spec returns shared-slice-read-if2 returns-2 next-requires returns-3)

@@ -1,0 +1,161 @@
+-- Laws of the layout.
+--     period-at, end-found            the records that `periodsIn` counts are whole periods, and the one after them is not
+--     walked-none, -more, -end        a walk over the period records, record by record
+--     laid-out; counted, walk-clean   the walk meets no fault exactly if the file is laid out as document 01 says
+-- Assumes nothing.
+use mathlib.Core.Path.{_≡_, refl, _∙_}
+use mathlib.Core.Bool.{Bool, true, false, not, _&&_, _||_, cond}
+use mathlib.Core.List.{List, [], _∷_}
+use mathlib.Core.Option.{Option, none, some}
+use Prim.Native.Nat.{ℕ, zero, suc, _+_, _-_, _≤_, _<_}
+use native.Mathlib.Omega.{arith}
+use native.Mathlib.Nat.{eq-or-lt-of-le, le-of-suc-le-suc, add-sub-cancel-left}
+use mathlib.Core.Logic.{⊎-elim}
+use lib.Arith.{le-zero}
+use lib.Dec.{eqb, leb, ltb}
+use lib.ListN.{length, take, drop, length-take, length-drop}
+use borrow.Author.Tests.{eqb-true, leb-true, leb-false, ltb-false, lt-ltb, le-ltb, le-leb, eq-eqb, not-true, not-false}
+use Rattle.day.specs.Sums.{at}
+use Rattle.day.specs.Find.{find, find-none, find-here, none-found, some-found}
+use Rattle.day.specs.Refusals.{first}
+use Rattle.day.specs.File.{periodKind, endKind, isKind, bodyLength, body, number2, next, recordAt, Layout, isPeriod, periodsIn, orZero, unknownKind, truncated, wrongEnd, walk}
+use Rattle.dayfile.specs.Passed.{first-none, refuse-none, or-false}
+
+-- a body of a known kind has 2 bytes at least
+pub kind-length : (kind : ℕ) → isKind kind ≡ true → 2 ≤ bodyLength kind
+kind-length kind = go (eqb kind periodKind) (eqb kind endKind)
+  where
+    go : (a b : Bool) → (a || b) ≡ true → 2 ≤ cond a 16 (cond b 2 0)
+    go true b e = omega arith
+    go false true e = omega arith
+    go false false e = let z : _≡_ {A = ℕ} 0 1 = cc in absurd (omega arith)
+
+-- a whole period record: its kind, and that the file reaches to its end
+pub record WholePeriod (s : List ℕ) (p : ℕ) : Type 0 where
+  pub kind : at s p ≡ periodKind
+  pub whole : next s p ≤ length s
+
+pub period : (s : List ℕ) (p : ℕ) → isPeriod s p ≡ true → WholePeriod s p
+period s p e = go (eqb (at s p) periodKind) refl e
+  where
+    go : (b : Bool) → eqb (at s p) periodKind ≡ b → (b && leb (next s p) (length s)) ≡ true → WholePeriod s p
+    go true q w = record { kind = eqb-true _ _ q; whole = leb-true _ _ w }
+    go false q w = let z : _≡_ {A = ℕ} 0 1 = cc in absurd (omega arith)
+
+-- a body is what stands from the byte after the kind to the next record
+pub body-part : (s : List ℕ) (p : ℕ) {end : ℕ} → end ≡ next s p → take (end - (p + 1)) (drop (p + 1) s) ≡ body s p
+body-part s p e = rw (e, add-sub-cancel-left) refl
+
+-- a whole body is as long as its kind says
+pub body-length : (s : List ℕ) (p : ℕ) → next s p ≤ length s → length (body s p) ≡ bodyLength (at s p)
+body-length s p l = simp (length-take, length-drop) (omega arith)
+
+pub period-body : (s : List ℕ) (p : ℕ) → WholePeriod s p → length (body s p) ≡ 16
+period-body s p w = body-length s p (w .whole) ∙ rw (w .kind) refl
+
+-- record i is no whole period
+abbrev stops : List ℕ → ℕ → Bool
+stops s i = not (isPeriod s (recordAt s i))
+
+-- every record has a byte at least
+record-far : (s : List ℕ) (i : ℕ) → i ≤ recordAt s i
+record-far s zero = omega arith
+record-far s (suc i) = omega (arith, record-far s i)
+
+-- the records that are counted are whole periods
+pub period-at : (s : List ℕ) (i : ℕ) → i < periodsIn s → WholePeriod s (recordAt s i)
+period-at s i = go (find (stops s) (suc (length s))) refl
+  where
+    go : (o : Option ℕ) → find (stops s) (suc (length s)) ≡ o → i < orZero o → WholePeriod s (recordAt s i)
+    go none e l = absurd (omega arith)
+    go (some k) e l = period s (recordAt s i) (not-false _ (some-found (stops s) (suc (length s)) k e .first i l))
+
+-- and the one after them is not
+pub end-found : (s : List ℕ) → isPeriod s (recordAt s (periodsIn s)) ≡ false
+end-found s = go (find (stops s) (suc (length s))) refl
+  where
+    go : (o : Option ℕ) → find (stops s) (suc (length s)) ≡ o → isPeriod s (recordAt s (orZero o)) ≡ false
+    go none e =
+        let all = none-found (stops s) (suc (length s)) e (length s) (omega arith) in
+        absurd (omega (arith, record-far s (length s), period s (recordAt s (length s)) (not-false _ all)))
+    go (some k) e = not-true _ (some-found (stops s) (suc (length s)) k e .passes)
+
+-- a walk that has passed n whole periods stands at byte p
+pub record Walked (s : List ℕ) (n p : ℕ) : Type 0 where
+  pub here : p ≡ recordAt s n
+  pub passed : find (stops s) n ≡ none
+  pub far : n ≤ p
+  pub inside : p ≤ length s
+
+pub walked-none : (s : List ℕ) → Walked s 0 0
+walked-none s = record { here = refl; passed = refl; far = omega arith; inside = omega arith }
+
+pub walked-more : (s : List ℕ) (n p : ℕ) → Walked s n p → isPeriod s p ≡ true → Walked s (suc n) (next s p)
+walked-more s n p w t = record {
+  here = rw (w .here) refl;
+  passed = find-none (stops s) n (w .passed) (rw (← w .here, t) refl);
+  far = omega (arith, w .far);
+  inside = period s p t .whole;
+}
+
+pub walked-end : (s : List ℕ) (n p : ℕ) → Walked s n p → isPeriod s p ≡ false → periodsIn s ≡ n
+walked-end s n p w f =
+    rw (find-here (stops s) n (suc (length s)) (w .passed) (rw (← w .here, f) refl) (omega (arith, w .far, w .inside))) refl
+
+-- a record of a known kind that is no whole period, and to whose end the file reaches, is an end record
+end-kind : (s : List ℕ) (p : ℕ) → isPeriod s p ≡ false → next s p ≤ length s → (ltb p (length s) && not (isKind (at s p))) ≡ false → at s p ≡ endKind
+end-kind s p f l e =
+    go (eqb (at s p) periodKind) (eqb (at s p) endKind) refl f
+    (rw (lt-ltb p (length s) (omega arith)) at e)
+  where
+    go : (a b : Bool) → eqb (at s p) endKind ≡ b → (a && leb (next s p) (length s)) ≡ false → not (a || b) ≡ false → at s p ≡ endKind
+    go true b q f e = absurd (omega (arith, leb-false (next s p) (length s) f))
+    go false true q f e = eqb-true _ _ q
+    go false false q f e = let z : _≡_ {A = ℕ} 0 1 = cc in absurd (omega arith)
+
+-- a file whose walk meets no fault is laid out as document 01 says
+pub laid-out : (s : List ℕ) → walk s ≡ none → Layout s (periodsIn s)
+laid-out s e =
+    let n = periodsIn s in
+    let p = recordAt s n in
+    let known = first-none (unknownKind s p) (truncated s p ∷ wrongEnd s p n ∷ []) e in
+    let whole = first-none (truncated s p) (wrongEnd s p n ∷ []) (known .1) in
+    let right = or-false _ _ (refuse-none _ _ (first-none (wrongEnd s p n) [] (whole .1) .0)) in
+    let l = ltb-false _ _ (refuse-none _ _ (whole .0)) in
+    record {
+      periods = λ i l. period-at s i l .kind;
+      ends = end-kind s p (end-found s) l (refuse-none _ _ (known .0));
+      count = eqb-true _ _ (not-false _ (right .1));
+      size = eqb-true _ _ (not-false _ (right .0));
+    }
+
+record-grows : (s : List ℕ) (i n : ℕ) → i ≤ n → recordAt s i ≤ recordAt s n
+record-grows s i zero h = rw (le-zero h) (omega arith)
+record-grows s i (suc n) h =
+    ⊎-elim
+    (λ (e : i ≡ suc n). rw e (omega arith))
+    (λ l. omega (arith, record-grows s i n (le-of-suc-le-suc l)))
+    (eq-or-lt-of-le h)
+
+find-nothing : (P : ℕ → Bool) (n : ℕ) → ((i : ℕ) → i < n → P i ≡ false) → find P n ≡ none
+find-nothing P zero h = refl
+find-nothing P (suc n) h = find-none P n (find-nothing P n (λ i l. h i (omega arith))) (h n (omega arith))
+
+-- a file that is laid out so has that many periods, and its walk meets no fault
+pub counted : (s : List ℕ) (n : ℕ) → Layout s n → periodsIn s ≡ n
+counted s n w =
+    walked-end s n (recordAt s n)
+    (record { here = refl; passed = find-nothing (stops s) n passed; far = record-far s n; inside = omega (arith, w .size) })
+    (rw (w .ends) refl)
+  where
+    passed : (i : ℕ) → i < n → stops s i ≡ false
+    passed i l =
+        let far = record-grows s (suc i) n l in
+        rw (le-leb (next s (recordAt s i)) (length s) (omega (arith, w .size)), w .periods i l) refl
+
+pub walk-clean : (s : List ℕ) (n : ℕ) → Layout s n → walk s ≡ none
+walk-clean s n w =
+    let p = recordAt s n in
+    let size : length s ≡ next s p = w .size in
+    rw (counted s n w, le-ltb (length s) (next s p) (omega arith), eq-eqb (length s) (next s p) size, eq-eqb (number2 (body s p) 0) n (w .count), lt-ltb p (length s) (omega arith), w .ends)
+    refl
