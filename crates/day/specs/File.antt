@@ -104,19 +104,22 @@ dayIn s = record {
   holding = listOf (field number4 12 s) (periodsIn s);
 }
 
--- the bytes of numbers, and the file of a day
+-- the bytes of numbers; a period's body and record; the file of a day
 abbrev pub bytes2 : ℕ → List ℕ
 bytes2 v = v / 256 ∷ v % 256 ∷ []
 
 abbrev pub bytes4 : ℕ → List ℕ
 bytes4 v = bytes2 (v / 65536) ++ bytes2 (v % 65536)
 
-abbrev pub recordOf : (demand capacity setup unit holding : ℕ) → List ℕ
-recordOf demand capacity setup unit holding = periodKind ∷ (bytes2 demand ++ bytes2 capacity ++ bytes4 setup ++ bytes4 unit ++ bytes4 holding)
+abbrev pub fieldsOf : (demand capacity setup unit holding : ℕ) → List ℕ
+fieldsOf demand capacity setup unit holding = bytes2 demand ++ bytes2 capacity ++ bytes4 setup ++ bytes4 unit ++ bytes4 holding
+
+abbrev pub recordOf : Day → ℕ → List ℕ
+recordOf d k = periodKind ∷ fieldsOf (at (d .demand) k) (at (d .capacity) k) (at (d .setup) k) (at (d .unit) k) (at (d .holding) k)
 
 abbrev pub recordsOf : Day → ℕ → List ℕ
 recordsOf d zero = []
-recordsOf d (suc k) = recordsOf d k ++ recordOf (at (d .demand) k) (at (d .capacity) k) (at (d .setup) k) (at (d .unit) k) (at (d .holding) k)
+recordsOf d (suc k) = recordsOf d k ++ recordOf d k
 
 abbrev pub fileOf : Day → List ℕ
 fileOf d = recordsOf d (periods d) ++ endKind ∷ bytes2 (periods d)

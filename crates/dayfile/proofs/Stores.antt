@@ -1,10 +1,10 @@
 -- Laws of `sets l i vs`, the list l with vs stored from index i on. Assumes nothing.
-use mathlib.Core.Path.{_≡_, refl, _∙_}
+use mathlib.Core.Path.{_≡_, refl}
 use mathlib.Core.List.{List, [], _∷_, _++_}
 use Prim.Native.Nat.{ℕ, suc, _+_, _≤_, _<_}
 use native.Mathlib.Omega.{arith}
-use lib.ListN.{length, take, set, getD}
-use lib.Seq.{sets, take-suc, length-take-le}
+use lib.ListN.{length, take, drop, set, getD}
+use lib.Seq.{sets, sets-eq, take-suc, length-take-le}
 
 -- one run after another
 pub sets-then : (a b l : List ℕ) (i j : ℕ) → j ≡ i + length a → sets (sets l i a) j b ≡ sets l i (a ++ b)
@@ -15,3 +15,7 @@ sets-then (x ∷ a) b l i j e = sets-then a b (set l i x) (suc i) j (omega arith
 pub sets-more : (vs l : List ℕ) (i k : ℕ) → k < length vs → set (sets l i (take k vs)) (i + k) (getD vs k 0) ≡ sets l i (take (suc k) vs)
 sets-more vs l i k h =
     rw (take-suc vs k 0) (sets-then (take k vs) (getD vs k 0 ∷ []) l i (i + k) (rw (length-take-le k vs (omega arith)) refl))
+
+-- a run from the front
+pub sets-front : (vs l : List ℕ) → length vs ≤ length l → sets l 0 vs ≡ vs ++ drop (length vs) l
+sets-front vs l h = let e : 0 + length vs ≡ length vs = omega arith in rw e at (sets-eq vs l 0 (omega arith))

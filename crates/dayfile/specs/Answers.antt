@@ -1,9 +1,9 @@
--- What the calls on day files answer. Assumes nothing.
-use mathlib.Core.Path.{_≡_, refl}
+-- What the calls on day files answer, and what they leave in lent memory; document 01's order of their tests.
+-- Main definitions: `Reading`, `Lookup` and `Writing`, the contracts of the calls. Assumes nothing.
+use mathlib.Core.Path.{_≡_}
 use mathlib.Core.Option.{Option, none, some}
 use mathlib.Core.List.{List, [], _∷_, _++_}
 use Prim.Native.Nat.{ℕ, _+_, _-_, _<_, min}
-use native.Mathlib.Omega.{arith}
 use lib.ListN.{length, drop}
 use denote.Ref.{RefT, now}
 use Rattle.day.specs.Sums.{listOf}
@@ -32,29 +32,21 @@ abbrev pub answered : Option Refusal → ℕ → ReadAnswer
 answered none n = Periods n
 answered (some r) n = Refused r
 
-pub answered-refused : (o : Option Refusal) (n : ℕ) {a : ReadAnswer} {r : Refusal} → a ≡ answered o n → a ≡ Refused r → o ≡ some r
-answered-refused none n is e = let z : _≡_ {A = ℕ} 0 1 = cc in absurd (omega arith)
-answered-refused (some r) n is e = cc
-
-pub answered-periods : (o : Option Refusal) (n : ℕ) {a : ReadAnswer} {m : ℕ} → a ≡ answered o n → a ≡ Periods m → (o ≡ none) × (m ≡ n)
-answered-periods none n is e = (refl, cc)
-answered-periods (some r) n is e = let z : _≡_ {A = ℕ} 0 1 = cc in absurd (omega arith)
-
 -- what opens every call on a file: the walk, 1
 abbrev pub badFile : List ℕ → List (Option Refusal) → List (Option Refusal)
 badFile s rest = walk s ∷ badCount (periodsIn s) ∷ rest
 
--- a lookup: these, 13
+-- a lookup: the walk, 1, 13
 abbrev pub badLookup : List ℕ → ℕ → Option Refusal
 badLookup s i = first (badFile s (noSuchPeriod (periodsIn s) i ∷ []))
 
--- a lookup of period i, counted from 1: the body of its record, or an empty part where it is refused
-abbrev pub Found : Option Refusal → RefT (List ℕ) → ℕ → RefT (List ℕ) → Type 0
-Found none file i r = BodyAt file (recordAt (now file) (i - 1)) r
-Found (some refusal) file i r = now r ≡ []
+-- the part handed out for period i, counted from 1: the body of its record, or an empty part where the lookup is refused
+abbrev pub Part : Option Refusal → RefT (List ℕ) → ℕ → RefT (List ℕ) → Type 0
+Part none file i r = BodyAt file (recordAt (now file) (i - 1)) r
+Part (some refusal) file i r = now r ≡ []
 
 abbrev pub Lookup : RefT (List ℕ) → ℕ → RefT (List ℕ) → Type 0
-Lookup file i r = Found (badLookup (now file) i) file i r
+Lookup file i r = Part (badLookup (now file) i) file i r
 
 -- a table whose first k cells take f 0, .. f (k - 1), and whose later cells stay
 abbrev pub written : (ℕ → ℕ) → ℕ → List ℕ → List ℕ
@@ -70,14 +62,16 @@ filledTo s k tables =
     (written (field number4 8 s) k (tables .unit))
     (written (field number4 12 s) k (tables .holding))
 
+-- and of all its periods
 abbrev pub filled : List ℕ → Day → Day
 filled s tables = filledTo s (periodsIn s) tables
 
--- a reading: these, 6, 3
+-- how many cells each table has at least
 abbrev pub shortest : Day → ℕ
 shortest tables =
     min (length (tables .demand)) (min (length (tables .capacity)) (min (length (tables .setup)) (min (length (tables .unit)) (length (tables .holding)))))
 
+-- a reading: the walk, 1, 6, 3
 abbrev pub badRead : List ℕ → ℕ → Option Refusal
 badRead s cells = first (badFile s (badSlots cells (periodsIn s) ∷ badValue (dayIn s) ∷ []))
 
@@ -90,7 +84,11 @@ Reading s before (Periods n) after = (badRead s (shortest before) ≡ none) × (
 abbrev pub badWrite : Day → ℕ → Option Refusal
 badWrite d room = first (badTables d (badSlots room (length (fileOf d)) ∷ []))
 
--- refused, no byte changes; accepted, the file stands at the slice's front, its length is given, and later bytes stay
+-- the file stands at the slice's front, and later bytes stay
+abbrev pub withFile : Day → List ℕ → List ℕ
+withFile d out = fileOf d ++ drop (length (fileOf d)) out
+
+-- refused, no byte changes; accepted, the file is written and its length given
 abbrev pub Writing : Day → List ℕ → WriteAnswer → List ℕ → Type 0
 Writing d before (Write.Refused r) after = (badWrite d (length before) ≡ some r) × (after ≡ before)
-Writing d before (Write.Bytes n) after = (badWrite d (length before) ≡ none) × (n ≡ length (fileOf d)) × (after ≡ fileOf d ++ drop (length (fileOf d)) before)
+Writing d before (Write.Bytes n) after = (badWrite d (length before) ≡ none) × (n ≡ length (fileOf d)) × (after ≡ withFile d before)

@@ -1,5 +1,8 @@
--- Laws of the layout: what a passed test says of a record, and where the walk over the period records ends.
--- Main statements: `period-at` and `end-found`, of the records that `periodsIn` counts and of the one after them. Assumes nothing.
+-- Laws of the layout.
+--     period-at, end-found            the records that `periodsIn` counts are whole periods, and the one after them is not
+--     walked-none, -more, -end        a walk over the period records, record by record
+--     laid-out; counted, walk-clean   the walk meets no fault exactly if the file is laid out as document 01 says
+-- Assumes nothing.
 use mathlib.Core.Path.{_≡_, refl, _∙_}
 use mathlib.Core.Bool.{Bool, true, false, not, _&&_, _||_, cond}
 use mathlib.Core.List.{List, [], _∷_}
@@ -11,29 +14,12 @@ use mathlib.Core.Logic.{⊎-elim}
 use lib.Arith.{le-zero}
 use lib.Dec.{eqb, leb, ltb}
 use lib.ListN.{length, take, drop, length-take, length-drop}
-use borrow.Author.Tests.{eqb-false, eqb-true, leb-true, leb-false, ltb-false, lt-ltb, le-ltb, le-leb, eq-eqb, not-true, not-false}
-use Rattle.day.specs.Day.{Day, maxPeriods}
+use borrow.Author.Tests.{eqb-true, leb-true, leb-false, ltb-false, lt-ltb, le-ltb, le-leb, eq-eqb, not-true, not-false}
 use Rattle.day.specs.Sums.{at}
 use Rattle.day.specs.Find.{find, find-none, find-here, none-found, some-found}
-use Rattle.day.specs.declared.Refusal.{Refusal}
-use Rattle.day.specs.declared.Refusal.the-variants.{PeriodCount, FewSlots, NoSuchPeriod}
-use Rattle.day.specs.Refusals.{refuse, first, badCount, badSlots, badValue}
-use Rattle.day.specs.File.{periodKind, endKind, isKind, bodyLength, body, number2, next, recordAt, Layout, isPeriod, periodsIn, orZero, unknownKind, truncated, wrongEnd, walk, noSuchPeriod, dayIn}
-use Rattle.dayfile.specs.Answers.{badFile, badLookup, badRead, shortest}
-use Rattle.dayfile.specs.Tables.{Cells}
-
--- of tests that all passed: the first and the rest; the condition of one; both parts of an `||`
-first-none : (o : Option Refusal) (os : List (Option Refusal)) → first (o ∷ os) ≡ none → (o ≡ none) × (first os ≡ none)
-first-none none os e = (refl, e)
-first-none (some r) os e = let z : _≡_ {A = ℕ} 0 1 = cc in absurd (omega arith)
-
-refuse-none : (b : Bool) (r : Refusal) → refuse b r ≡ none → b ≡ false
-refuse-none false r e = refl
-refuse-none true r e = let z : _≡_ {A = ℕ} 0 1 = cc in absurd (omega arith)
-
-or-false : (a b : Bool) → (a || b) ≡ false → (a ≡ false) × (b ≡ false)
-or-false false b e = (refl, e)
-or-false true b e = let z : _≡_ {A = ℕ} 0 1 = cc in absurd (omega arith)
+use Rattle.day.specs.Refusals.{first}
+use Rattle.day.specs.File.{periodKind, endKind, isKind, bodyLength, body, number2, next, recordAt, Layout, isPeriod, periodsIn, orZero, unknownKind, truncated, wrongEnd, walk}
+use Rattle.dayfile.specs.Passed.{first-none, refuse-none, or-false}
 
 -- a body of a known kind has 2 bytes at least
 pub kind-length : (kind : ℕ) → isKind kind ≡ true → 2 ≤ bodyLength kind
@@ -173,30 +159,3 @@ walk-clean s n w =
     let size : length s ≡ next s p = w .size in
     rw (counted s n w, le-ltb (length s) (next s p) (omega arith), eq-eqb (length s) (next s p) size, eq-eqb (number2 (body s p) 0) n (w .count), lt-ltb p (length s) (omega arith), w .ends)
     refl
-
--- a file whose tests passed has at most 96 periods
-pub file-passed : (s : List ℕ) (rest : List (Option Refusal)) → first (badFile s rest) ≡ none → periodsIn s ≤ maxPeriods
-file-passed s rest e =
-    let n = periodsIn s in
-    let count = first-none (badCount n) rest (first-none (walk s) (badCount n ∷ rest) e .1) .0 in
-    ltb-false maxPeriods n (or-false (eqb n 0) (ltb maxPeriods n) (refuse-none _ PeriodCount count) .1)
-
--- a lookup that is not refused asks for one of the file's periods
-pub lookup-passed : (s : List ℕ) (i : ℕ) → badLookup s i ≡ none → (1 ≤ i) × (i ≤ periodsIn s)
-lookup-passed s i e =
-    let n = periodsIn s in
-    let count = first-none (walk s) (badCount n ∷ noSuchPeriod n i ∷ []) e .1 in
-    let named = first-none (badCount n) (noSuchPeriod n i ∷ []) count .1 in
-    let t = or-false (eqb i 0) (ltb n i) (refuse-none _ NoSuchPeriod (first-none (noSuchPeriod n i) [] named .0)) in
-    let nonzero = eqb-false i 0 (t .0) in
-    (omega arith, ltb-false n i (t .1))
-
--- a reading that is not refused has tables with a cell for each period
-pub read-passed : (s : List ℕ) (tables : Day) → badRead s (shortest tables) ≡ none → Cells (periodsIn s) tables
-read-passed s tables e =
-    let n = periodsIn s in
-    let rest = badSlots (shortest tables) n ∷ badValue (dayIn s) ∷ [] in
-    let count = first-none (walk s) (badCount n ∷ rest) e .1 in
-    let room = first-none (badCount n) rest count .1 in
-    let l = ltb-false (shortest tables) n (refuse-none _ FewSlots (first-none (badSlots (shortest tables) n) (badValue (dayIn s) ∷ []) room .0)) in
-    record { demand = omega arith; capacity = omega arith; setup = omega arith; unit = omega arith; holding = omega arith }

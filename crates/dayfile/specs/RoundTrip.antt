@@ -1,20 +1,20 @@
--- The layout both ways: the file of a day is laid out as document 01 says and holds that day (`laid-out`, `reads-back`),
+-- The layout both ways: the file of a day is laid out as document 01 says and holds that day (`file-layout`, `reads-back`),
 -- and a file of bytes that is laid out so is the file of the day that it holds (`only-file`). Assumes nothing.
-use mathlib.Core.Path.{_≡_, refl, sym, ap, ap₂, _∙_}
-use mathlib.Core.List.{List, [], _∷_, _++_, append-assoc, append-nil}
-use Prim.Native.Nat.{ℕ, zero, suc, _+_, _*_, _/_, _%_, _≤_, _<_, suc-le-suc}
+use mathlib.Core.Path.{_≡_, refl, _∙_}
+use mathlib.Core.List.{List, [], _∷_, _++_, append-assoc}
+use Prim.Native.Nat.{ℕ, zero, suc, _+_, _*_, _/_, _%_, _≤_, _<_}
 use native.Mathlib.Nat.{div-add-mod', eq-or-lt-of-le, le-of-suc-le-suc}
 use native.Mathlib.Numerals.{add-one}
 use native.Mathlib.Omega.{arith}
 use mathlib.Core.Logic.{⊎-elim}
 use lib.ListN.{length, take, drop, length-append, length-take, length-drop}
-use lib.Seq.{take-add, take-all, take-at, drop-cons, drop-drop, drop-append-add, getD-append-seam, getD-take, getD-drop}
+use lib.Seq.{take-add, take-all, drop-cons, drop-append-add, getD-append-seam, getD-take, getD-drop}
 use Rattle.day.specs.Sums.{at, listOf, at-listOf}
 use Rattle.day.specs.Day.{Day, periods}
 use Rattle.checks.specs.Passed.{SameLengths}
 use Rattle.dayfile.specs.Tables.{length-listOf, listOf-at}
 use Rattle.dayfile.specs.Layout.{WholePeriod, period-at, body-length, period-body, counted}
-use Rattle.day.specs.File.{periodKind, endKind, bodyLength, body, next, recordAt, number2, number4, Layout, field, dayIn, bytes2, bytes4, recordOf, recordsOf, fileOf, periodsIn}
+use Rattle.day.specs.File.{periodKind, endKind, bodyLength, body, next, recordAt, number2, number4, Layout, field, dayIn, bytes2, bytes4, fieldsOf, recordOf, recordsOf, fileOf, periodsIn}
 
 -- every entry is a byte
 abbrev pub Bytes : List ℕ → Type 0
@@ -52,10 +52,10 @@ upto4 b h p l =
 
 -- a whole period record is made of the numbers that its body holds
 record-bytes : (s : List ℕ) → Bytes s → (p : ℕ) → WholePeriod s p
-    → at s p ∷ body s p ≡ recordOf (number2 (body s p) 0) (number2 (body s p) 2) (number4 (body s p) 4) (number4 (body s p) 8) (number4 (body s p) 12)
+    → at s p ∷ body s p ≡ periodKind ∷ fieldsOf (number2 (body s p) 0) (number2 (body s p) 2) (number4 (body s p) 4) (number4 (body s p) 8) (number4 (body s p) 12)
 record-bytes s h p w = go (body s p) (bytes-body s h p) (period-body s p w)
   where
-    go : (b : List ℕ) → Bytes b → length b ≡ 16 → at s p ∷ b ≡ recordOf (number2 b 0) (number2 b 2) (number4 b 4) (number4 b 8) (number4 b 12)
+    go : (b : List ℕ) → Bytes b → length b ≡ 16 → at s p ∷ b ≡ periodKind ∷ fieldsOf (number2 b 0) (number2 b 2) (number4 b 4) (number4 b 8) (number4 b 12)
     go b h e =
         cc
         (w .kind, take-all 16 b (omega arith), upto4 b h 12 (omega arith), upto4 b h 8 (omega arith), upto4 b h 4 (omega arith), upto2 b h 2 (omega arith), upto2 b h 0 (omega arith))
@@ -89,34 +89,34 @@ module _ (a : List ℕ) (x : ℕ) (b : List ℕ) where
   body-here : body (a ++ x ∷ b) (length a) ≡ take (bodyLength x) b
   body-here = rw (kind-here, drop-append-add) refl
 
-abbrev fieldsOf : Day → ℕ → List ℕ
-fieldsOf d k = bytes2 (at (d .demand) k) ++ bytes2 (at (d .capacity) k) ++ bytes4 (at (d .setup) k) ++ bytes4 (at (d .unit) k) ++ bytes4 (at (d .holding) k)
-
-records-rest : (d : Day) (n k : ℕ) → k < n → (rest : List ℕ) × (recordsOf d n ≡ recordsOf d k ++ (periodKind ∷ fieldsOf d k ++ rest))
+records-rest : (d : Day) (n k : ℕ) → k < n → (rest : List ℕ) × (recordsOf d n ≡ recordsOf d k ++ (recordOf d k ++ rest))
 records-rest d zero k l = absurd (omega arith)
 records-rest d (suc n) k l =
     ⊎-elim
     (λ (e : k ≡ n). ([], rw e refl))
-    (λ lt. let w = records-rest d n k lt in (w .0 ++ (periodKind ∷ fieldsOf d n), rw (w .1) (simp append-assoc)))
+    (λ lt. let w = records-rest d n k lt in (w .0 ++ recordOf d n, rw (w .1) (simp append-assoc)))
     (eq-or-lt-of-le (le-of-suc-le-suc l))
 
-records-length : (d : Day) (k : ℕ) → length (recordsOf d k) ≡ 17 * k
+pub records-length : (d : Day) (k : ℕ) → length (recordsOf d k) ≡ 17 * k
 records-length d zero = refl
 records-length d (suc k) = rw length-append (omega (arith, records-length d k))
 
 -- record k of the file of a day
+abbrev periodBody : Day → ℕ → List ℕ
+periodBody d k = fieldsOf (at (d .demand) k) (at (d .capacity) k) (at (d .setup) k) (at (d .unit) k) (at (d .holding) k)
+
 record Placed (d : Day) (k p : ℕ) : Type 0 where
   kind : at (fileOf d) p ≡ periodKind
-  fields : body (fileOf d) p ≡ fieldsOf d k
+  fields : body (fileOf d) p ≡ periodBody d k
 
 placed : (d : Day) (k : ℕ) → k < periods d → Placed d k (length (recordsOf d k))
 placed d k l =
     let w = records-rest d (periods d) k l in
     let rest = w .0 ++ (endKind ∷ bytes2 (periods d)) in
-    let e : fileOf d ≡ recordsOf d k ++ (periodKind ∷ fieldsOf d k ++ rest) = rw (w .1) (simp append-assoc) in
+    let e : fileOf d ≡ recordsOf d k ++ (recordOf d k ++ rest) = rw (w .1) (simp append-assoc) in
     record {
-      kind = rw e (kind-here (recordsOf d k) periodKind (fieldsOf d k ++ rest));
-      fields = rw e (body-here (recordsOf d k) periodKind (fieldsOf d k ++ rest));
+      kind = rw e (kind-here (recordsOf d k) periodKind (periodBody d k ++ rest));
+      fields = rw e (body-here (recordsOf d k) periodKind (periodBody d k ++ rest));
     }
 
 record-place : (d : Day) (k : ℕ) → k ≤ periods d → recordAt (fileOf d) k ≡ length (recordsOf d k)
@@ -124,7 +124,7 @@ record-place d zero l = refl
 record-place d (suc k) l =
     rw (record-place d k (omega arith), placed d k l .kind, length-append) (omega arith)
 
-file-length : (d : Day) → length (fileOf d) ≡ 17 * periods d + 3
+pub file-length : (d : Day) → length (fileOf d) ≡ 17 * periods d + 3
 file-length d = rw (length-append, records-length) refl
 
 -- the file of a day is laid out as document 01 says
@@ -154,7 +154,7 @@ reads-back d w =
     s : List ℕ
     s = fileOf d
 
-    table : (number : List ℕ → ℕ → ℕ) (offset : ℕ) (l : List ℕ) → length l ≡ periods d → ((k : ℕ) → number (fieldsOf d k) offset ≡ at l k) → listOf (field number offset s) (periodsIn s) ≡ l
+    table : (number : List ℕ → ℕ → ℕ) (offset : ℕ) (l : List ℕ) → length l ≡ periods d → ((k : ℕ) → number (periodBody d k) offset ≡ at l k) → listOf (field number offset s) (periodsIn s) ≡ l
     table number offset l e h =
         rw (counted s (periods d) (file-layout d))
         (listOf-at (periods d) l (field number offset s) e

@@ -1,6 +1,6 @@
 //! The day file (document 01, "Day file"): its reader, the lookup of one record's body, its writer.
 //! What they do is said by `Reading`, `Lookup` and `Writing` in specs/; the layout itself is in the crate day's `File`.
-pub mod layout;
+mod layout;
 pub mod lookup;
 pub mod reader;
 pub mod writer;

@@ -5,17 +5,17 @@ ghost use Prim.Native.Nat.{_+_, _*_, _≤_, _<_};
 ghost use lib.ListN.{length};
 ghost use lib.Seq.{sets};
 ghost use Rattle.day.specs.Day.{dayOf, maxPeriods};
-ghost use Rattle.day.specs.File.{endKind, bytes2, bytes4, recordOf, recordsOf};
+ghost use Rattle.day.specs.File.{periodKind, endKind, bytes2, fieldsOf, recordOf, recordsOf};
 ghost use Rattle.checks.specs.Passed.{SameLengths};
-ghost use Rattle.dayfile.specs.Answers.{Writing};
-use crate::Period;
+ghost use Rattle.dayfile.specs.Tables.{Cells};
+ghost use Rattle.dayfile.specs.Answers.{withFile, Writing};
 use crate::WriteAnswer;
 use day::Check;
 use day::Refusal;
 
 // A period's record. Numbers stand most significant byte first.
 fn period_record(demand: u16, capacity: u16, setup: u32, unit: u32, holding: u32) -> [u8; 17]
-    ensures { λ r. ⌜ r ≡ recordOf demand capacity setup unit holding ⌝ }
+    ensures { λ r. ⌜ r ≡ periodKind ∷ fieldsOf demand capacity setup unit holding ⌝ }
 {
     [
         1,
@@ -38,6 +38,20 @@ fn period_record(demand: u16, capacity: u16, setup: u32, unit: u32, holding: u32
     ]
 }
 
+fn record_of(
+    k: usize,
+    demand: &[u16],
+    capacity: &[u16],
+    setup: &[u32],
+    unit: &[u32],
+    holding: &[u32],
+) -> [u8; 17]
+    requires { ⌜ Cells (k + 1) (dayOf (now demand) (now capacity) (now setup) (now unit) (now holding)) ⌝ }
+    ensures { λ r. ⌜ r ≡ recordOf (dayOf (now (demand .entry)) (now (capacity .entry)) (now (setup .entry)) (now (unit .entry)) (now (holding .entry))) k ⌝ }
+{
+    period_record(demand[k], capacity[k], setup[k], unit[k], holding[k])
+}
+
 // The end record.
 fn end_record(n: u16) -> [u8; 3]
     ensures { λ r. ⌜ r ≡ endKind ∷ bytes2 n ⌝ }
@@ -55,4 +69,72 @@ fn copy(bytes: &[u8], out: &mut [u8], at: usize)
         out[at + k] = bytes[k];
         k += 1;
     }
+}
+
+// The records of all periods, from the slice's front on.
+fn put_periods(
+    demand: &[u16],
+    capacity: &[u16],
+    setup: &[u32],
+    unit: &[u32],
+    holding: &[u32],
+    out: &mut [u8],
+)
+    requires { ⌜ SameLengths (dayOf (now demand) (now capacity) (now setup) (now unit) (now holding)) ⌝ }
+    requires { ⌜ 17 * length (now demand) ≤ length (now out) ⌝ }
+    ensures { λ _. ⌜ now (out .exit)
+        ≡ sets (now (out .entry)) 0 (recordsOf (dayOf (now (demand .entry)) (now (capacity .entry)) (now (setup .entry)) (now (unit .entry)) (now (holding .entry))) (length (now (demand .entry)))) ⌝ }
+{
+    let mut at = 0;
+    let mut k = 0;
+    while k < demand.len() {
+        let record = record_of(k, demand, capacity, setup, unit, holding);
+        copy(&record, out, at);
+        at += 17;
+        k += 1;
+    }
+}
+
+// The file, at the slice's front.
+fn put_file(
+    demand: &[u16],
+    capacity: &[u16],
+    setup: &[u32],
+    unit: &[u32],
+    holding: &[u32],
+    out: &mut [u8],
+)
+    requires { ⌜ SameLengths (dayOf (now demand) (now capacity) (now setup) (now unit) (now holding)) ⌝ }
+    requires { ⌜ length (now demand) ≤ maxPeriods ⌝ }
+    requires { ⌜ 17 * length (now demand) + 3 ≤ length (now out) ⌝ }
+    ensures { λ _. ⌜ now (out .exit)
+        ≡ withFile (dayOf (now (demand .entry)) (now (capacity .entry)) (now (setup .entry)) (now (unit .entry)) (now (holding .entry))) (now (out .entry)) ⌝ }
+{
+    put_periods(demand, capacity, setup, unit, holding, out);
+    let n = demand.len();
+    let record = end_record(n as u16);
+    copy(&record, out, 17 * n);
+}
+
+// Writes the file of a day: 1, 2, 3, then 6. Accepted, the file stands at the slice's front, and its length is given.
+pub fn write(
+    demand: &[u16],
+    capacity: &[u16],
+    setup: &[u32],
+    unit: &[u32],
+    holding: &[u32],
+    out: &mut [u8],
+) -> WriteAnswer
+    ensures { λ r. ⌜ Writing (dayOf (now (demand .entry)) (now (capacity .entry)) (now (setup .entry)) (now (unit .entry)) (now (holding .entry)))
+        (now (out .entry)) r (now (out .exit)) ⌝ }
+{
+    if let Check::Refused(r) = checks::tables(demand, capacity, setup, unit, holding) {
+        return WriteAnswer::Refused(r);
+    }
+    let size = 17 * demand.len() + 3;
+    if out.len() < size {
+        return WriteAnswer::Refused(Refusal::FewSlots);
+    }
+    put_file(demand, capacity, setup, unit, holding, out);
+    WriteAnswer::Bytes(size)
 }

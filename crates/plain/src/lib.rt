@@ -2,8 +2,12 @@
 //! a path's answer with the search's. A tiny day has one to four periods and a demand of at most 8 in all.
 ghost use mathlib.Core.Path.{_≡_};
 ghost use Prim.Native.Nat.{_+_, _*_, _/_, _%_, _^_};
+ghost use lib.ListN.{length};
+ghost use Rattle.day.specs.Day.{dayOf};
 ghost use Rattle.plain.specs.Sizes.{Sized};
+ghost use Rattle.plain.specs.Search.{planOf, plansOf, foundAs, betterOf, Chosen};
 use day::Answer;
+use day::Totals;
 use weigher::Verdict;
 use weigher::Weighed;
 
@@ -116,7 +120,9 @@ pub struct Best {
 
 // Plan number m: its amounts are the digits of m to base 9, the last period's the highest. So of two plans the one with the
 // smaller amount in the last period where they differ has the smaller number.
-fn plan_of(m: u32) -> [u16; 4] {
+fn plan_of(m: u32) -> [u16; 4]
+    ensures { λ r. ⌜ r ≡ planOf m ⌝ }
+{
     [
         (m % 9) as u16,
         (m / 9 % 9) as u16,
@@ -126,27 +132,27 @@ fn plan_of(m: u32) -> [u16; 4] {
 }
 
 // How many plans of n periods there are.
-fn plans(n: usize) -> u32 {
-    match n {
-        1 => 9,
-        2 => 81,
-        3 => 729,
-        4 => 6561,
-        _ => 0,
+fn plans(n: usize) -> u32
+    ensures { λ r. ⌜ r ≡ plansOf n ⌝ }
+{
+    if n == 1 {
+        return 9;
     }
+    if n == 2 {
+        return 81;
+    }
+    if n == 3 {
+        return 729;
+    }
+    if n == 4 {
+        return 6561;
+    }
+    0
 }
 
-// The better of the best so far and a plan that has been weighed; of equally cheap ones the one found first.
-fn better(best: Best, plan: [u16; 4], w: Weighed) -> Best {
-    let Weighed::Judged(v) = w else {
-        return best;
-    };
-    let Verdict::Holds(t) = v else {
-        return best;
-    };
-    if best.found && best.cost <= t.cost {
-        return best;
-    }
+fn found_as(t: Totals, plan: [u16; 4]) -> Best
+    ensures { λ r. ⌜ r ≡ foundAs t plan ⌝ }
+{
     Best {
         found: true,
         cost: t.cost,
@@ -155,14 +161,35 @@ fn better(best: Best, plan: [u16; 4], w: Weighed) -> Best {
     }
 }
 
-// The plan of a tiny day: every plan with amounts up to 8 is weighed.
+// The better of the best so far and a plan that has been weighed; of equally cheap ones the best so far.
+fn better(best: Best, plan: [u16; 4], w: Weighed) -> Best
+    ensures { λ r. ⌜ r ≡ betterOf best plan w ⌝ }
+{
+    let Weighed::Judged(v) = w else {
+        return best;
+    };
+    let Verdict::Holds(t) = v else {
+        return best;
+    };
+    if !best.found {
+        return found_as(t, plan);
+    }
+    if t.cost < best.cost {
+        return found_as(t, plan);
+    }
+    best
+}
+
+// The plan of a tiny day: every plan with amounts up to 8 is weighed, in the order of their numbers.
 pub fn search(
     demand: &[u16],
     capacity: &[u16],
     setup: &[u32],
     unit: &[u32],
     holding: &[u32],
-) -> Best {
+) -> Best
+    ensures { λ r. ⌜ Chosen (dayOf (now (demand .entry)) (now (capacity .entry)) (now (setup .entry)) (now (unit .entry)) (now (holding .entry))) (plansOf (length (now (demand .entry)))) r ⌝ }
+{
     let mut best = Best {
         found: false,
         cost: 0,

@@ -49,15 +49,21 @@ fn plan(words: &[u8], demand: &[u16], capacity: &[u16], b: u32, p: u32, h: u32) 
     }
 }
 
-fn marked() {
+fn marked_1_to_4() {
     plan(b"M1", &[0], &[0], 5, 1, 1);
     plan(b"M2", &[1], &[1], 5, 2, 9);
     plan(b"M3", &[2], &[1], 5, 2, 9);
     plan(b"M4", &[2, 3], &[5, 5], 10, 1, 1);
+}
+
+fn marked_5_to_8() {
     plan(b"M5", &[2, 3], &[5, 5], 10, 1, 4);
     plan(b"M6", &[2, 2], &[4, 4], 10, 1, 5);
     plan(b"M7", &[0, 4], &[3, 3], 10, 1, 1);
     plan(b"M8", &[1, 5], &[2, 3], 0, 1, 1);
+}
+
+fn marked_9_to_12() {
     plan(b"M9", &[1, 4], &[2, 3], 0, 1, 1);
     plan(b"M10", &[3, 0], &[2, 9], 0, 1, 1);
     plan(b"M11", &[2, 2, 3], &[4, 4, 4], 6, 1, 1);
@@ -142,7 +148,7 @@ fn days(kind: Kind) -> Tally {
         planned: 0,
         check: 0,
     };
-    let mut i = 0;
+    let mut i: usize = 0;
     while i < 200 {
         t = day(kind, t);
         i += 1;
@@ -159,7 +165,9 @@ fn made_up(words: &[u8], kind: Kind) {
 }
 
 fn main() {
-    marked();
+    marked_1_to_4();
+    marked_5_to_8();
+    marked_9_to_12();
     ties();
     made_up(b"any capacities", Kind::Any);
     made_up(b"one capacity", Kind::Equal);

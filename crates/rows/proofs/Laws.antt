@@ -9,12 +9,12 @@ use native.Mathlib.Omega.{arith}
 use lib.ListN.{length, set, length-set}
 use lib.Seq.{getD-set-same, getD-set-other}
 use Rattle.day.specs.Sums.{at, below}
-use Rattle.day.specs.Day.{maxSetup, maxTotal}
+use Rattle.day.specs.Day.{maxSetup}
 use Rattle.day.specs.Plan.{making}
 use Rattle.theory.specs.Basics.{pick, pick-yes, pick-no}
 use Rattle.theory.specs.Cheapest.{cheapest}
 use Rattle.theory.specs.Full.{lowest, highest, rowPrice, rowAmount, rowCost}
-use Rattle.rows.specs.Row.{Worth, maxProduct, maxMaking, maxCost, stageIn, rowAt, choiceOf, bestOf, cellOf, Open, After, Ready, Stepped}
+use Rattle.rows.specs.Row.{Worth, maxProduct, maxMaking, maxCost, stageIn, rowAt, choiceOf, bestOf, cellOf, Small, Open, After, Ready, Stepped}
 use Rattle.rows.specs.Laws.{Reached, Limited, amount-between, amount-ext, cost-ext, price-small}
 use Rattle.rows.specs.declared.Stage.{Stage}
 use Rattle.rows.specs.declared.Choice.{Choice}
@@ -63,10 +63,9 @@ module _ {s : Stage} {row : ℕ → ℕ} {X lo : ℕ} where
       let q : j ≡ highest (stageIn s) X - lowest (stageIn s) X = omega (arith, c .inside) in
       rw (q, e) at (c .is)
 
--- a choice is small enough to go on with
-pub record Small (b : Choice) : Type 0 where
-  pub price : b .price ≤ maxCost + maxMaking
-  pub amount : b .amount ≤ maxTotal
+pub cell-is : (s : Stage) (b : Choice) (X : ℕ) {r : ℕ} → Worth (s .holding * (X - s .floor)) maxProduct r
+    → _≡_ {A = Cell} (record { cost = b .price + r; amount = b .amount }) (cellOf s b X)
+cell-is s b X w = let f = w .is in rw f refl
 
 module _ {s : Stage} {costs : List ℕ} {from X : ℕ} (o : Open s costs from) (a : After s X) where
   reached : Reached (stageIn s) X
@@ -79,17 +78,16 @@ module _ {s : Stage} {costs : List ℕ} {from X : ℕ} (o : Open s costs from) (
       let b = o .bounded in
       record { setup = b .setup; unit = b .unit; holding = b .holding; total = omega (arith, b .total, a .1) }
 
-  pub best-small : {b : Choice} → b ≡ bestOf s (rowAt costs from) X → Small b
+  pub best-small : {b : Choice} → b ≡ bestOf s (rowAt costs from) X → Small s b X
   best-small e =
       rw e
       (record {
         price = price-small (stageIn s) X reached (rowAt costs from) maxCost (λ Y h. o .cheap Y (h .0) (h .1)) limited;
         amount = omega (arith, amount-between (stageIn s) X reached (rowAt costs from) .1, limited .total);
+        holding = limited .holding;
+        begun = a .0;
+        total = limited .total;
       })
-
-  pub cell-is : {b : Choice} {most r : ℕ} → b ≡ bestOf s (rowAt costs from) X → Worth (s .holding * (X - s .floor)) most r
-      → _≡_ {A = Cell} (record { cost = b .price + r; amount = b .amount }) (cellOf s (rowAt costs from) X)
-  cell-is e w = let f = w .is in rw (e, f) refl
 
 -- the row step before it comes to the total X
 pub record Stepping (s : Stage) (costs : List ℕ) (from to : ℕ) (costs′ choices : List ℕ) (base : ℕ) (choices′ : List ℕ) (X : ℕ) : Type 0 where
@@ -101,8 +99,9 @@ pub record Stepping (s : Stage) (costs : List ℕ) (from to : ℕ) (costs′ cho
   pub amount : (Y : ℕ) → Y < X → After s Y → at choices′ (base + Y) ≡ rowAmount (stageIn s) (rowAt costs from) Y
   pub kept : (k : ℕ) → k < base → at choices′ k ≡ at choices k
 
-pub stepping-none : (s : Stage) (costs : List ℕ) (from to : ℕ) (choices : List ℕ) (base : ℕ) → Stepping s costs from to costs choices base choices (s .floor)
-stepping-none s costs from to choices base =
+pub stepping-none : {s : Stage} {costs : List ℕ} {from to : ℕ} {choices : List ℕ} {base X : ℕ} → X ≡ s .floor
+    → Stepping s costs from to costs choices base choices X
+stepping-none e =
     record {
       begun = omega arith;
       costCells = refl;
@@ -123,8 +122,22 @@ module _ {s : Stage} {costs : List ℕ} {from to : ℕ} {choices : List ℕ} {ba
         cheap = λ Y l h. omega (arith, o .cheap Y l h, c .row Y h);
       }
 
+  -- cells past the row of choices are free
+  pub stepping-free : {costs′ choices′ choices″ : List ℕ} {X : ℕ} → Stepping s costs from to costs′ choices base choices′ X
+      → length choices″ ≡ length choices′ → ((k : ℕ) → k ≤ base + s .top → at choices″ k ≡ at choices′ k) → Stepping s costs from to costs′ choices base choices″ X
+  stepping-free c e f =
+      record {
+        begun = c .begun;
+        costCells = c .costCells;
+        choiceCells = e ∙ c .choiceCells;
+        row = c .row;
+        cost = c .cost;
+        amount = λ Y l a. f (base + Y) (omega (arith, a .1)) ∙ c .amount Y l a;
+        kept = λ k l. f k (omega arith) ∙ c .kept k l;
+      }
+
   pub stepping-more : {costs′ choices′ : List ℕ} {X : ℕ} {cell : Cell} → Stepping s costs from to costs′ choices base choices′ X → X ≤ s .top
-      → cell ≡ cellOf s (rowAt costs′ from) X
+      → cell ≡ cellOf s (bestOf s (rowAt costs′ from) X) X
       → Stepping s costs from to (set costs′ (to + X) (cell .cost)) choices base (set choices′ (base + X) (cell .amount)) (X + 1)
   stepping-more {costs′} {choices′} {X} {cell} c l e =
       record {

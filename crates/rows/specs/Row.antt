@@ -2,7 +2,7 @@
 -- Main definitions: `Ready`, what the step asks, and `Stepped`, what it leaves. Assumes nothing.
 use mathlib.Core.Path.{_≡_}
 use mathlib.Core.List.{List}
-use Prim.Native.Nat.{ℕ, _+_, _*_, _≤_, _<_}
+use Prim.Native.Nat.{ℕ, _+_, _-_, _*_, _≤_, _<_}
 use lib.ListN.{length}
 use Rattle.day.specs.Sums.{at}
 use Rattle.day.specs.Day.{maxPeriods, maxSetup, maxRate, maxTotal}
@@ -51,9 +51,17 @@ choiceOf s row X v = record { amount = v; price = rowPrice (stageIn s) row X v }
 abbrev pub bestOf : Stage → (ℕ → ℕ) → ℕ → Choice
 bestOf s row X = choiceOf s row X (rowAmount (stageIn s) row X)
 
--- what recursion (5) says of the total X
-abbrev pub cellOf : Stage → (ℕ → ℕ) → ℕ → Cell
-cellOf s row X = record { cost = rowCost (stageIn s) row X; amount = rowAmount (stageIn s) row X }
+-- what is written for the total X where b is its best choice
+abbrev pub cellOf : Stage → Choice → ℕ → Cell
+cellOf s b X = record { cost = b .price + s .holding * (X - s .floor); amount = b .amount }
+
+-- the choice and the total are small enough for that
+pub record Small (s : Stage) (b : Choice) (X : ℕ) : Type 0 where
+  pub price : b .price ≤ maxCost + maxMaking
+  pub amount : b .amount ≤ maxTotal
+  pub holding : s .holding ≤ maxRate
+  pub begun : s .floor ≤ X
+  pub total : X ≤ maxTotal
 
 -- the stage keeps the limits, and each total after it is reached by some amount from one before it
 pub record Bounded (s : Stage) : Type 0 where
@@ -81,11 +89,12 @@ pub record Leads (s : Stage) (X v : ℕ) : Type 0 where
   pub enough : X ≤ v + s .high
   pub under : X ≤ s .top
 
--- the rows before and after lie apart, each in its area
+-- the rows before and after lie apart, each in its area; for more than one total there is a second row of choices to work in
 pub record Ready (s : Stage) (costs : List ℕ) (from to : ℕ) (choices : List ℕ) (base : ℕ) : Type 0 where
   pub opened : Open s costs from
   pub costCells : to + s .top < length costs
   pub choiceCells : base + s .top < length choices
+  pub scratch : s .floor < s .top → base + 2 * (s .top + 1) ≤ length choices
   pub apart : (Y X : ℕ) → Y ≤ s .high → X ≤ s .top → from + Y ≡ to + X → ⊥
 
 -- The row after is what recursion (5) says of the row before; choices of earlier rows are kept, and those of later rows are free.

@@ -2,8 +2,9 @@
 -- Assumes nothing.
 use mathlib.Core.Path.{_≡_, refl, sym, ap, _∙_}
 use mathlib.Core.List.{List}
+use mathlib.Core.Logic.{⊎-elim}
 use Prim.Native.Nat.{ℕ, zero, suc, _+_, _*_, _≤_, _<_}
-use native.Mathlib.Nat.{suc-mul, mul-le-mul-right}
+use native.Mathlib.Nat.{eq-or-lt-of-le, suc-mul, mul-le-mul-right}
 use native.Mathlib.Numerals.{add-one}
 use native.Mathlib.Omega.{arith}
 use lib.ListN.{length, set, length-set}
@@ -97,6 +98,14 @@ module _ {d : Day} {costs choices : List ℕ} {T : ℕ} (f : Fillable d costs ch
             highSmall = omega (arith, small .1, f .small);
           }
 
+      -- while more than one total is to be filled, the choices of another period follow
+      next-row : demandTo d (suc i) < total d → base + 2 * (T + 1) ≤ length choices′
+      next-row h =
+          ⊎-elim
+          (λ (e : suc i ≡ periods d). let q = ap (demandTo d) e in absurd (omega arith))
+          (λ g. omega (arith, c .isBase, suc-mul i (T + 1), suc-mul (suc i) (T + 1), mul-le-mul-right (T + 1) g, c .choiceCells))
+          (eq-or-lt-of-le l)
+
       module _ {s : Stage} (e : s ≡ stageAt d i low most T) where
         stage-is : s ≡ stageAt d i (demandTo d i) (high (modelOf d) i) (total d)
         stage-is = let a = c .isLow in let b = c .isHigh in let t = f .is in e ∙ rw (a, b, t) refl
@@ -125,6 +134,7 @@ module _ {d : Day} {costs choices : List ℕ} {T : ℕ} (f : Fillable d costs ch
               };
               costCells = omega (arith, c .toCells, f .is, c .costCells);
               choiceCells = omega (arith, c .isBase, m, n, f .is, c .choiceCells);
+              scratch = λ h. omega (arith, next-row (omega arith), f .is);
               apart = λ Y X a b. c .apart Y X (omega (arith, small .1, c .isHigh)) (omega (arith, f .is));
             })
 

@@ -1,6 +1,6 @@
--- The equal path: where all capacities are c, a run of the plan wanted is made in full loads and at most one part load,
--- which is what its need leaves over when it is divided by c. Row m is the plan of (m, N m), with its cost.
--- Assumes nothing.
+-- The equal path (report, section 3; Florian and Klein): where all capacities are c, a regeneration interval of the optimal plan is made in full
+-- loads and at most one fractional load, what its demand leaves over when it is divided by c. Row m is the plan of (m, N m), with its cost.
+-- Main definition: `florianKlein`. Main statement: `florianKlein-right`. Assumes nothing.
 use mathlib.Core.Path.{_≡_, refl, sym, ap, _∙_}
 use mathlib.Core.List.{[]}
 use mathlib.Core.Option.{Option, none, some}
@@ -12,15 +12,15 @@ use native.Mathlib.Omega.{arith}
 use lib.Arith.{digits-mod, le-zero}
 use Rattle.day.specs.Sums.{at, sumTo}
 use Rattle.theory.specs.Model.{Model, Rising, Unlimited, costTo, OptimalTo}
-use Rattle.theory.specs.Memo.{memo, memo-zero, memo-next, memo-all}
+use Rattle.theory.specs.Memo.{memo, memo-zero, memo-all}
 use Rattle.theory.specs.Stages.{Solution, Answers}
 use Rattle.theory.specs.Recursion.{both?}
 use Rattle.theory.specs.Reachable.{high, Covered}
 use Rattle.theory.specs.Exchange.{Fractional, Regeneration, interval-one}
-use Rattle.theory.specs.Candidates.{Some, firstOf-ext}
-use Rattle.theory.specs.Regeneration.{Kinds, tail, sum-tail, candidate, row, Right, Fits, cover, row-right}
+use Rattle.theory.specs.Candidates.{Some}
+use Rattle.theory.specs.Regeneration.{Kinds, tail, sum-tail, row, Right, Fits, cover, row-right}
 
--- nothing, a full load, or the part load, which comes on top of full loads
+-- nothing, a full load, or the fractional load, which comes on top of full loads
 abbrev pub Load : ℕ → ℕ → ℕ → ℕ → Type 0
 Load c part X x = (x ≡ 0) ⊎ ((x ≡ c) ⊎ ((x ≡ part) × (X % c ≡ part)))
 
@@ -38,7 +38,7 @@ loads c part = record { Kind = λ k X x. Load c part X x; kind? = λ k X x. load
 abbrev pub Equal : Model → ℕ → ℕ → Type 0
 Equal M c n = (k : ℕ) → k < n → M .capacity k ≡ c
 
--- the runs from l to m
+-- the intervals from l to m
 abbrev pub byLoads : Model → ℕ → ℕ → ℕ → Kinds
 byLoads M c l m = loads c ((M .floor m - M .floor l) % c)
 
@@ -71,7 +71,7 @@ multiple x c a (suc b) l h =
 
 module _ (M : Model) (rising : Rising M) (unlimited : Unlimited M) (c m : ℕ) (caps : Equal M c m)
     (x : ℕ → ℕ) (best : OptimalTo M m (M .floor m) x) (a : ℕ) (run : Regeneration M x a m) where
-  -- idle, full, or in part used
+  -- idle, full, or fractional
   kind : (k : ℕ) → k < m → (x k ≡ 0) ⊎ ((x k ≡ c) ⊎ Fractional M m x k)
   kind k l =
       let e = caps k l in
@@ -136,15 +136,7 @@ module _ (M : Model) (rising : Rising M) (unlimited : Unlimited M) (c : ℕ) whe
   unfolding florianKlein
   florianKlein-zero = memo-zero base (next M c)
 
-  next-ext : (r s : ℕ → Option Solution) (m : ℕ) → ((l : ℕ) → l ≤ m → r l ≡ s l) → next M c r m ≡ next M c s m
-  next-ext r s m e =
-      firstOf-ext (suc m) (candidate M (byLoads M c) r (suc m)) (candidate M (byLoads M c) s (suc m)) (suc m) (λ l h. let q = e l (le-of-suc-le-suc h) in rw q refl)
-
-  pub florianKlein-next : (m : ℕ) → florianKlein M c (suc m) ≡ next M c (florianKlein M c) m
-  unfolding florianKlein
-  florianKlein-next = memo-next base (next M c) next-ext
-
--- With no room, nothing is needed: then each row is the one before it and a 0 (`still-step`).
+-- With no capacity nothing is demanded, and every plan is all zeros.
 pub no-room : (M : Model) (n : ℕ) → Equal M 0 n → Covered M n → (m : ℕ) → m ≤ n → M .floor m ≡ 0
 no-room M n caps enough m h = omega (arith, enough m h, none m h)
   where

@@ -1,5 +1,5 @@
 -- The full path: costs and last amounts for each total that can be reached, and the plan read back from them.
--- Assumes nothing.
+-- Main definitions: `Stage`, `rowAmount`, `rowCost`, `fullPath`. Main statement: `fullPath-right`. Assumes nothing.
 use mathlib.Core.Path.{_≡_, refl, sym, ap, _∙_}
 use mathlib.Core.List.{List, [], _∷_, _++_}
 use Prim.Native.Nat.{ℕ, zero, suc, _+_, _-_, _*_, _≤_, _<_, min}
@@ -76,7 +76,7 @@ pub record Cell (M : Model) (D ch : ℕ → ℕ → ℕ) (k X : ℕ) : Type 0 wh
   pub smallest : (w : ℕ) → Range M k X w → w < ch k X → D k (X - ch k X) + production M k (ch k X) < D k (X - w) + production M k w
   pub tells : D (suc k) X ≡ D k (X - ch k X) + production M k (ch k X) + M .holding k * (X - M .floor (suc k))
 
--- Where all cells are right, the plan read back is the plan wanted.
+-- Where all cells are right, the plan read back is the optimal plan.
 pub full-right : (M : Model) → Rising M → (D ch : ℕ → ℕ → ℕ) → D 0 0 ≡ 0 → (i : ℕ)
     → ((k : ℕ) → k < i → (X : ℕ) → M .floor (suc k) ≤ X → X ≤ high M (suc k) → Cell M D ch k X)
     → (X : ℕ) → M .floor i ≤ X → X ≤ high M i → PlanOf M i X (record { cost = D i X; plan = back ch i X })

@@ -4,10 +4,9 @@ pub mod Model
 pub mod Basics
 pub mod Cheapest
 pub mod Order
--- Recursion (5): over stages of any kind, over totals, as table cells, for a model.
+-- Recursion (5): over stages of any kind, over totals, for a model.
 pub mod Stages
 pub mod Totals
-pub mod Table
 pub mod Recursion
 -- Plans spliced and cut; the totals that can be reached; what the full path computes.
 pub mod Cut

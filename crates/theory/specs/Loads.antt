@@ -1,5 +1,5 @@
--- The runs of the equal path by their loads: a state is how many full loads are made and whether the part load is.
--- Assumes nothing.
+-- The regeneration intervals of the equal path by their loads: a state is how many full loads are made and whether the fractional one is.
+-- Main statements: `loadsTo-right`, `loads-back`, `byLoad-answers`. Assumes nothing.
 use mathlib.Core.Path.{_≡_, refl, sym, ap, ap₂, _∙_, subst}
 use mathlib.Core.List.{[], _∷_, _++_}
 use mathlib.Core.Option.{Option, none, some}
@@ -11,14 +11,12 @@ use native.Mathlib.Omega.{arith}
 use lib.Arith.{digits-mod}
 use Rattle.theory.specs.Model.{Model, Rising, Unlimited, production, costTo}
 use Rattle.theory.specs.Recursion.{both?}
-use Rattle.theory.specs.Stages.{Solution, Answers, better, least, begin, extend, bestTo}
+use Rattle.theory.specs.Stages.{Solution, Answers, better, least, begin, extend, bestTo, better-one, extend-one}
 use Rattle.theory.specs.Totals.{stages}
-use Rattle.theory.specs.Table.{better-one, extend-one}
-use Rattle.theory.specs.Candidates.{firstOf, firstOf-ext}
 use Rattle.theory.specs.Regeneration.{runs, glue, candidate, candidate-answers, Right, Fits}
-use Rattle.theory.specs.FlorianKlein.{Load, load?, loads, Equal, byLoads, next-right}
+use Rattle.theory.specs.FlorianKlein.{Load, load?, loads, Equal, byLoads}
 
--- what j full loads and d part loads make
+-- what j full loads and d fractional loads make
 abbrev pub made : ℕ → ℕ → ℕ → ℕ → ℕ
 made c part j d = j * c + d * part
 
@@ -34,7 +32,7 @@ module _ (M : Model) (l c part : ℕ) where
       extend (decLe (M .floor (suc (l + k))) (M .floor l + made c part j d)) x
       (production M (l + k) x + M .holding (l + k) * (M .floor l + made c part j d - M .floor (suc (l + k)))) o
 
-  -- the first of the runs of k periods that make j full loads and d part loads: at the end of each it makes nothing, the part load, or a full one
+  -- the first of the intervals of k periods that make j full loads and d fractional ones: in each period nothing, the fractional load, or a full one
   unfoldable pub loadsTo : ℕ → ℕ → ℕ → Option Solution
   loadsTo zero j d = begin (both? (ℕ-discrete j 0) (ℕ-discrete d 0))
   loadsTo (suc k) j d =
@@ -184,7 +182,7 @@ module _ (M : Model) (l c part : ℕ) (less : part < c) where
       nothing (suc j) d h e = absurd (omega arith)
   loadsTo-right (suc k) caps j d h = step k (caps k (omega arith)) j d h (loadsTo-right k (λ i g. caps i (omega arith)))
 
--- period k of a run made x, and came from j′ and d′ to j and d
+-- period k of an interval made x, and came from j′ and d′ to j and d
 pub data Step (c part j d : ℕ) : ℕ → ℕ → ℕ → Type 0 where
   stay : Step c part j d 0 j d
   one-part : 0 < d → Step c part j d part j (d - 1)
@@ -199,7 +197,7 @@ pub record Back (M : Model) (l c part k j d : ℕ) (f : Solution) : Type 0 where
   pub was : loadsTo M l c part k j′ d′ ≡ some before
   pub plan : f .plan ≡ before .plan ++ (x ∷ [])
 
--- The run is read back from its end.
+-- The interval is read back from its end.
 pub loads-back : (M : Model) (l c part k j d : ℕ) (f : Solution) → loadsTo M l c part (suc k) j d ≡ some f → Back M l c part k j d f
 loads-back M l c part k j d f e =
     ⊎-elim
@@ -224,7 +222,7 @@ loads-back M l c part k j d f e =
         let w = extend-one (decLe (M .floor (suc (l + k))) (M .floor l + made c part j d)) c _ (loadsTo M l c part k (j - 1) d) f p in
         record { x = c; j′ = j - 1; d′ = d; before = w .0; step = one-full (omega arith); was = w .1; plan = w .2 }
 
--- a run's need by loads
+-- an interval's demand by loads
 pub whole : (c W : ℕ) → 0 < c → made c (W % c) (W / c) (min 1 (W % c)) ≡ W
 whole c W pos = omega (arith, part (W % c), div-add-mod' W c)
   where
@@ -253,12 +251,3 @@ pub byLoad-answers : (M : Model) → Rising M → Unlimited M → (c : ℕ) → 
 byLoad-answers M rising unlimited c pos rows m l h caps right =
     subst (Answers (Fits M (byLoads M c l m) m l) (λ x. costTo M x m) m) (sym (byLoad-is M c pos rows m l h caps))
     (candidate-answers M rising unlimited (byLoads M c) m rows l h right)
-
--- The step of the equal path: the first of the candidates by loads.
-pub florianKlein-step : (M : Model) → Rising M → Unlimited M → (c m : ℕ) → 0 < c → Equal M c (suc m)
-    → (rows : ℕ → Option Solution) → ((l : ℕ) → l ≤ m → Right M l (rows l))
-    → Right M (suc m) (firstOf (suc m) (byLoad M c rows (suc m)) (suc m))
-florianKlein-step M rising unlimited c m pos caps rows right =
-    subst (Right M (suc m))
-    (sym (firstOf-ext (suc m) (byLoad M c rows (suc m)) (candidate M (byLoads M c) rows (suc m)) (suc m) (λ l h. byLoad-is M c pos rows (suc m) l h caps)))
-    (next-right M rising unlimited c m caps rows right)

@@ -251,3 +251,21 @@ module _ (M : Stages) where
       answers-iff (spent M (suc k) s) (suc k) (bestTo M (suc k) s) (λ y q. q .0) (λ y q. (q, q .0))
       (least-answers (Reaches M (suc k) s) (spent M (suc k) s) k _ (M .most k s)
       (λ x l. extend-answers M k s x (bestTo M k (M .before k s x)) l (M .allowed? k s x) (bestTo-answers k (M .before k s x))))
+
+-- the better of two is one of them
+pub better-one : (a b : Option Solution) (f : Solution) → better a b ≡ some f → (a ≡ some f) ⊎ (b ≡ some f)
+better-one none b f e = inr e
+better-one (some a) none f e = inl e
+better-one (some a) (some b) f e = go (decLt (b .cost) (a .cost)) e
+  where
+    go : {A : Type 0} (d : Dec A) → some (choose d a b) ≡ some f → (some a ≡ some f) ⊎ (some b ≡ some f)
+    go (yes _) q = inr q
+    go (no _) q = inl q
+
+-- what one more stage gives came from a solution before it
+pub extend-one : {A : Type 0} (d : Dec A) (x c : ℕ) (o : Option Solution) (f : Solution)
+    → extend d x c o ≡ some f
+    → (g : Solution) × (o ≡ some g) × (f .plan ≡ g .plan ++ (x ∷ []))
+extend-one (no _) x c o f e = let z : _≡_ {A = ℕ} 0 1 = cc in absurd (omega arith)
+extend-one (yes _) x c none f e = let z : _≡_ {A = ℕ} 0 1 = cc in absurd (omega arith)
+extend-one (yes _) x c (some g) f e = let q : _≡_ {A = Solution} (record { cost = g .cost + c; plan = g .plan ++ (x ∷ []) }) f = cc in (g, refl, sym (ap (λ (h : Solution). h .plan) q))

@@ -1,21 +1,17 @@
--- Where no capacity can bind, a run is made in its first period: the plan of (m, N m) by a search over where the store was last empty.
--- Assumes nothing.
+-- Where no capacity can bind, a regeneration interval is made in its first period: the plan of (m, N m) by a search over where the inventory was last empty.
+-- Main statements: `copy-step`, `run-step`. Assumes nothing.
 use mathlib.Core.Path.{_≡_, refl, sym, ap, _∙_}
-use mathlib.Core.List.{[], _∷_, _++_}
 use mathlib.Core.Logic.{⊎-elim}
 use Prim.Native.Nat.{ℕ, zero, suc, _+_, _-_, _*_, _≤_, _<_}
 use native.Mathlib.Nat.{eq-or-lt-of-le, eq-zero-or-pos, le-of-suc-le-suc}
 use native.Mathlib.Decide.{decLt}
 use native.Mathlib.Omega.{arith}
-use lib.ListN.{length-append, List·getD-append}
-use lib.Seq.{getD-at}
 use Rattle.day.specs.Sums.{at, sumTo, sum-ext, sum-grows}
 use Rattle.day.specs.Plan.{Smaller, Precedes}
 use Rattle.theory.specs.Model.{Model, Rising, Unlimited, production, costAt, costTo, FeasibleTo, OptimalTo}
 use Rattle.theory.specs.Order.{precedes-trans, smaller-before}
 use Rattle.theory.specs.Cut.{cost-ext, cut-empty, floor-below, floor-grows, feasible-less}
-use Rattle.theory.specs.Recursion.{PlanOf, leads-optimal, optimal-exists, optimal-unique}
-use Rattle.theory.specs.Stages.{Solution}
+use Rattle.theory.specs.Recursion.{optimal-exists, optimal-unique}
 use Rattle.theory.specs.Exchange.{Regeneration, exchange, last-run}
 
 abbrev pub Uncapped : Model → ℕ → Type 0
@@ -24,13 +20,13 @@ Uncapped M n = (k : ℕ) → k < n → M .floor n ≤ M .floor k + M .capacity k
 pub uncapped-less : (M : Model) → Rising M → (m n : ℕ) → m ≤ n → Uncapped M n → Uncapped M m
 uncapped-less M rising m n h u k l = omega (arith, u k (omega arith), floor-grows M rising m n h)
 
--- z is y in the first l periods, makes in period l all that is needed by m, and nothing after it
+-- z is y in the first l periods, makes in period l all that is demanded by m, and nothing after it
 pub record Through (M : Model) (l m : ℕ) (y z : ℕ → ℕ) : Type 0 where
   pub low : (k : ℕ) → k < l → z k ≡ y k
   pub here : z l ≡ M .floor m - M .floor l
   pub idle : (k : ℕ) → l < k → k < m → z k ≡ 0
 
--- what it costs in the first i periods to keep what is needed by m
+-- what it costs in the first i periods to hold what is demanded by m
 abbrev pub held : Model → ℕ → ℕ → ℕ
 held M m i = sumTo (λ k. M .holding k * (M .floor m - M .floor (suc k))) i
 
@@ -42,7 +38,7 @@ rest M m l = held M m m - held M m l
 abbrev pub price : Model → (ℕ → ℕ) → ℕ → ℕ → ℕ
 price M costs m l = costs l + production M l (M .floor m - M .floor l) + rest M m l
 
--- where nothing more is needed, the last step is free
+-- where nothing more is demanded, the last step is free
 pub price-still : (M : Model) (costs : ℕ → ℕ) (m : ℕ) → M .floor (suc m) ≡ M .floor m → price M costs (suc m) m ≡ costs m
 price-still M costs m same =
     let e : M .floor (suc m) - M .floor m ≡ 0 = omega arith in
@@ -98,7 +94,7 @@ module _ (M : Model) (rising : Rising M) (unlimited : Unlimited M) (l m : ℕ) (
   through-cost costs e =
       omega (arith, costs-through m lt (omega arith), sum-grows (λ k. M .holding k * (M .floor m - M .floor (suc k))) l m (omega arith))
 
--- Where nothing more is needed, the plan goes on with 0.
+-- Where nothing more is demanded, the plan goes on with 0.
 pub copy-step : (M : Model) → Rising M → Unlimited M → (m : ℕ) → M .floor (suc m) ≡ M .floor m
     → (x z : ℕ → ℕ) → OptimalTo M m (M .floor m) x → Through M m (suc m) x z → OptimalTo M (suc m) (M .floor (suc m)) z
 copy-step M rising unlimited m same x z b t =
@@ -133,38 +129,7 @@ copy-step M rising unlimited m same x z b t =
               (λ k lt alike. omega (arith, t .low k lt, p .small (omega arith) k lt (λ j g h. sym (t .low j h) ∙ alike j g h)));
         }
 
--- the same of a list, whatever the capacities
-pub still-step : (M : Model) → Rising M → Unlimited M → (m : ℕ) → M .floor (suc m) ≡ M .floor m → (f : Solution)
-    → PlanOf M m (M .floor m) f
-    → PlanOf M (suc m) (M .floor (suc m)) (record { cost = f .cost; plan = f .plan ++ (0 ∷ []) })
-still-step M rising unlimited m same f a =
-    record {
-      each = length-append (f .plan) (0 ∷ []) ∙ omega (arith, a .each);
-      fits = best .feasible;
-      tells = a .tells
-          ∙ sym (price-still M (costTo M (at (f .plan))) m same)
-          ∙ sym (through-cost M rising unlimited m (suc m) (omega arith) (at (f .plan)) z (a .fits .total) t (costTo M (at (f .plan))) refl);
-      first = best .first;
-    }
-  where
-    z : ℕ → ℕ
-    z = at (f .plan ++ (0 ∷ []))
-
-    none : M .floor (suc m) - M .floor m ≡ 0
-    none = omega arith
-
-    t : Through M m (suc m) (at (f .plan)) z
-    t =
-        record {
-          low = λ k h. List·getD-append (f .plan) (0 ∷ []) 0 k (omega (arith, a .each));
-          here = getD-at (f .plan) 0 [] 0 m (a .each) ∙ sym none;
-          idle = λ k h g. absurd (omega arith);
-        }
-
-    best : OptimalTo M (suc m) (M .floor (suc m)) z
-    best = copy-step M rising unlimited m same (at (f .plan)) z (leads-optimal M m (M .floor m) f a) t
-
--- A run of the plan wanted is made in its first period.
+-- A regeneration interval of the optimal plan is made in its first period.
 module _ (M : Model) (rising : Rising M) (unlimited : Unlimited M) (m : ℕ) (room : Uncapped M m) (x : ℕ → ℕ) (best : OptimalTo M m (M .floor m) x)
     (a : ℕ) (run : Regeneration M x a m) where
   run-idle : (k : ℕ) → a < k → k < m → x k ≡ 0

@@ -1,26 +1,26 @@
--- The uncapped path: a row for each m, found from the rows before it. Row m is the plan of (m, N m), with its cost.
--- Assumes nothing.
+-- The uncapped path (report, section 3; Wagner and Whitin): a row for each m, found from the rows before it. Row m is the plan of (m, N m), with its cost.
+-- Main definition: `wagnerWhitin`. Main statement: `wagnerWhitin-right`. Assumes nothing.
 use mathlib.Core.Path.{_≡_, refl, sym, ap, _∙_}
 use mathlib.Core.List.{List, [], _∷_, _++_}
-use Prim.Native.Nat.{ℕ, zero, suc, _+_, _-_, _≤_, _<_}
+use Prim.Native.Nat.{ℕ, suc, _+_, _-_, _≤_, _<_}
 use native.Mathlib.Decide.{ℕ-discrete}
 use native.Mathlib.Omega.{arith}
 use lib.ListN.{length, length-append, replicate, length-replicate, getD-replicate, List·getD-append}
 use lib.Seq.{getD-at, getD-append-add}
 use Rattle.day.specs.Sums.{at}
 use Rattle.theory.specs.Model.{Model, Rising, Unlimited, production, OptimalTo}
-use Rattle.theory.specs.Basics.{pick, upTo, upTo-zero}
+use Rattle.theory.specs.Basics.{pick}
 use Rattle.theory.specs.Cheapest.{cheapest, Cheapest, cheapest-right, cheapest-unique, cheapest-ext}
 use Rattle.theory.specs.Memo.{memo, memo-zero, memo-next, memo-all}
 use Rattle.theory.specs.Stages.{Solution}
 use Rattle.theory.specs.Recursion.{PlanOf, leads-optimal}
 use Rattle.theory.specs.Uncapped.{Uncapped, uncapped-less, Through, rest, price, through-cost, copy-step, run-step}
 
--- where the store is last empty before m + 1
+-- where the inventory is last empty before m + 1
 abbrev pub from : Model → (ℕ → ℕ) → ℕ → ℕ
 from M costs m = pick (ℕ-discrete (M .floor (suc m)) (M .floor m)) m (cheapest (price M costs (suc m)) m)
 
--- the amounts of a run from l to m + 1, all made in period l
+-- the lot of a regeneration interval from l to m + 1: all of it made in period l
 abbrev pub lot : Model → ℕ → ℕ → List ℕ
 lot M m l = (M .floor (suc m) - M .floor l) ∷ replicate (m - l) 0
 

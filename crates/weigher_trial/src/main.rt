@@ -113,28 +113,38 @@ fn compare(
     }
 }
 
-// Each row's plan; where refusal 7 leaves a day without one, the plan that makes all it can, which is short in the period named.
-fn marked() {
+// The marked days' plans; where refusal 7 leaves a day without one, the plan that makes all it can, which is short in the period named.
+fn marked_1_to_4() {
     weigh(b"M1", &[0], &[0], 5, 1, 1, &[0]);
     weigh(b"M2", &[1], &[1], 5, 2, 9, &[1]);
     weigh(b"M3", &[2], &[1], 5, 2, 9, &[1]);
     weigh(b"M4", &[2, 3], &[5, 5], 10, 1, 1, &[5, 0]);
+}
+
+fn marked_5_to_8() {
     weigh(b"M5", &[2, 3], &[5, 5], 10, 1, 4, &[2, 3]);
     weigh(b"M6", &[2, 2], &[4, 4], 10, 1, 5, &[4, 0]);
     weigh(b"M6", &[2, 2], &[4, 4], 10, 1, 5, &[2, 2]);
     weigh(b"M7", &[0, 4], &[3, 3], 10, 1, 1, &[1, 3]);
     weigh(b"M8", &[1, 5], &[2, 3], 0, 1, 1, &[2, 3]);
+}
+
+fn marked_9_to_12() {
     weigh(b"M9", &[1, 4], &[2, 3], 0, 1, 1, &[2, 3]);
     weigh(b"M10", &[3, 0], &[2, 9], 0, 1, 1, &[2, 9]);
     weigh(b"M11", &[2, 2, 3], &[4, 4, 4], 6, 1, 1, &[4, 0, 3]);
     weigh(b"M12", &[0, 0], &[0, 0], 5, 1, 1, &[0, 0]);
 }
 
-// Broken plans: each rule alone; each pair of rules in one period ("short" and "over" exclude each other); rules in several periods.
-fn broken() {
+// Each rule broken alone.
+fn each_rule() {
     weigh(b"above", &[1, 2], &[2, 1], 1, 1, 1, &[1, 2]);
     weigh(b"short", &[1, 2], &[2, 2], 1, 1, 1, &[0, 2]);
     weigh(b"over", &[1, 2], &[2, 2], 1, 1, 1, &[2, 2]);
+}
+
+// Two rules broken in one period ("short" and "over" exclude each other); charge left before the last period breaks none.
+fn two_rules() {
     weigh(b"above and short", &[5, 0], &[2, 9], 1, 1, 1, &[3, 2]);
     weigh(b"above and over", &[1, 1], &[1, 2], 1, 1, 1, &[1, 3]);
     weigh(b"above and over, one period", &[1], &[2], 1, 1, 1, &[3]);
@@ -147,9 +157,17 @@ fn broken() {
         1,
         &[2, 0],
     );
+}
+
+// Rules broken in several periods.
+fn several_periods() {
     weigh(b"short, then above", &[2, 2], &[2, 2], 1, 1, 1, &[1, 3]);
     weigh(b"above, then short", &[1, 5], &[1, 1], 1, 1, 1, &[2, 1]);
     weigh(b"short, then over", &[1, 1], &[2, 9], 1, 1, 1, &[0, 9]);
+}
+
+// Rules broken at the end.
+fn at_the_end() {
     weigh(
         b"short in the last period",
         &[1, 1, 1],
@@ -171,8 +189,8 @@ fn broken() {
     );
 }
 
-// The weigher's refusals, each before those after it in its order; cells past the last period are not read.
-fn refused() {
+// The weigher's refusals, each before those after it in its order.
+fn refused_tables() {
     weigh(b"no periods", &[], &[1], 1, 1, 1, &[]);
     weigh(b"lengths differ", &[9999, 1], &[1], 1, 1, 1, &[]);
     weigh(b"need above its limit", &[1, 4097], &[1, 1], 1, 1, 1, &[]);
@@ -185,9 +203,16 @@ fn refused() {
         1,
         &[],
     );
+}
+
+fn refused_values() {
     weigh(b"unit cost above its limit", &[1], &[1], 1, 1000001, 1, &[]);
     weigh(b"upkeep above its limit", &[1], &[1], 1, 1, 1000001, &[]);
     weigh(b"needs above 4096", &[4096, 1], &[1, 1], 1, 1, 1, &[]);
+}
+
+// Plans of other lengths; cells past the last period are not read.
+fn plan_lengths() {
     weigh(b"plan too short", &[1, 1], &[1, 1], 1, 1, 1, &[1]);
     weigh(b"plan too long", &[1, 1], &[1, 1], 1, 1, 1, &[1, 1, 9, 9]);
     weigh(
@@ -233,11 +258,14 @@ fn long() {
     idle(b"96 periods, over", 96, &plan);
 }
 
-// Differences of each sign; broken and refused plans in either place.
-fn compared() {
+// Differences of each sign.
+fn differences() {
     compare(b"cheaper", &[2, 3], &[5, 5], 10, 1, 1, &[5, 0], &[2, 3]);
     compare(b"dearer", &[2, 3], &[5, 5], 10, 1, 1, &[2, 3], &[5, 0]);
     compare(b"equal", &[2, 2], &[4, 4], 10, 1, 5, &[4, 0], &[2, 2]);
+}
+
+fn more_differences() {
     compare(b"the same", &[2, 3], &[5, 5], 10, 1, 1, &[5, 0], &[5, 0]);
     compare(
         b"largest",
@@ -249,6 +277,10 @@ fn compared() {
         &[2048, 2048],
         &[4096, 0],
     );
+}
+
+// Broken plans in either place.
+fn broken_pairs() {
     compare(
         b"first broken",
         &[2, 3],
@@ -270,6 +302,10 @@ fn compared() {
         &[1, 5],
     );
     compare(b"both broken", &[2, 3], &[5, 5], 10, 1, 1, &[5, 1], &[6, 0]);
+}
+
+// Refused plans in either place.
+fn refused_pairs() {
     compare(
         b"first too short",
         &[2, 3],
@@ -294,9 +330,19 @@ fn compared() {
 }
 
 fn main() {
-    marked();
-    broken();
-    refused();
+    marked_1_to_4();
+    marked_5_to_8();
+    marked_9_to_12();
+    each_rule();
+    two_rules();
+    several_periods();
+    at_the_end();
+    refused_tables();
+    refused_values();
+    plan_lengths();
     long();
-    compared();
+    differences();
+    more_differences();
+    broken_pairs();
+    refused_pairs();
 }

@@ -77,7 +77,7 @@ shortage-requires : tie.Need-shortage-requires
 shortage-requires c κs =
     let told = c .before .before .before .before in
     let limits = tables-limits (given (told .before .before)) (lent (told .before .before)) (tables told) in
-    (limits .lengths .capacity, limits .few)
+    (omega (arith, limits .lengths .capacity), limits .few)
 
 returns-3 : tie.Need-returns-3
 returns-3 c =

@@ -1,11 +1,16 @@
 -- `plain::search` is safe and ends. The measure is how many plans are left. Assumes nothing.
-use Prim.Native.Nat.{_-_, _≤_}
+use Rattle.day.specs.Day.{dayOf}
+use Rattle.plain.specs.Search.{Chosen, chosen-more}
+use mathlib.Core.Path.{_≡_}
+use Prim.Native.Nat.{ℕ, _-_, _≤_}
+use native.Mathlib.Numerals.{add-one}
+use native.Mathlib.Omega.{arith}
 use borrow.Author.Needs.{needs}
 use Rattle.plain.proofs.search.Statement.{statement}
 use Rattle.plain.proofs.search.Tie as tie
 
 abbrev Inv-loop : tie.InvT-loop
-Inv-loop demand capacity setup unit holding best₀ count m₀ best m = m ≤ count
+Inv-loop demand capacity setup unit holding best₀ count m₀ best m = (m ≤ count) × Chosen (dayOf demand capacity setup unit holding) m best
 
 abbrev μ-loop : tie.MeasureT-loop
 μ-loop demand capacity setup unit holding best₀ count m₀ best m = count - m
@@ -14,7 +19,8 @@ plans-requires : tie.Need-plans-requires Inv-loop μ-loop
 plans-requires c κs = search needs
 
 loop-holds : tie.Need-loop-holds Inv-loop μ-loop
-loop-holds c = search needs
+loop-holds c =
+    (search needs, record { holds = λ f. let z : _≡_ {A = ℕ} 0 1 = cc in absurd (omega arith); least = λ j l. absurd (omega arith) })
 
 plan-of-requires : tie.Need-plan-of-requires Inv-loop μ-loop
 plan-of-requires c κs = search needs
@@ -35,10 +41,15 @@ loop-less : tie.Need-loop-less Inv-loop μ-loop
 loop-less c = search needs
 
 loop-again : tie.Need-loop-again Inv-loop μ-loop
-loop-again c = search needs
+loop-again c =
+    let start = c .before .before .before .before .before in
+    (search needs, rw (add-one, c .better .ensures, c .before .weigh .ensures, c .before .before .before .plan-of .ensures) (chosen-more _ (start .loop .m) (start .loop .best) (start .loop .inv .1)))
 
 returns : tie.Need-returns Inv-loop μ-loop
-returns c = search needs
+returns c =
+    let start = c .before in
+    let e : start .loop .m ≡ start .before .plans .result = omega arith in
+    rw (← start .before .plans .ensures, ← e) (start .loop .inv .1)
 
 pub search-spec : {M : Type 1} → statement M
 search-spec =

@@ -1,10 +1,8 @@
 -- `dayfile::layout::end_record` meets its contract: each `return` by the tests before it. Assumes nothing.
 use mathlib.Core.Path.{sym, _∙_}
-use mathlib.Core.Bool.{true, false}
-use Prim.Native.Nat.{_<_}
 use native.Mathlib.Omega.{arith}
 use borrow.Author.Needs.{needs}
-use borrow.Author.Tests.{lt-ltb, le-ltb, eq-eqb, ne-eqb, not-true, not-false}
+use borrow.Author.Tests.{lt-ltb, le-ltb, eq-eqb, ne-eqb, not-false}
 use denote.Ref.{now}
 use lib.ListN.{length, length-take, length-drop}
 use Rattle.day.specs.Sums.{at}

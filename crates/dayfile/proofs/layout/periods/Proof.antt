@@ -8,7 +8,7 @@ use denote.Ref.{now}
 use Rattle.day.specs.Refusals.{badCount}
 use Rattle.day.specs.File.{walk, periodsIn}
 use Rattle.checks.specs.Passed.{passed, refused}
-use Rattle.dayfile.specs.Answers.{answered-refused, answered-periods}
+use Rattle.dayfile.specs.Passed.{answered-refused, answered-periods}
 use Rattle.dayfile.proofs.layout.periods.Statement.{statement}
 use Rattle.dayfile.proofs.layout.periods.Tie as tie
 

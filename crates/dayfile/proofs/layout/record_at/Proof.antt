@@ -1,10 +1,9 @@
 -- `dayfile::layout::record_at` meets its contract. The loop's invariant: it stands where record k begins. The measure is how many
 -- records are left. Assumes nothing.
-use mathlib.Core.Path.{_≡_, refl, ap, sym, _∙_}
+use mathlib.Core.Path.{_≡_, refl}
 use Prim.Native.Nat.{_-_, _≤_}
 use native.Mathlib.Omega.{arith}
 use native.Mathlib.Numerals.{add-one}
-use borrow.Author.Needs.{needs}
 use denote.Ref.{now}
 use Rattle.day.specs.File.{recordAt}
 use Rattle.dayfile.specs.Layout.{period-at}

@@ -1,7 +1,7 @@
 -- `dayfile::layout::walk` meets its contract. The loop's invariant: it has passed n whole periods and stands where record n begins.
 -- The measure is what is left of the file. Assumes nothing.
-use mathlib.Core.Path.{_≡_, sym, _∙_}
-use Prim.Native.Nat.{_-_, _≤_}
+use mathlib.Core.Path.{sym, _∙_}
+use Prim.Native.Nat.{_-_}
 use native.Mathlib.Omega.{arith}
 use native.Mathlib.Numerals.{add-one}
 use borrow.Author.Needs.{needs}

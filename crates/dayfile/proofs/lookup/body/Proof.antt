@@ -8,7 +8,8 @@ use denote.Ref.{now}
 use Rattle.day.specs.File.{periodsIn}
 use Rattle.checks.specs.Passed.{passed, refused}
 use Rattle.dayfile.specs.Answers.{badLookup}
-use Rattle.dayfile.specs.Layout.{period-at, lookup-passed}
+use Rattle.dayfile.specs.Passed.{lookup-passed}
+use Rattle.dayfile.specs.Layout.{period-at}
 use Rattle.dayfile.proofs.lookup.body.Statement.{statement}
 use Rattle.dayfile.proofs.lookup.body.Tie as tie
 

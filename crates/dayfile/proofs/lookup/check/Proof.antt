@@ -6,7 +6,8 @@ use denote.Ref.{now}
 use Rattle.day.specs.Refusals.{first}
 use Rattle.day.specs.File.{periodsIn, noSuchPeriod}
 use Rattle.checks.specs.Passed.{first-passed, first-refused, first-one}
-use Rattle.dayfile.specs.Answers.{badFile, answered-refused, answered-periods}
+use Rattle.dayfile.specs.Answers.{badFile}
+use Rattle.dayfile.specs.Passed.{answered-refused, answered-periods}
 use Rattle.dayfile.proofs.lookup.check.Statement.{statement}
 use Rattle.dayfile.proofs.lookup.check.Tie as tie
 

@@ -10,8 +10,8 @@ use Rattle.day.specs.Refusals.{first, badSlots, badValue}
 use Rattle.day.specs.File.{periodsIn, dayIn}
 use Rattle.checks.specs.Passed.{passed, refused, first-passed, first-refused}
 use Rattle.dayfile.specs.declared.ReadAnswer.the-variants.{Periods}
-use Rattle.dayfile.specs.Answers.{badFile, answered-refused, answered-periods}
-use Rattle.dayfile.specs.Layout.{file-passed}
+use Rattle.dayfile.specs.Answers.{badFile}
+use Rattle.dayfile.specs.Passed.{answered-refused, answered-periods, file-passed}
 use borrow.Author.Needs.{needs}
 use Rattle.dayfile.proofs.reader.accepts.Statement.{statement}
 use Rattle.dayfile.proofs.reader.accepts.Tie as tie

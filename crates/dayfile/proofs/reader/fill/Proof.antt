@@ -4,7 +4,6 @@ use mathlib.Core.Path.{_≡_, refl}
 use mathlib.Core.List.{List}
 use Prim.Native.Nat.{ℕ, _+_, _-_}
 use native.Mathlib.Omega.{arith}
-use borrow.Author.Needs.{needs}
 use denote.Ref.{now}
 use Rattle.day.specs.Day.{Day, dayOf}
 use Rattle.dayfile.specs.Layout.{WholePeriod, period-at, body-part, period-body}

@@ -6,8 +6,8 @@ use Prim.Native.Nat.{ℕ}
 use denote.Ref.{now}
 use Rattle.day.specs.Day.{Day, dayOf}
 use Rattle.day.specs.File.{periodsIn}
-use Rattle.dayfile.specs.Answers.{answered, shortest, badRead, answered-refused, answered-periods}
-use Rattle.dayfile.specs.Layout.{read-passed}
+use Rattle.dayfile.specs.Answers.{answered, shortest, badRead}
+use Rattle.dayfile.specs.Passed.{answered-refused, answered-periods, read-passed}
 use borrow.Author.Needs.{needs}
 use Rattle.dayfile.proofs.reader.read.Statement.{statement}
 use Rattle.dayfile.proofs.reader.read.Tie as tie

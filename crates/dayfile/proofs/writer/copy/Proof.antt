@@ -1,12 +1,12 @@
 -- `dayfile::writer::copy` meets its contract. The loop's invariant: the first k bytes are stored. The measure is how many are left.
 -- Assumes nothing.
-use mathlib.Core.Path.{_≡_, refl, ap, _∙_}
+use mathlib.Core.Path.{_≡_, refl}
 use Prim.Native.Nat.{_-_, _≤_}
 use native.Mathlib.Omega.{arith}
 use native.Mathlib.Numerals.{add-one}
 use denote.Ref.{now}
 use lib.ListN.{length, take, length-set}
-use lib.Seq.{sets, take-length, length-sets}
+use lib.Seq.{sets, take-length}
 use Rattle.dayfile.proofs.Stores.{sets-more}
 use Rattle.dayfile.proofs.writer.copy.Statement.{statement}
 use Rattle.dayfile.proofs.writer.copy.Tie as tie

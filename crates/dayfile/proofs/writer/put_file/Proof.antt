@@ -1,0 +1,62 @@
+-- `dayfile::writer::put_file` meets its contract: the end record follows the period records. Assumes nothing.
+use mathlib.Core.Path.{_∙_}
+use Prim.Native.Nat.{_*_}
+use native.Mathlib.Omega.{arith}
+use denote.Ref.{now}
+use Rattle.day.specs.Day.{Day, dayOf, periods}
+use Rattle.day.specs.File.{recordsOf, fileOf}
+use Rattle.dayfile.specs.RoundTrip.{records-length, file-length}
+use Rattle.dayfile.proofs.Stores.{sets-then, sets-front}
+use borrow.Author.Needs.{needs}
+use Rattle.dayfile.proofs.writer.put_file.Statement.{statement}
+use Rattle.dayfile.proofs.writer.put_file.Tie as tie
+
+abbrev day : tie.After-put-periods → Day
+day c =
+    let a = c .before .before .before .before .before .before .before .before .args in
+    dayOf (now (a .demand)) (now (a .capacity)) (now (a .setup)) (now (a .unit)) (now (a .holding))
+
+put-periods-requires : tie.Need-put-periods-requires
+put-periods-requires c κs = search needs
+
+cast-end-record : tie.Need-cast-end-record
+cast-end-record c = search needs
+
+end-record-requires : tie.Need-end-record-requires
+end-record-requires c κs = search needs
+
+slice-aggregate-copy : tie.Need-slice-aggregate-copy
+slice-aggregate-copy c = search needs
+
+mul-copy : tie.Need-mul-copy
+mul-copy c = search needs
+
+copy-requires : tie.Need-copy-requires
+copy-requires c κs = search needs
+
+same-length : tie.Need-same-length
+same-length c = search needs
+
+returns : tie.Need-returns
+returns c =
+    let p = c .before .before in
+    let e = p .before .before .before in
+    let q = e .before .before .before in
+    let d = day q in
+    let n = periods d in
+    p .copy .ensures
+    ∙ rw (e .end-record .ensures, q .put-periods .ensures) (sets-then (recordsOf d n) _ _ 0 (17 * n) (omega (arith, records-length d n)))
+    ∙ sets-front (fileOf d) _ (omega (arith, file-length d, q .before .before .before .before .before .before .before .before .pre))
+
+pub put-file-spec : {M : Type 1} → statement M
+put-file-spec =
+    tie.close
+    (tie.spec
+    put-periods-requires
+    cast-end-record
+    end-record-requires
+    slice-aggregate-copy
+    mul-copy
+    copy-requires
+    same-length
+    returns)

@@ -1,0 +1,94 @@
+-- `dayfile::writer::put_periods` meets its contract. The loop's invariant: the first k records stand at the slice's front. The measure
+-- is how many are left. Assumes nothing.
+use mathlib.Core.Path.{_≡_, refl, ap, _∙_}
+use Prim.Native.Nat.{_*_, _-_, _≤_}
+use native.Mathlib.Omega.{arith}
+use native.Mathlib.Numerals.{add-one}
+use borrow.Author.Needs.{needs}
+use denote.Ref.{now}
+use lib.ListN.{length}
+use lib.Seq.{sets}
+use Rattle.day.specs.Day.{Day, dayOf}
+use Rattle.day.specs.File.{recordsOf}
+use Rattle.dayfile.specs.RoundTrip.{records-length}
+use Rattle.dayfile.proofs.Stores.{sets-then}
+use Rattle.dayfile.proofs.writer.put_periods.Statement.{statement}
+use Rattle.dayfile.proofs.writer.put_periods.Tie as tie
+
+abbrev Inv-loop : tie.InvT-loop
+Inv-loop demand capacity setup unit holding out₀ at₀ k₀ out at k =
+    (k ≤ length demand) × (at ≡ 17 * k) × (out ≡ sets out₀ 0 (recordsOf (dayOf demand capacity setup unit holding) k)) × (length out ≡ length out₀)
+
+abbrev μ-loop : tie.MeasureT-loop
+μ-loop demand capacity setup unit holding out₀ at₀ k₀ out at k = length demand - k
+
+abbrev day : tie.At-loop Inv-loop μ-loop → Day
+day c =
+    let a = c .before .before .before .before .before .before .before .args in
+    dayOf (now (a .demand)) (now (a .capacity)) (now (a .setup)) (now (a .unit)) (now (a .holding))
+
+loop-holds : tie.Need-loop-holds Inv-loop μ-loop
+loop-holds c = (omega arith, refl, refl, refl)
+
+record-of-requires : tie.Need-record-of-requires Inv-loop μ-loop
+record-of-requires c κs =
+    let w = c .before .before .before .before .before .before .before .before .pre .0 in
+    record {
+      demand = omega arith;
+      capacity = omega (arith, w .capacity);
+      setup = omega (arith, w .setup);
+      unit = omega (arith, w .unit);
+      holding = omega (arith, w .holding);
+    }
+
+slice-aggregate-copy : tie.Need-slice-aggregate-copy Inv-loop μ-loop
+slice-aggregate-copy c = search needs
+
+copy-requires : tie.Need-copy-requires Inv-loop μ-loop
+copy-requires c κs =
+    let r = c .before .before in
+    let e : length (r .record-of .result) ≡ 17 = ap length (r .record-of .ensures) in
+    omega (arith, e, r .before .before .loop .inv, r .before .before .before .before .before .before .before .before .before .pre .1)
+
+add-at : tie.Need-add-at Inv-loop μ-loop
+add-at c = omega arith
+
+add-k : tie.Need-add-k Inv-loop μ-loop
+add-k c = omega arith
+
+loop-less : tie.Need-loop-less Inv-loop μ-loop
+loop-less c = omega arith
+
+loop-again : tie.Need-loop-again Inv-loop μ-loop
+loop-again c =
+    let p = c .before .before in
+    let r = p .before .before .before in
+    let l = r .before .before in
+    let w = l .loop .inv in
+    let stored = sets-then (recordsOf (day l) (l .loop .k)) _ _ 0 (l .loop .at) (omega (arith, w .1, records-length (day l) (l .loop .k))) in
+    (omega arith, omega arith, rw add-one (p .copy .ensures ∙ rw (r .record-of .ensures, w .2) stored), p .copy .kept .1 .0 ∙ w .3)
+
+same-length : tie.Need-same-length Inv-loop μ-loop
+same-length c = c .before .loop .inv .3
+
+returns : tie.Need-returns Inv-loop μ-loop
+returns c =
+    let e : c .before .loop .k ≡ length (now (c .before .before .before .before .before .before .before .before .args .demand)) = omega arith in
+    rw e at (c .before .loop .inv .2)
+
+pub put-periods-spec : {M : Type 1} → statement M
+put-periods-spec =
+    tie.close
+    (tie.spec
+    Inv-loop
+    μ-loop
+    loop-holds
+    record-of-requires
+    slice-aggregate-copy
+    copy-requires
+    add-at
+    add-k
+    loop-less
+    loop-again
+    same-length
+    returns)

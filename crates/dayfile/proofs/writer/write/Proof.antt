@@ -1,0 +1,87 @@
+-- `dayfile::writer::write` meets its contract: the tables' refusal, or that of the room after it; else the file. Assumes nothing.
+use mathlib.Core.Path.{_≡_, refl, sym}
+use mathlib.Core.List.{List, [], _∷_}
+use mathlib.Core.Option.{Option, none}
+use native.Mathlib.Omega.{arith}
+use borrow.Author.Tests.{lt-ltb, le-ltb}
+use denote.Ref.{now}
+use lib.ListN.{length}
+use Rattle.day.specs.declared.Refusal.{Refusal}
+use Rattle.day.specs.Day.{Day, dayOf}
+use Rattle.day.specs.Refusals.{first, badTables, badSlots}
+use Rattle.day.specs.File.{fileOf}
+use Rattle.checks.specs.Passed.{Limits, passed, refused, first-passed, first-refused, tables-passed}
+use Rattle.dayfile.specs.RoundTrip.{file-length}
+use borrow.Author.Needs.{needs}
+use Rattle.dayfile.proofs.writer.write.Statement.{statement}
+use Rattle.dayfile.proofs.writer.write.Tie as tie
+
+abbrev day : tie.After-tables → Day
+day c =
+    let a = c .before .before .before .before .before .before .before .args in
+    dayOf (now (a .demand)) (now (a .capacity)) (now (a .setup)) (now (a .unit)) (now (a .holding))
+
+-- what is tested after the tables
+abbrev rest : tie.After-tables → List (Option Refusal)
+rest c = badSlots (length (now (c .before .before .before .before .before .before .before .args .out))) (length (fileOf (day c))) ∷ []
+
+admitted : (c : tie.After-enum-told) → first (badTables (day (c .before .before)) []) ≡ none
+admitted c = passed _ (c .before .before .tables .ensures) (c .enum-told .given .1)
+
+limits : (c : tie.After-enum-told) → Limits (day (c .before .before))
+limits c = tables-passed _ [] (admitted c)
+
+tables-requires : tie.Need-tables-requires
+tables-requires c κs = search needs
+
+enum-known-r : tie.Need-enum-known-r
+enum-known-r c = search needs
+
+returns : tie.Need-returns
+returns c =
+    let p = c .before .before .before in
+    (first-refused (badTables (day p) []) (rest p) (refused (first (badTables (day p) [])) (p .tables .ensures) (c .before .r .given .1)), refl)
+
+enum-told : tie.Need-enum-told
+enum-told c = search needs
+
+mul-size : tie.Need-mul-size
+mul-size c = omega (arith, limits c .few)
+
+add-size : tie.Need-add-size
+add-size c = omega (arith, limits c .few)
+
+returns-2 : tie.Need-returns-2
+returns-2 c =
+    let p = c .before .before .before in
+    (rw (first-passed (badTables (day p) []) (rest p) (admitted (c .before)), file-length (day p), lt-ltb _ _ (c .if1 .taken)) refl, refl)
+
+put-file-requires : tie.Need-put-file-requires
+put-file-requires c κs =
+    let w = limits (c .before .before) in
+    (w .lengths, (w .few, c .before .if1 .left))
+
+same-length : tie.Need-same-length
+same-length c = search needs
+
+returns-3 : tie.Need-returns-3
+returns-3 c =
+    let f = c .before .before in
+    let t = f .before .before in
+    let p = t .before .before .before in
+    (rw (first-passed (badTables (day p) []) (rest p) (admitted (t .before)), file-length (day p), le-ltb _ _ (t .if1 .left)) refl, sym (file-length (day p)), f .put-file .ensures)
+
+pub write-spec : {M : Type 1} → statement M
+write-spec =
+    tie.close
+    (tie.spec
+    tables-requires
+    enum-known-r
+    returns
+    enum-told
+    mul-size
+    add-size
+    returns-2
+    put-file-requires
+    same-length
+    returns-3)

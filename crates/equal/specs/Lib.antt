@@ -1,0 +1,2 @@
+-- What the work of the equal path starts from and ends with.
+pub mod Solved

@@ -1,0 +1,279 @@
+//! Writes the day files of examples/ by the project's own writer: the marked days M1 to M12 (document 01), and a day of 96 periods.
+use dayfile::WriteAnswer;
+use libc::STDOUT_FILENO;
+
+// The file of a day, under a name in the current folder; its name and length go to standard output.
+fn save(
+    name: &[u8],
+    demand: &[u16],
+    capacity: &[u16],
+    setup: &[u32],
+    unit: &[u32],
+    holding: &[u32],
+) {
+    let mut file = [0u8; 1635];
+    let answer = dayfile::writer::write(demand, capacity, setup, unit, holding, &mut file);
+    let WriteAnswer::Bytes(n) = answer else {
+        io::write_all(STDOUT_FILENO, b"refused ");
+        io::write_all(STDOUT_FILENO, name);
+        io::write_all(STDOUT_FILENO, b"\n");
+        return;
+    };
+    let fd = os::open_overwrite(name);
+    if fd < 0 {
+        os::fail(name);
+        return;
+    }
+    io::write_all(fd, &file[0..n]);
+    libc::close(fd);
+    io::write_all(STDOUT_FILENO, name);
+    io::write_all(STDOUT_FILENO, b" ");
+    io::print_decimal(STDOUT_FILENO, n as u64);
+    io::write_all(STDOUT_FILENO, b"\n");
+}
+
+// A day of one to three periods, with one start cost, unit cost and upkeep throughout.
+fn save_row(name: &[u8], demand: &[u16], capacity: &[u16], b: u32, p: u32, h: u32) {
+    let n = demand.len();
+    let setup = [b; 3];
+    let unit = [p; 3];
+    let holding = [h; 3];
+    if n <= 3 {
+        save(
+            name,
+            demand,
+            capacity,
+            &setup[0..n],
+            &unit[0..n],
+            &holding[0..n],
+        );
+    }
+}
+
+fn save_marked() {
+    save_row(b"m1.day", &[0], &[0], 5, 1, 1);
+    save_row(b"m2.day", &[1], &[1], 5, 2, 9);
+    save_row(b"m3.day", &[2], &[1], 5, 2, 9);
+    save_row(b"m4.day", &[2, 3], &[5, 5], 10, 1, 1);
+    save_row(b"m5.day", &[2, 3], &[5, 5], 10, 1, 4);
+    save_row(b"m6.day", &[2, 2], &[4, 4], 10, 1, 5);
+    save_row(b"m7.day", &[0, 4], &[3, 3], 10, 1, 1);
+    save_row(b"m8.day", &[1, 5], &[2, 3], 0, 1, 1);
+    save_row(b"m9.day", &[1, 4], &[2, 3], 0, 1, 1);
+    save_row(b"m10.day", &[3, 0], &[2, 9], 0, 1, 1);
+    save_row(b"m11.day", &[2, 2, 3], &[4, 4, 4], 6, 1, 1);
+    save_row(b"m12.day", &[0, 0], &[0, 0], 5, 1, 1);
+}
+
+// A day of quarter hours: 2 watt-hours each, 5 in a pass of half an hour every three hours; fuel is dearer in the cold of the night.
+const PASSES: [u16; 96] = [
+    5,
+    5,
+    2,
+    2,
+    2,
+    2,
+    2,
+    2,
+    2,
+    2,
+    2,
+    2,
+    5,
+    5,
+    2,
+    2,
+    2,
+    2,
+    2,
+    2,
+    2,
+    2,
+    2,
+    2,
+    5,
+    5,
+    2,
+    2,
+    2,
+    2,
+    2,
+    2,
+    2,
+    2,
+    2,
+    2,
+    5,
+    5,
+    2,
+    2,
+    2,
+    2,
+    2,
+    2,
+    2,
+    2,
+    2,
+    2,
+    5,
+    5,
+    2,
+    2,
+    2,
+    2,
+    2,
+    2,
+    2,
+    2,
+    2,
+    2,
+    5,
+    5,
+    2,
+    2,
+    2,
+    2,
+    2,
+    2,
+    2,
+    2,
+    2,
+    2,
+    5,
+    5,
+    2,
+    2,
+    2,
+    2,
+    2,
+    2,
+    2,
+    2,
+    2,
+    2,
+    5,
+    5,
+    2,
+    2,
+    2,
+    2,
+    2,
+    2,
+    2,
+    2,
+    2,
+    2,
+];
+
+const FUEL: [u32; 96] = [
+    1100,
+    1100,
+    1100,
+    1100,
+    1100,
+    1100,
+    1100,
+    1100,
+    1100,
+    1100,
+    1100,
+    1100,
+    1100,
+    1100,
+    1100,
+    1100,
+    1100,
+    1100,
+    1100,
+    1100,
+    1100,
+    1100,
+    1100,
+    1100,
+    1100,
+    1100,
+    1100,
+    1100,
+    900,
+    900,
+    900,
+    900,
+    900,
+    900,
+    900,
+    900,
+    900,
+    900,
+    900,
+    900,
+    900,
+    900,
+    900,
+    900,
+    900,
+    900,
+    900,
+    900,
+    900,
+    900,
+    900,
+    900,
+    900,
+    900,
+    900,
+    900,
+    900,
+    900,
+    900,
+    900,
+    900,
+    900,
+    900,
+    900,
+    900,
+    900,
+    900,
+    900,
+    900,
+    900,
+    900,
+    900,
+    900,
+    900,
+    900,
+    900,
+    900,
+    900,
+    900,
+    900,
+    900,
+    900,
+    900,
+    900,
+    900,
+    900,
+    900,
+    900,
+    900,
+    900,
+    900,
+    900,
+    900,
+    900,
+    900,
+    900,
+];
+
+fn save_passes() {
+    let demand = PASSES;
+    let capacity = [12u16; 96];
+    let setup = [4000u32; 96];
+    let unit = FUEL;
+    let holding = [40u32; 96];
+    save(b"passes.day", &demand, &capacity, &setup, &unit, &holding);
+}
+
+fn main() {
+    save_marked();
+    save_passes();
+}

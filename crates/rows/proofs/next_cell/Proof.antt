@@ -1,0 +1,29 @@
+-- `rows::next_cell` meets its contract. Assumes nothing.
+use borrow.Author.Needs.{needs}
+use Rattle.rows.specs.Moves.{queue-trim}
+use Rattle.rows.proofs.Laws.{best-small}
+use Rattle.rows.proofs.Queueing.{found}
+use Rattle.rows.proofs.next_cell.Statement.{statement}
+use Rattle.rows.proofs.next_cell.Tie as tie
+
+less-requires : tie.Need-less-requires
+less-requires c κs = search needs
+
+drop-head-requires : tie.Need-drop-head-requires
+drop-head-requires c κs = search needs
+
+best-queued-requires : tie.Need-best-queued-requires
+best-queued-requires c κs =
+    let pre = c .before .before .before .before .pre in
+    (pre .0, (queue-trim (pre .1 .0) (c .before .less .ensures) (c .drop-head .ensures), pre .1 .1))
+
+cell-for-requires : tie.Need-cell-for-requires
+cell-for-requires c κs = let pre = c .before .before .before .before .before .pre in best-small (pre .0) (pre .1 .1 .0) (c .best-queued .ensures)
+
+returns : tie.Need-returns
+returns c = found (c .before .before .before .before .before .before .pre .1 .0) (c .before .before .before .less .ensures) (c .before .before .drop-head .ensures) (c .before .best-queued .ensures) (c .cell-for .ensures)
+
+pub next-cell-spec : {M : Type 1} → statement M
+next-cell-spec =
+    tie.close
+    (tie.spec less-requires drop-head-requires best-queued-requires cell-for-requires returns)
