@@ -1,7 +1,6 @@
 //! Reads, writes and looks up day files: document 01's M4, files that are refused, the longest file, and M4's file cut short, with a
 //! byte changed and with a byte added. What it writes is compared with the file stdout beside src/.
 ghost use Prim.Native.Nat.{_≤_, _<_};
-ghost use lib.ListN.{length};
 use day::Check;
 use dayfile::ReadAnswer;
 use dayfile::WriteAnswer;
