@@ -10,7 +10,8 @@ use borrow.Author.Needs.{needs}
 use Rattle.day.specs.File.{body, recordAt}
 use Rattle.checks.specs.Passed.{passed, refused}
 use Rattle.dayfile.specs.Answers.{badLookup}
-use Rattle.dayfile.specs.Layout.{period-at, period-body, lookup-passed}
+use Rattle.dayfile.specs.Passed.{lookup-passed}
+use Rattle.dayfile.specs.Layout.{period-at, period-body}
 use Rattle.station.proofs.Files.{lookup-named}
 use Rattle.station.proofs.yakkurem_lookup.Statement.{statement}
 use Rattle.station.proofs.yakkurem_lookup.Tie as tie
