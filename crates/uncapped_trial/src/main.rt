@@ -1,6 +1,5 @@
 //! Runs the uncapped path on the marked days, on refusals and at the limits, and on made-up days against a plain search and the full
 //! path. A line for each group: how many calls came out as they should, in answer, slots and areas, and of how many.
-ghost use Prim.Native.Nat.{_≤_};
 use day::Answer;
 use libc::STDOUT_FILENO;
 use plain::Kind;
