@@ -3,11 +3,10 @@
 use mathlib.Core.Path.{_≡_, refl, sym, ap, _∙_}
 use mathlib.Core.List.{List, [], _∷_, _++_}
 use mathlib.Core.Option.{Option, none, some, Option·some-ne-none}
-use Prim.Native.Nat.{ℕ, zero, suc, _+_, _-_, _*_, _≤_, _<_}
+use Prim.Native.Nat.{ℕ, _+_, _-_, _*_, _≤_, _<_}
 use native.Mathlib.Nat.{mul-le-mul}
 use native.Mathlib.Omega.{arith}
-use lib.ListN.{length, drop, replicate, length-append, length-drop, List·getD-append}
-use lib.Seq.{drop-at}
+use lib.ListN.{length, drop, replicate, List·getD-append}
 use borrow.Rule.Slice.PartMut.{midOf, putMid, mid-len, same-len-mid, drop-put}
 use Rattle.day.specs.declared.Refusal.{Refusal}
 use Rattle.day.specs.declared.Check.{Check}
@@ -15,7 +14,7 @@ use Rattle.day.specs.declared.Check.the-variants.{Passed, Refused}
 use Rattle.day.specs.declared.Totals.{Totals}
 use Rattle.day.specs.Sums.{at}
 use Rattle.day.specs.Day.{Day, periods, total}
-use Rattle.day.specs.Plan.{setups, setupAt}
+use Rattle.day.specs.Plan.{setups}
 use Rattle.day.specs.Refusals.{first, checked, badTables, badTotal, badAreas, badSlots, shortage, unequal}
 use Rattle.day.specs.Outcome.{Memory, Cleared, Accepted}
 use Rattle.day.specs.Paths.{refusal, equal}
@@ -58,10 +57,6 @@ cells-small n h = omega (arith, mul-le-mul {n₁ = n + 1} {m₁ = n + 1} {n₂ =
 abbrev pub memoryTests : Day → Memory → List (Option Refusal)
 memoryTests d m =
     badAreas (length (m .costs)) (costCells (periods d)) (length (m .choices)) (choiceCells (periods d)) ∷ badSlots (length (m .slots)) (periods d) ∷ []
-
-pub setup-some : (x : ℕ) → (x ≡ 0 → ⊥) → setupAt x ≡ 1
-setup-some zero h = absurd (h refl)
-setup-some (suc x) h = refl
 
 module _ (d : Day) (m : Memory) where
   abbrev memory : List (Option Refusal)

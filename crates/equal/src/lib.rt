@@ -6,7 +6,6 @@ ghost use Prim.Native.Nat.{_+_, _*_, _≤_};
 ghost use lib.ListN.{length};
 ghost use Rattle.day.specs.Sums.{at};
 ghost use Rattle.day.specs.Day.{dayOf};
-ghost use Rattle.day.specs.Plan.{setupAt, setups};
 ghost use Rattle.day.specs.Refusals.{checked};
 ghost use Rattle.day.specs.Outcome.{Accepted};
 ghost use Rattle.day.specs.Paths.{Runs, refusal, equal};
@@ -48,27 +47,6 @@ fn test(
         return Check::Refused(r);
     }
     checks::equal(demand, capacity)
-}
-
-// 1 where something is made.
-fn setup_of(amount: u16) -> u64
-    ensures { λ r. ⌜ (r ≡ setupAt amount) × (r ≤ 1) ⌝ }
-{
-    if amount == 0 { 0 } else { 1 }
-}
-
-// In how many of the first n slots something is made.
-fn count(slots: &[u16], n: usize) -> u64
-    requires { ⌜ n ≤ length (now slots) ⌝ }
-    ensures { λ r. ⌜ r ≡ setups n (at (now (slots .entry))) ⌝ }
-{
-    let mut made: u64 = 0;
-    let mut k = 0;
-    while k < n {
-        made += setup_of(slots[k]);
-        k += 1;
-    }
-    made
 }
 
 // The plan of the day into the slots, and its cost. Where nothing can be made, nothing is demanded.
@@ -134,7 +112,7 @@ fn work(
     );
     let totals = Totals {
         cost,
-        setups: count(slots, n),
+        setups: areas::count(slots, n),
     };
     areas::clear_costs(costs, cost_cells);
     areas::clear_choices(choices, choice_cells);

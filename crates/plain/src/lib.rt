@@ -1,10 +1,12 @@
 //! For the programs that try the paths: a plain search over all plans of a tiny day, made-up tiny days, and the comparison of
 //! a path's answer with the search's. A tiny day has one to four periods and a demand of at most 8 in all.
 ghost use mathlib.Core.Path.{_≡_};
+ghost use mathlib.Core.Bool.{true};
 ghost use Prim.Native.Nat.{_+_, _*_, _/_, _%_, _^_};
 ghost use lib.ListN.{length};
 ghost use Rattle.day.specs.Day.{dayOf};
 ghost use Rattle.plain.specs.Sizes.{Sized};
+ghost use Rattle.plain.specs.Agreement.{SamePlan, Agreement};
 ghost use Rattle.plain.specs.Search.{planOf, plansOf, foundAs, betterOf, Chosen};
 use day::Answer;
 use day::Totals;
@@ -208,12 +210,17 @@ pub fn search(
 }
 
 // Whether the first n slots hold the plan found.
-fn same_plan(plan: [u16; 4], n: usize, slots: &[u16]) -> bool {
+fn same_plan(plan: [u16; 4], n: usize, slots: &[u16]) -> bool
+    ensures { λ r. ⌜ (r ≡ true → SamePlan n plan (now (slots .entry))) ⌝ }
+{
+    if 4 < n {
+        return false;
+    }
+    if slots.len() < n {
+        return false;
+    }
     let mut k = 0;
     while k < n {
-        if 4 <= k || slots.len() <= k {
-            return false;
-        }
         if slots[k] != plan[k] {
             return false;
         }
@@ -223,15 +230,28 @@ fn same_plan(plan: [u16; 4], n: usize, slots: &[u16]) -> bool {
 }
 
 // Whether a path's answer on a day of n periods is what the search found: its plan, cost and setups, or refusal 7 where there is none.
-pub fn agrees(best: Best, n: usize, answer: Answer, slots: &[u16]) -> bool {
+pub fn agrees(best: Best, n: usize, answer: Answer, slots: &[u16]) -> bool
+    ensures { λ r. ⌜ (r ≡ true → Agreement best n answer (now (slots .entry))) ⌝ }
+{
     match answer {
-        Answer::Refused(r) => !best.found && r.number() == 7,
+        Answer::Refused(r) => {
+            if best.found {
+                return false;
+            }
+            r.number() == 7
+        }
         Answer::Planned(t) => {
+            if !best.found {
+                return false;
+            }
+            if t.cost != best.cost {
+                return false;
+            }
+            if t.setups != best.setups {
+                return false;
+            }
             let plan = best.plan;
-            best.found
-                && t.cost == best.cost
-                && t.setups == best.setups
-                && same_plan(plan, n, slots)
+            same_plan(plan, n, slots)
         }
     }
 }

@@ -27,6 +27,7 @@ stageAt d i low most T = record {
   top = min (most + at (d .capacity) i) T;
 }
 
+-- i is one of the day's periods, and no total that can be reached before it is above the limit
 pub record Staged (d : Day) (i low most : ℕ) : Type 0 where
   pub lengths : SameLengths d
   pub inside : i < periods d
@@ -61,6 +62,7 @@ abbrev pub Traced : (ℕ → ℕ → ℕ) → ℕ → ℕ → Type 0
 Traced ch zero X = Unit {0}
 Traced ch (suc k) X = (ch k X ≤ X) × Traced ch k (X - ch k X)
 
+-- choices and slots are there for n periods, and the way back from T can be walked
 pub record Readable (choices slots : List ℕ) (n T : ℕ) : Type 0 where
   pub few : n ≤ maxPeriods
   pub small : T ≤ maxTotal

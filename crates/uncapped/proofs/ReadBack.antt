@@ -8,16 +8,11 @@ use lib.ListN.{length, drop, set, replicate, length-set}
 use lib.Seq.{drop-cons, drop-set-lt, getD-set-same}
 use Rattle.day.specs.Sums.{at, sumTo, sum-grows}
 use Rattle.day.specs.Day.{dayOf, maxTotal}
-use Rattle.day.specs.Plan.{setupAt}
 use Rattle.theory.specs.Base.{modelOf}
 use Rattle.theory.specs.Model.{Model}
 use Rattle.theory.specs.Stages.{Solution}
 use Rattle.theory.specs.WagnerWhitin.{wagnerWhitin, wagnerWhitin-zero, lot}
 use Rattle.uncapped.specs.Rows.{Lots}
-
-pub setup-some : (x : ℕ) → (x ≡ 0 → ⊥) → setupAt x ≡ 1
-setup-some zero h = absurd (h refl)
-setup-some (suc x) h = refl
 
 -- from the cell that was set on
 drop-set-here : (l : List ℕ) (i v : ℕ) → i < length l → drop i (set l i v) ≡ v ∷ drop (suc i) l

@@ -43,7 +43,7 @@ pub record Least (f : ℕ → ℕ) (m l : ℕ) (r : Choice) : Type 0 where
   pub least : (j : ℕ) → l ≤ j → j ≤ m → r .cost ≤ f j
   pub first : (j : ℕ) → l ≤ j → j < r .from → r .cost < f j
 
--- the search has seen the candidates l .. m: the lot of l, the upkeep on it, the cheapest of them
+-- the search has seen the candidates l .. m: the lot of l, what holding it costs, the cheapest of them
 pub record Seen (M : Model) (costs : ℕ → ℕ) (m l : ℕ) (s : Search) : Type 0 where
   pub lot : s .made + M .floor l ≡ M .floor (suc m)
   pub kept : s .held + held M (suc m) l ≡ held M (suc m) (suc m)

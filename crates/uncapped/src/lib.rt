@@ -68,7 +68,7 @@ fn work(
     let n = demand.len();
     let totals = Totals {
         cost: costs[n],
-        setups: slots::count(slots, n),
+        setups: areas::count(slots, n),
     };
     areas::clear_costs(costs, n + 1);
     areas::clear_choices(choices, n + 1);

@@ -15,7 +15,7 @@ pub struct Choice {
     pub from: usize,
 }
 
-// The candidates for a row's last lot, from l on: the lot of l, the upkeep on it, and the cheapest of them.
+// The candidates for a row's last lot, from l on: the lot of l, what holding it costs, and the cheapest of them.
 pub struct Search {
     pub made: u64,
     pub held: u64,
@@ -33,8 +33,8 @@ fn making(setup: u32, unit: u32, x: u64) -> u64
     (setup as u64) + (unit as u64) * x
 }
 
-// What it costs to hold x through a period.
-fn upkeep(holding: u32, x: u64) -> u64
+// What it costs to hold x through a period (document 01: upkeep).
+fn holding_cost(holding: u32, x: u64) -> u64
     requires { ⌜ x ≤ maxTotal ⌝ }
     ensures { λ r. ⌜ Held holding x r ⌝ }
 {
@@ -67,7 +67,7 @@ fn candidate(
     requires { ⌜ Room s cost demand ⌝ }
     ensures { λ r. ⌜ r ≡ tried s l cost demand setup unit holding ⌝ }
 {
-    let held = s.held + upkeep(holding, s.made);
+    let held = s.held + holding_cost(holding, s.made);
     let made = s.made + (demand as u64);
     let price = cost + making(setup, unit, made) + held;
     let best = cheaper(s.best, l, price);

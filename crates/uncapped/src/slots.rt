@@ -5,7 +5,6 @@ ghost use Prim.Native.Nat.{suc, _≤_, _<_};
 ghost use lib.ListN.{length, drop};
 ghost use Rattle.day.specs.Sums.{at};
 ghost use Rattle.day.specs.Day.{dayOf, total, maxTotal};
-ghost use Rattle.day.specs.Plan.{setupAt, setups};
 ghost use Rattle.theory.specs.Base.{modelOf};
 ghost use Rattle.theory.specs.WagnerWhitin.{lot, wagnerWhitin};
 ghost use Rattle.uncapped.specs.Bounds.{Fitting};
@@ -48,25 +47,4 @@ pub fn read_back(
         put_lot(demand, slots, from, m - 1);
         m = from;
     }
-}
-
-// 1 where something is made.
-fn setup_of(amount: u16) -> u64
-    ensures { λ r. ⌜ (r ≡ setupAt amount) × (r ≤ 1) ⌝ }
-{
-    if amount == 0 { 0 } else { 1 }
-}
-
-// In how many of the first n slots something is made.
-pub fn count(slots: &[u16], n: usize) -> u64
-    requires { ⌜ n ≤ length (now slots) ⌝ }
-    ensures { λ r. ⌜ r ≡ setups n (at (now (slots .entry))) ⌝ }
-{
-    let mut made: u64 = 0;
-    let mut k = 0;
-    while k < n {
-        made += setup_of(slots[k]);
-        k += 1;
-    }
-    made
 }

@@ -1,6 +1,5 @@
 //! Runs the uncapped path on the marked days, on refusals and at the limits, and on made-up days against a plain search and the full
 //! path. A line for each group: how many calls came out as they should, in answer, slots and areas, and of how many.
-ghost use Prim.Native.Nat.{_≤_};
 use day::Answer;
 use libc::STDOUT_FILENO;
 use plain::Kind;
@@ -119,12 +118,10 @@ fn plan(
         && slots[2] == left[2]
 }
 
-fn marked() {
-    let none = [9, 9, 9];
+fn planned_days() -> u64 {
     let mut right = 0;
     right = one_more(right, plan(&[0], &[0], 5, 1, 1, planned(0, 0), [0, 9, 9]));
     right = one_more(right, plan(&[1], &[1], 5, 2, 9, planned(7, 1), [1, 9, 9]));
-    right = one_more(right, plan(&[2], &[1], 5, 2, 9, refused(7, 1), none));
     right = one_more(
         right,
         plan(&[2, 3], &[5, 5], 10, 1, 1, planned(18, 1), [5, 0, 9]),
@@ -137,19 +134,24 @@ fn marked() {
         right,
         plan(&[2, 2], &[4, 4], 10, 1, 5, planned(24, 1), [4, 0, 9]),
     );
+    one_more(
+        right,
+        plan(&[0, 0], &[0, 0], 5, 1, 1, planned(0, 0), [0, 0, 9]),
+    )
+}
+
+fn refused_days() -> u64 {
+    let none = [9, 9, 9];
+    let mut right = 0;
+    right = one_more(right, plan(&[2], &[1], 5, 2, 9, refused(7, 1), none));
     right = one_more(right, plan(&[0, 4], &[3, 3], 10, 1, 1, refused(9, 1), none));
     right = one_more(right, plan(&[1, 5], &[2, 3], 0, 1, 1, refused(7, 2), none));
     right = one_more(right, plan(&[1, 4], &[2, 3], 0, 1, 1, refused(9, 1), none));
     right = one_more(right, plan(&[3, 0], &[2, 9], 0, 1, 1, refused(7, 1), none));
-    right = one_more(
+    one_more(
         right,
         plan(&[2, 2, 3], &[4, 4, 4], 6, 1, 1, refused(9, 1), none),
-    );
-    right = one_more(
-        right,
-        plan(&[0, 0], &[0, 0], 5, 1, 1, planned(0, 0), [0, 0, 9]),
-    );
-    line(b"marked days ", right, 12);
+    )
 }
 
 // A day of two periods in memory that is lent by its first cells.
@@ -185,7 +187,7 @@ fn refuse(
 }
 
 // Each refusal before those after it in order.
-fn refusals() {
+fn early_refusals() -> u64 {
     let mut right = 0;
     right = one_more(right, refuse(&[1, 4097], &[1], 0, 0, 0, refused(2, 0)));
     right = one_more(
@@ -194,12 +196,15 @@ fn refusals() {
     );
     right = one_more(right, refuse(&[4096, 1], &[1, 1], 0, 0, 0, refused(4, 0)));
     right = one_more(right, refuse(&[1, 1], &[0, 0], 2, 3, 0, refused(5, 0)));
-    right = one_more(right, refuse(&[1, 1], &[0, 0], 3, 2, 0, refused(5, 0)));
+    one_more(right, refuse(&[1, 1], &[0, 0], 3, 2, 0, refused(5, 0)))
+}
+
+fn late_refusals() -> u64 {
+    let mut right = 0;
     right = one_more(right, refuse(&[1, 1], &[0, 0], 3, 3, 1, refused(6, 0)));
     right = one_more(right, refuse(&[1, 1], &[1, 0], 3, 3, 2, refused(7, 2)));
     right = one_more(right, refuse(&[2, 2], &[2, 2], 3, 3, 2, refused(9, 1)));
-    right = one_more(right, refuse(&[1, 3], &[4, 2], 3, 3, 2, refused(9, 2)));
-    line(b"refusals ", right, 9);
+    one_more(right, refuse(&[1, 3], &[4, 2], 3, 3, 2, refused(9, 2)))
 }
 
 // A day of n periods with the largest costs: `each` demanded in every period but 96, and there `last`.
@@ -229,7 +234,7 @@ fn long(n: usize, each: u16, last: u16, wanted: Outcome) -> bool {
     same(answer, wanted) && cleared(wanted, n, &costs, &choices)
 }
 
-fn limits() {
+fn long_days() -> u64 {
     let mut right = 0;
     right = one_more(right, long(0, 0, 0, refused(1, 0)));
     right = one_more(right, long(97, 0, 0, refused(1, 0)));
@@ -237,8 +242,7 @@ fn limits() {
     right = one_more(right, long(96, 1, 4096, refused(4, 0)));
     right = one_more(right, long(96, 0, 4096, planned(5096000000, 1)));
     right = one_more(right, long(96, 42, 42, planned(29876000000, 14)));
-    right = one_more(right, long(1, 4096, 0, planned(5096000000, 1)));
-    line(b"limits ", right, 7);
+    one_more(right, long(1, 4096, 0, planned(5096000000, 1)))
 }
 
 // How many made-up days came out as the plain search says, and as the full path does; the next day's seed.
@@ -246,6 +250,95 @@ struct Tally {
     seed: u32,
     searched: u64,
     agreed: u64,
+}
+
+// What a call on a day of up to four periods leaves.
+struct Run {
+    answer: Answer,
+    slots: [u16; 4],
+    kept: bool,
+}
+
+fn uncapped_run(
+    demand: &[u16],
+    capacity: &[u16],
+    setup: &[u32],
+    unit: &[u32],
+    holding: &[u32],
+) -> Run {
+    let mut costs = [9u64; 6];
+    let mut choices = [9u16; 6];
+    let mut slots = [9u16; 4];
+    let answer = uncapped::plan(
+        demand,
+        capacity,
+        setup,
+        unit,
+        holding,
+        &mut costs,
+        &mut choices,
+        &mut slots,
+    );
+    let kept = cleared(outcome_of(answer), demand.len(), &costs, &choices);
+    Run {
+        answer,
+        slots,
+        kept,
+    }
+}
+
+fn full_run(demand: &[u16], capacity: &[u16], setup: &[u32], unit: &[u32], holding: &[u32]) -> Run {
+    let mut costs = [9u64; 20];
+    let mut choices = [9u16; 40];
+    let mut slots = [9u16; 4];
+    let answer = full::plan(
+        demand,
+        capacity,
+        setup,
+        unit,
+        holding,
+        &mut costs,
+        &mut choices,
+        &mut slots,
+    );
+    Run {
+        answer,
+        slots,
+        kept: true,
+    }
+}
+
+fn alike(a: Run, b: Run) -> bool {
+    let p = a.answer;
+    let q = b.answer;
+    let x = a.slots;
+    let y = b.slots;
+    same(outcome_of(p), outcome_of(q))
+        && x[0] == y[0]
+        && x[1] == y[1]
+        && x[2] == y[2]
+        && x[3] == y[3]
+}
+
+fn compared(
+    t: Tally,
+    demand: &[u16],
+    capacity: &[u16],
+    setup: &[u32],
+    unit: &[u32],
+    holding: &[u32],
+) -> Tally {
+    let run = uncapped_run(demand, capacity, setup, unit, holding);
+    let full = full_run(demand, capacity, setup, unit, holding);
+    let best = plain::search(demand, capacity, setup, unit, holding);
+    let answer = run.answer;
+    let slots = run.slots;
+    let found = plain::agrees(best, demand.len(), answer, &slots);
+    Tally {
+        seed: t.seed,
+        searched: one_more(t.searched, run.kept && found),
+        agreed: one_more(t.agreed, alike(run, full)),
+    }
 }
 
 fn made_up_day(t: Tally) -> Tally {
@@ -256,44 +349,23 @@ fn made_up_day(t: Tally) -> Tally {
     let setup = d.setup;
     let unit = d.unit;
     let holding = d.holding;
-    let r = &demand[0..n];
-    let c = &capacity[0..n];
-    let b = &setup[0..n];
-    let p = &unit[0..n];
-    let h = &holding[0..n];
-    let mut costs = [9u64; 20];
-    let mut choices = [9u16; 40];
-    let mut slots = [9u16; 4];
-    let full = full::plan(r, c, b, p, h, &mut costs, &mut choices, &mut slots);
-    let mut cost_area = [9u64; 6];
-    let mut choice_area = [9u16; 6];
-    let mut answer_slots = [9u16; 4];
-    let answer = uncapped::plan(
-        r,
-        c,
-        b,
-        p,
-        h,
-        &mut cost_area,
-        &mut choice_area,
-        &mut answer_slots,
-    );
-    let kept = cleared(outcome_of(answer), n, &cost_area, &choice_area);
-    let alike = same(outcome_of(answer), outcome_of(full))
-        && answer_slots[0] == slots[0]
-        && answer_slots[1] == slots[1]
-        && answer_slots[2] == slots[2]
-        && answer_slots[3] == slots[3];
-    let found = plain::agrees(plain::search(r, c, b, p, h), n, answer, &answer_slots);
-    Tally {
+    let next = Tally {
         seed: d.seed,
-        searched: one_more(t.searched, kept && found),
-        agreed: one_more(t.agreed, alike),
-    }
+        searched: t.searched,
+        agreed: t.agreed,
+    };
+    compared(
+        next,
+        &demand[0..n],
+        &capacity[0..n],
+        &setup[0..n],
+        &unit[0..n],
+        &holding[0..n],
+    )
 }
 
 // Small numbers, so that ties are many, and a third of the demands are 0.
-fn made_up() {
+fn made_up_days() -> Tally {
     let mut t = Tally {
         seed: 0,
         searched: 0,
@@ -304,13 +376,16 @@ fn made_up() {
         t = made_up_day(t);
         i += 1;
     }
-    line(b"made-up days as searched ", t.searched, 2400);
-    line(b"made-up days as by the full path ", t.agreed, 2400);
+    t
 }
 
 fn main() {
-    marked();
-    refusals();
-    limits();
-    made_up();
+    line(b"marked days planned ", planned_days(), 6);
+    line(b"marked days refused ", refused_days(), 6);
+    line(b"refusals 2 to 5 ", early_refusals(), 5);
+    line(b"refusals 6 to 9 ", late_refusals(), 4);
+    line(b"limits ", long_days(), 7);
+    let t = made_up_days();
+    line(b"made-up days as searched ", t.searched, 2400);
+    line(b"made-up days as by the full path ", t.agreed, 2400);
 }

@@ -70,7 +70,7 @@ module _ (d : Day) (x : ℕ → ℕ) (wide : Wide d x) (i : ℕ) (few : i ≤ ma
     cost = cost-low;
     setups = omega (arith, sum-low (λ k. setupAt (x k)) 1 i few (λ k l. setup-low (x k)));
     made = short-low x i few (wide .amount);
-    needed = short-low (at (d .demand)) i few (wide .demand);
+    demanded = short-low (at (d .demand)) i few (wide .demand);
   }
 
 -- a judged plan's cost fits a signed 64-bit number

@@ -22,7 +22,7 @@ use Rattle.weigher.specs.Verdict.{breaks, ruleOf, ruleAt}
 
 -- the sums through the first i periods: sum (1), setups, X_i and R_i
 abbrev pub sumsTo : Day → (ℕ → ℕ) → ℕ → Sums
-sumsTo d x i = record { cost = costTo d x i; setups = setups i x; made = sumTo x i; needed = demandTo d i }
+sumsTo d x i = record { cost = costTo d x i; setups = setups i x; made = sumTo x i; demanded = demandTo d i }
 
 -- a broken rule, or the sums
 abbrev pub stepOn : Bool → Rule → Sums → Step
@@ -33,21 +33,21 @@ stepOn false r s = Kept s
 abbrev pub stepAt : Day → (ℕ → ℕ) → ℕ → Step
 stepAt d x k = stepOn (breaks d x k) (ruleAt d x k) (sumsTo d x (suc k))
 
--- the same from one period's entries and the sums before it, in the report's order: what making costs, then the upkeep
+-- the same from one period's entries and the sums before it, in the report's order: what making costs, then the holding cost
 abbrev pub nextOf : Period → ℕ → Sums → Sums
 nextOf p x s = record {
-  cost = s .cost + making (p .setup) (p .unit) x + p .holding * (s .made + x - (s .needed + p .demand));
+  cost = s .cost + making (p .setup) (p .unit) x + p .holding * (s .made + x - (s .demanded + p .demand));
   setups = s .setups + setupAt x;
   made = s .made + x;
-  needed = s .needed + p .demand;
+  demanded = s .demanded + p .demand;
 }
 
 abbrev pub stepOf : Period → ℕ → (last : Bool) → Sums → Step
 stepOf p x last s =
     let t = nextOf p x s in
     let above = ltb (p .capacity) x in
-    let short = ltb (t .made) (t .needed) in
-    let over = last && ltb (t .needed) (t .made) in
+    let short = ltb (t .made) (t .demanded) in
+    let over = last && ltb (t .demanded) (t .made) in
     stepOn (above || short || over) (ruleOf above short) t
 
 -- the entries of period k + 1
@@ -74,7 +74,7 @@ pub record Low (s : Sums) : Type 0 where
   pub cost : s .cost < 2 ^ 63
   pub setups : s .setups < 2 ^ 7
   pub made : s .made < 2 ^ 23
-  pub needed : s .needed < 2 ^ 23
+  pub demanded : s .demanded < 2 ^ 23
 
 -- tables of one length, at most 96, and a plan that has an amount for each period
 pub record Ready (d : Day) (plan : List ℕ) : Type 0 where

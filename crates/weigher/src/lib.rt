@@ -136,7 +136,7 @@ struct Sums {
     cost: u64,
     setups: u64,
     made: u64,
-    needed: u64,
+    demanded: u64,
 }
 
 // What one period does: the sums through it, or the rule that it breaks.
@@ -163,37 +163,37 @@ fn production(setup: u32, unit: u32, amount: u16) -> u64
 }
 
 // What keeping the inventory costs (report: h_i); document 01: upkeep.
-fn upkeep(rate: u32, made: u64, needed: u64) -> u64
-    requires { ⌜ (needed ≤ made) × (made < 2 ^ 24) ⌝ }
-    ensures { λ r. ⌜ Term (rate * (made - needed)) (2 ^ 56) r ⌝ }
+fn holding_cost(rate: u32, made: u64, demanded: u64) -> u64
+    requires { ⌜ (demanded ≤ made) × (made < 2 ^ 24) ⌝ }
+    ensures { λ r. ⌜ Term (rate * (made - demanded)) (2 ^ 56) r ⌝ }
 {
-    (rate as u64) * (made - needed)
+    (rate as u64) * (made - demanded)
 }
 
-// One period's rules in their order, then what making costs, then the upkeep.
+// One period's rules in their order, then what making costs, then the holding cost.
 fn judge(p: Period, amount: u16, last: bool, s: Sums) -> Step
     requires { ⌜ Low s ⌝ }
     ensures { λ r. ⌜ r ≡ stepOf p amount last s ⌝ }
 {
     let made = s.made + (amount as u64);
-    let needed = s.needed + (p.demand as u64);
+    let demanded = s.demanded + (p.demand as u64);
     if p.capacity < amount {
         return Step::Broke(Rule::AboveCapacity);
     }
-    if made < needed {
+    if made < demanded {
         return Step::Broke(Rule::Short);
     }
-    if last && needed < made {
+    if last && demanded < made {
         return Step::Broke(Rule::Over);
     }
     let making = s.cost + production(p.setup, p.unit, amount);
-    let cost = making + upkeep(p.holding, made, needed);
+    let cost = making + holding_cost(p.holding, made, demanded);
     let setups = s.setups + setup_of(amount);
     Step::Kept(Sums {
         cost,
         setups,
         made,
-        needed,
+        demanded,
     })
 }
 
@@ -237,7 +237,7 @@ fn walk(
         cost: 0,
         setups: 0,
         made: 0,
-        needed: 0,
+        demanded: 0,
     };
     let mut i = 0;
     while i < demand.len() {

@@ -1,4 +1,5 @@
--- `plain::search` is safe and ends. The measure is how many plans are left. Assumes nothing.
+-- `plain::search` meets its contract. The loop's invariant: the best of the plans weighed so far. The measure is how many are left.
+-- Assumes nothing.
 use Rattle.day.specs.Day.{dayOf}
 use Rattle.plain.specs.Search.{Chosen, chosen-more}
 use mathlib.Core.Path.{_≡_}

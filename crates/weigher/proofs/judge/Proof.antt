@@ -13,17 +13,17 @@ use Rattle.weigher.proofs.judge.Tie as tie
 -- past the last test, nothing is over
 kept : (c : tie.Joined3)
     → let a = c .before .before .before .before .before .before .before .args in
-    (a .last && ltb (a .s .needed + a .p .demand) (a .s .made + a .amount)) ≡ false
+    (a .last && ltb (a .s .demanded + a .p .demand) (a .s .made + a .amount)) ≡ false
 kept c = ⊎-elim (λ w. rw (w .0 .taken, w .1 .left) refl) (λ w. rw (w .left) refl) (c .if3 .came)
 
 add-made : tie.Need-add-made
 add-made c = search needs
 
-cast-needed : tie.Need-cast-needed
-cast-needed c = search needs
+cast-demanded : tie.Need-cast-demanded
+cast-demanded c = search needs
 
-add-needed : tie.Need-add-needed
-add-needed c = search needs
+add-demanded : tie.Need-add-demanded
+add-demanded c = search needs
 
 returns : tie.Need-returns
 returns c = simp (lt-ltb _ _ (c .if1 .taken))
@@ -42,8 +42,8 @@ production-requires c κs = search needs
 add-making : tie.Need-add-making
 add-making c = search needs
 
-upkeep-requires : tie.Need-upkeep-requires
-upkeep-requires c κs = search needs
+holding-cost-requires : tie.Need-holding-cost-requires
+holding-cost-requires c κs = search needs
 
 add-cost : tie.Need-add-cost
 add-cost c = search needs
@@ -64,7 +64,7 @@ returns-4 c =
       le-ltb _ _ (tested .if2 .left),
       kept joined,
       produced .production .ensures .is,
-      c .before .before .upkeep .ensures .is,
+      c .before .before .holding-cost .ensures .is,
       c .before .setup-of .ensures .is,
     )
 
@@ -73,14 +73,14 @@ judge-spec =
     tie.close
     (tie.spec
     add-made
-    cast-needed
-    add-needed
+    cast-demanded
+    add-demanded
     returns
     returns-2
     returns-3
     production-requires
     add-making
-    upkeep-requires
+    holding-cost-requires
     add-cost
     setup-of-requires
     add-setups

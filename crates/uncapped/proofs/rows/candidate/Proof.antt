@@ -3,8 +3,8 @@ use borrow.Author.Needs.{needs}
 use Rattle.uncapped.proofs.rows.candidate.Statement.{statement}
 use Rattle.uncapped.proofs.rows.candidate.Tie as tie
 
-upkeep-requires : tie.Need-upkeep-requires
-upkeep-requires c κs = search needs
+holding-cost-requires : tie.Need-holding-cost-requires
+holding-cost-requires c κs = search needs
 
 add-held : tie.Need-add-held
 add-held c = search needs
@@ -31,7 +31,7 @@ pub candidate-spec : {M : Type 1} → statement M
 candidate-spec =
     tie.close
     (tie.spec
-    upkeep-requires
+    holding-cost-requires
     add-held
     add-made
     making-requires

@@ -1,12 +1,12 @@
--- `uncapped::slots::count` meets its contract. The invariant: the setups of the first k slots are counted. Assumes nothing.
+-- `areas::count` meets its contract. The invariant: the setups of the first k slots are counted. Assumes nothing.
 use mathlib.Core.Path.{_≡_}
 use Prim.Native.Nat.{_-_, _≤_}
 use native.Mathlib.Numerals.{add-one}
 use native.Mathlib.Omega.{arith}
 use Rattle.day.specs.Sums.{at}
 use Rattle.day.specs.Plan.{setups}
-use Rattle.uncapped.proofs.slots.count.Statement.{statement}
-use Rattle.uncapped.proofs.slots.count.Tie as tie
+use Rattle.areas.proofs.count.Statement.{statement}
+use Rattle.areas.proofs.count.Tie as tie
 
 abbrev Inv-loop : tie.InvT-loop
 Inv-loop slots n made₀ k₀ made k = (k ≤ n) × (made ≤ k) × (made ≡ setups k (at slots))
