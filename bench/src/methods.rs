@@ -10,29 +10,42 @@ fn production(day: &Day, i: usize, x: u64) -> u64 {
     }
 }
 
-/// Recursion (5) over the totals that can be reached, two cost rows taking turns.
+/// Recursion (5) over the totals that can be reached, two cost rows taking turns. Of the totals before a period that a total after it
+/// can come from, a queue keeps the cheapest at its head: both ends of that window only move up.
 pub fn full(day: &Day, costs: &mut [u64], choices: &mut [u16], slots: &mut [u16]) -> u64 {
     let (n, total) = (day.periods(), day.total() as usize);
     let width = total + 1;
     let (mut before, mut after) = costs[..2 * width].split_at_mut(width);
     before[0] = 0;
     let (mut low, mut high) = (0, 0);
+    let mut queue = Vec::with_capacity(width);
     for i in 0..n {
-        let capacity = day.capacity[i] as usize;
+        let (capacity, setup, unit) = (day.capacity[i] as usize, day.setup[i] as u64, day.unit[i] as u64);
         let (floor, top) = (low + day.demand[i] as usize, (high + capacity).min(total));
-        let row = &mut choices[i * width..(i + 1) * width];
+        let key = |y: usize| before[y] + unit * (top - y) as u64;
+        let (mut head, mut next) = (0, low);
+        queue.clear();
         for made in floor..=top {
-            let mut best = u64::MAX;
-            let mut amount = 0;
-            for x in made.saturating_sub(high)..=capacity.min(made - low) {
-                let price = before[made - x] + production(day, i, x as u64);
+            while next < made && next <= high {
+                while queue.len() > head && key(queue[queue.len() - 1]) >= key(next) {
+                    queue.pop();
+                }
+                queue.push(next);
+                next += 1;
+            }
+            while head < queue.len() && queue[head] + capacity < made {
+                head += 1;
+            }
+            let (mut best, mut amount) = (if made <= high { before[made] } else { u64::MAX }, 0);
+            if head < queue.len() {
+                let x = made - queue[head];
+                let price = before[queue[head]] + setup + unit * x as u64;
                 if price < best {
-                    best = price;
-                    amount = x;
+                    (best, amount) = (price, x);
                 }
             }
             after[made] = best + day.holding[i] as u64 * (made - floor) as u64;
-            row[made] = amount as u16;
+            choices[i * width + made] = amount as u16;
         }
         (low, high) = (floor, top);
         (before, after) = (after, before);
