@@ -28,10 +28,6 @@ pub sum-ext : (f g : ℕ → ℕ) (n : ℕ) → ((k : ℕ) → k < n → f k ≡
 sum-ext f g zero h = refl
 sum-ext f g (suc n) h = omega (arith, sum-ext f g n (λ k l. h k (omega arith)), h n (omega arith))
 
-pub sum-le : (f g : ℕ → ℕ) (n : ℕ) → ((k : ℕ) → k < n → f k ≤ g k) → sumTo f n ≤ sumTo g n
-sum-le f g zero h = omega arith
-sum-le f g (suc n) h = omega (arith, sum-le f g n (λ k l. h k (omega arith)), h n (omega arith))
-
 -- a sum over more periods is no smaller
 pub sum-grows : (f : ℕ → ℕ) (i n : ℕ) → i ≤ n → sumTo f i ≤ sumTo f n
 sum-grows f i zero h = rw (le-zero h) (omega arith)

@@ -30,10 +30,6 @@ abbrev pub firstOf : ℕ → (ℕ → Option Solution) → ℕ → Option Soluti
 firstOf n f zero = none
 firstOf n f (suc i) = prefer n (firstOf n f i) (f i)
 
-pub firstOf-ext : (n : ℕ) (f g : ℕ → Option Solution) (i : ℕ) → ((l : ℕ) → l < i → f l ≡ g l) → firstOf n f i ≡ firstOf n g i
-firstOf-ext n f g zero e = refl
-firstOf-ext n f g (suc i) e = let p = firstOf-ext n f g i (λ l h. e l (omega arith)) in let q = e i (omega arith) in rw (p, q) refl
-
 -- y is of one of the classes P 0 .. P (i - 1)
 abbrev pub Some : (ℕ → (ℕ → ℕ) → Type 0) → ℕ → (ℕ → ℕ) → Type 0
 Some P i y = (l : ℕ) × (l < i) × P l y

@@ -38,13 +38,6 @@ rest M m l = held M m m - held M m l
 abbrev pub price : Model → (ℕ → ℕ) → ℕ → ℕ → ℕ
 price M costs m l = costs l + production M l (M .floor m - M .floor l) + rest M m l
 
--- where nothing more is demanded, the last step is free
-pub price-still : (M : Model) (costs : ℕ → ℕ) (m : ℕ) → M .floor (suc m) ≡ M .floor m → price M costs (suc m) m ≡ costs m
-price-still M costs m same =
-    let e : M .floor (suc m) - M .floor m ≡ 0 = omega arith in
-    let f : M .floor (suc m) - M .floor (suc m) ≡ 0 = omega arith in
-    omega (arith, ap (production M m) e, ap (λ (v : ℕ). M .holding m * v) f)
-
 module _ (M : Model) (rising : Rising M) (unlimited : Unlimited M) (l m : ℕ) (lt : l < m) (y z : ℕ → ℕ)
     (full : sumTo y l ≡ M .floor l) (t : Through M l m y z) where
   low-sum : (j : ℕ) → j ≤ l → sumTo z j ≡ sumTo y j
