@@ -6,8 +6,7 @@ use mathlib.Core.Option.{Option, none, some, Option·some-ne-none}
 use Prim.Native.Nat.{ℕ, zero, suc, _+_, _-_, _*_, _≤_, _<_}
 use native.Mathlib.Nat.{mul-le-mul}
 use native.Mathlib.Omega.{arith}
-use lib.ListN.{length, drop, replicate, length-append, length-drop, List·getD-append}
-use lib.Seq.{drop-at}
+use lib.ListN.{length, drop, replicate, List·getD-append}
 use borrow.Rule.Slice.PartMut.{midOf, putMid, mid-len, same-len-mid, drop-put}
 use Rattle.day.specs.declared.Refusal.{Refusal}
 use Rattle.day.specs.declared.Check.{Check}
