@@ -1,14 +1,13 @@
 -- What the work of the equal path starts from and ends with; the plan of a day in which nothing can be made. Assumes nothing.
 use mathlib.Core.Path.{_≡_, refl, sym, ap, _∙_}
 use mathlib.Core.List.{List}
-use Prim.Native.Nat.{ℕ, zero, suc, _+_, _-_, _*_, _≤_, _<_}
+use Prim.Native.Nat.{ℕ, zero, suc, _-_, _*_, _≤_, _<_}
 use native.Mathlib.Omega.{arith}
 use lib.ListN.{length}
 use Rattle.day.specs.Sums.{at, sumTo}
-use Rattle.day.specs.Plan.{Precedes}
 use Rattle.day.specs.Day.{Day, periods, total}
 use Rattle.checks.specs.Passed.{Limits}
-use Rattle.theory.specs.Model.{Model, Unlimited, production, costTo, FeasibleTo}
+use Rattle.theory.specs.Model.{Model, Unlimited, production, costTo}
 use Rattle.theory.specs.Recursion.{PlanOf}
 use Rattle.theory.specs.FlorianKlein.{no-room}
 use Rattle.theory.specs.Base.{modelOf, model-unlimited, covered-iff}

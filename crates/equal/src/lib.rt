@@ -9,7 +9,6 @@ ghost use Rattle.day.specs.Day.{dayOf};
 ghost use Rattle.day.specs.Refusals.{checked};
 ghost use Rattle.day.specs.Outcome.{Accepted};
 ghost use Rattle.day.specs.Paths.{Runs, refusal, equal};
-ghost use Rattle.theory.specs.Base.{modelOf};
 ghost use Rattle.florian_klein.specs.Rows.{Sized};
 ghost use Rattle.equal.specs.Solved.{Ready, Solved};
 use day::Answer;

@@ -4,24 +4,21 @@ use mathlib.Core.Path.{_≡_, refl, sym, ap, _∙_}
 use mathlib.Core.List.{List, [], _∷_}
 use mathlib.Core.Option.{Option, none, some}
 use mathlib.Core.Logic.{⊎-elim}
-use Prim.Native.Nat.{ℕ, zero, suc, _+_, _-_, _*_, _≤_, _<_}
-use native.Mathlib.Nat.{eq-or-lt-of-le, le-of-suc-le-suc, mul-le-mul-right}
+use Prim.Native.Nat.{ℕ, zero, suc, _+_, _*_, _≤_, _<_}
+use native.Mathlib.Nat.{eq-or-lt-of-le, le-of-suc-le-suc}
 use native.Mathlib.Omega.{arith}
-use lib.ListN.{length, take, drop}
+use lib.ListN.{take, drop}
 use lib.Seq.{take-take, getD-take}
-use Rattle.day.specs.Sums.{at, sumTo}
+use Rattle.day.specs.Sums.{at}
 use Rattle.day.specs.Plan.{Precedes}
-use Rattle.day.specs.Day.{Day, periods, demandTo}
-use Rattle.checks.specs.Passed.{Limits}
 use Rattle.theory.specs.Model.{Model, Rising, Unlimited, costTo}
 use Rattle.theory.specs.Stages.{Solution, Leads, Answers}
 use Rattle.theory.specs.Recursion.{PlanOf}
 use Rattle.theory.specs.Candidates.{Some, keep-old, take-new}
 use Rattle.theory.specs.Regeneration.{Fits, Right}
 use Rattle.theory.specs.FlorianKlein.{Equal, byLoads, florianKlein-cover}
-use Rattle.theory.specs.Reachable.{Covered, high, interval}
+use Rattle.theory.specs.Reachable.{Covered, interval}
 use Rattle.loads.specs.Bounds.{marker, stageMost}
-use Rattle.loads.specs.Told.{Told}
 use Rattle.florian_klein.specs.Order.{Sooner}
 use Rattle.florian_klein.specs.Rows.{Held, Kept, rowOf, solutionOf}
 

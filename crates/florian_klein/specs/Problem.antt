@@ -1,13 +1,12 @@
 -- The days that the equal path is for, and one candidate more for a row. Main statement: `considered`. Assumes nothing.
-use mathlib.Core.Path.{_≡_, refl, sym, ap, _∙_}
+use mathlib.Core.Path.{_≡_}
 use mathlib.Core.List.{List}
 use mathlib.Core.Option.{Option, some}
 use Prim.Native.Nat.{ℕ, zero, suc, _+_, _-_, _*_, _≤_, _<_}
 use native.Mathlib.Nat.{mul-le-mul-left}
 use native.Mathlib.Numerals.{add-one}
 use native.Mathlib.Omega.{arith}
-use lib.ListN.{length}
-use Rattle.day.specs.Sums.{at, sumTo}
+use Rattle.day.specs.Sums.{at}
 use Rattle.day.specs.Day.{Day, periods, demandTo, capacityTo}
 use Rattle.checks.specs.Passed.{Limits}
 use Rattle.theory.specs.Model.{Model, costTo}
@@ -20,7 +19,7 @@ use Rattle.theory.specs.Base.{modelOf, model-rising, model-unlimited, covered-i
 use Rattle.theory.specs.Demands.{Supplied}
 use Rattle.loads.specs.Bounds.{marker, stageMost}
 use Rattle.florian_klein.specs.Order.{Sooner}
-use Rattle.florian_klein.specs.Rows.{Held, Kept, Candidate, Sized, rowOf, solutionOf}
+use Rattle.florian_klein.specs.Rows.{Held, Kept, Candidate, rowOf, solutionOf}
 use Rattle.florian_klein.specs.Best.{Row, Best, old-stays, new-goes, kept-less, kept-trans, best-kept, row-found}
 
 -- one capacity throughout, not 0, and enough of it

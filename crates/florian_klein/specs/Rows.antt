@@ -1,8 +1,8 @@
 -- What is kept of the rows of the equal path, and what it means. Assumes nothing.
-use mathlib.Core.Path.{_≡_, refl, sym, ap, _∙_}
+use mathlib.Core.Path.{_≡_, ap, _∙_}
 use mathlib.Core.List.{List, _++_}
 use mathlib.Core.Option.{Option, none, some}
-use Prim.Native.Nat.{ℕ, _+_, _-_, _*_, _/_, _%_, _≤_, _<_, min}
+use Prim.Native.Nat.{ℕ, _+_, _*_, _/_, _%_, _≤_, min}
 use native.Mathlib.Omega.{arith}
 use lib.ListN.{length, take, drop}
 use Rattle.day.specs.Sums.{at}
@@ -11,7 +11,7 @@ use Rattle.theory.specs.Stages.{Solution}
 use Rattle.theory.specs.Regeneration.{glue}
 use Rattle.theory.specs.Loads.{loadsTo}
 use Rattle.loads.specs.declared.Loads.{Loads}
-use Rattle.loads.specs.Bounds.{marker, stageMost}
+use Rattle.loads.specs.Bounds.{stageMost}
 use Rattle.loads.specs.Cells.{indexOf}
 use Rattle.loads.specs.Told.{Told}
 use Rattle.loads.specs.Run.{Ran}

@@ -1,14 +1,12 @@
 //! The rows of the equal path. Row m is the plan of the first m periods that leaves the store empty, with its cost: the first of
 //! row l and a run from l to m, over l below m. Row m stands in the choice area from m × n on, its cost in cell m of the cost area.
 ghost use mathlib.Core.Path.{_≡_};
-ghost use mathlib.Core.Bool.{Bool};
 ghost use Prim.Native.Nat.{ℕ, _+_, _-_, _*_, _≤_, _<_, _/_, _%_, min};
-ghost use lib.ListN.{length, take, drop};
-ghost use Rattle.day.specs.Sums.{at, sumTo};
+ghost use lib.ListN.{length};
+ghost use Rattle.day.specs.Sums.{at};
 ghost use Rattle.day.specs.Day.{dayOf, demandTo};
 ghost use Rattle.checks.specs.Passed.{Limits};
 ghost use Rattle.theory.specs.Base.{modelOf};
-ghost use Rattle.theory.specs.Loads.{loadsTo};
 ghost use Rattle.loads.specs.Bounds.{stageMost};
 ghost use Rattle.loads.specs.Cells.{indexOf};
 ghost use Rattle.florian_klein.specs.Order.{Ordered, Decided};

@@ -1,7 +1,7 @@
 -- One state of a run after one period more, as numbers: which of three amounts the period makes, and what the state then costs.
 -- Main definition: `cellOf`. Assumes nothing.
 use mathlib.Core.Path.{_≡_, refl}
-use Prim.Native.Nat.{ℕ, _+_, _-_, _*_, _/_, _%_, _≤_, _<_}
+use Prim.Native.Nat.{ℕ, _+_, _-_, _*_, _/_, _%_, _≤_}
 use native.Mathlib.Decide.{decLt}
 use native.Mathlib.Omega.{arith}
 use Rattle.day.specs.Plan.{making}

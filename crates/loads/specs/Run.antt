@@ -2,7 +2,7 @@
 -- Main statements: `ran-none` and `ran-more`, what a loop over the periods keeps; `back-plan`, the run read back. Assumes nothing.
 use mathlib.Core.Path.{_≡_, refl, sym, ap, _∙_}
 use mathlib.Core.List.{List, [], _∷_, _++_}
-use mathlib.Core.Option.{Option, none, some}
+use mathlib.Core.Option.{none, some}
 use mathlib.Core.Logic.{⊎-elim}
 use Prim.Native.Nat.{ℕ, zero, suc, _+_, _-_, _*_, _/_, _%_, _^_, _≤_, _<_}
 use native.Mathlib.Nat.{eq-or-lt-of-le, le-of-suc-le-suc, mul-le-mul-right}
@@ -14,11 +14,11 @@ use Rattle.theory.specs.Model.{Model}
 use Rattle.theory.specs.Stages.{Solution, begin}
 use Rattle.theory.specs.Recursion.{both?}
 use Rattle.theory.specs.Basics.{last, last-snoc}
-use Rattle.theory.specs.Loads.{loadsTo, Step, stay, one-part, one-full, Back, loads-back}
+use Rattle.theory.specs.Loads.{loadsTo, Step, stay, one-part, one-full, loads-back}
 use Rattle.loads.specs.declared.Loads.{Loads}
 use Rattle.loads.specs.declared.Period.{Period}
 use Rattle.loads.specs.Bounds.{marker, stageMost, rowMost}
-use Rattle.loads.specs.Cells.{indexOf, stateOf, cellOf}
+use Rattle.loads.specs.Cells.{indexOf, stateOf}
 use Rattle.loads.specs.Told.{Told, Amount, Chosen, told-most, At, Narrow, cell-told}
 use Rattle.loads.specs.Fill.{Filled, Advanced}
 

@@ -1,13 +1,12 @@
 -- What the numbers of a cell mean: the cost of the first of the runs to a state, or a mark that there is none, and what the last period makes.
 -- Main statement: `cell-told`. Assumes nothing.
-use mathlib.Core.Path.{_≡_, refl, sym, ap, _∙_}
-use mathlib.Core.List.{List, [], _∷_, _++_}
+use mathlib.Core.Path.{_≡_, refl, sym, ap}
 use mathlib.Core.Option.{Option, none, some}
 use Prim.Native.Nat.{ℕ, zero, suc, _+_, _-_, _*_, _^_, _≤_, _<_}
 use native.Mathlib.Decide.{decLe, decLt}
 use native.Mathlib.Omega.{arith}
 use Rattle.day.specs.Plan.{making}
-use Rattle.theory.specs.Basics.{pick, pick-yes, pick-no}
+use Rattle.theory.specs.Basics.{pick}
 use Rattle.theory.specs.Model.{Model, production}
 use Rattle.theory.specs.Stages.{Solution, better, choose, extend}
 use Rattle.theory.specs.Basics.{last, last-snoc}
@@ -15,7 +14,7 @@ use Rattle.theory.specs.Loads.{made, given, moves, loadsTo, loads-next}
 use Rattle.loads.specs.declared.Loads.{Loads}
 use Rattle.loads.specs.declared.Period.{Period}
 use Rattle.loads.specs.declared.Cell.{Cell}
-use Rattle.loads.specs.Bounds.{marker, productMost, stageMost, stockMost, product-small, making-small, made-small}
+use Rattle.loads.specs.Bounds.{marker, stageMost, product-small, making-small, made-small}
 use Rattle.loads.specs.Cells.{indexOf, nothing, offerOf, cheaperOf, loadOf, bestOf, cellOf}
 
 -- v is the cost of o, which is at most B; or it is the marker or more, and there is none

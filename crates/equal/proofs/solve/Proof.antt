@@ -1,6 +1,6 @@
 -- `equal::solve` meets its contract: without capacity nothing is made, and else the last row is the plan. Assumes nothing.
-use mathlib.Core.Path.{_≡_, refl, sym, ap, _∙_}
-use mathlib.Core.List.{List, _++_}
+use mathlib.Core.Path.{_≡_, refl, ap, _∙_}
+use mathlib.Core.List.{List}
 use Prim.Native.Nat.{ℕ, zero, suc, _+_, _-_, _*_, _<_}
 use borrow.Author.Needs.{needs}
 use borrow.Rule.Slice.PartMut.{midOf}
@@ -11,7 +11,6 @@ use Rattle.day.specs.Day.{Day, dayOf, periods}
 use Rattle.day.specs.Outcome.{Cleared}
 use Rattle.theory.specs.Base.{modelOf}
 use Rattle.florian_klein.specs.Best.{Row}
-use Rattle.florian_klein.specs.Problem.{Problem}
 use Rattle.equal.specs.Solved.{Ready, Solved, idle-solved}
 use Rattle.equal.proofs.solve.Statement.{statement}
 use Rattle.equal.proofs.solve.Tie as tie

@@ -1,6 +1,4 @@
 -- `equal::work` meets its contract: the tests leave what each step asks, and the steps what an accepted call leaves. Assumes nothing.
-use mathlib.Core.Path.{_≡_, refl, _∙_}
-use Prim.Native.Nat.{ℕ, _+_, _-_}
 use borrow.Author.Needs.{needs}
 use native.Mathlib.Omega.{arith}
 use lib.ListN.{length}

@@ -1,7 +1,7 @@
 -- `florian_klein::copy` meets its contract. The invariant: the first i cells are alike. Assumes nothing.
 use mathlib.Core.Path.{_≡_, refl, sym, ap, _∙_}
 use mathlib.Core.List.{List, [], _∷_, _++_}
-use Prim.Native.Nat.{ℕ, suc, _+_, _-_, _≤_, _<_}
+use Prim.Native.Nat.{ℕ, _+_, _-_, _≤_, _<_}
 use borrow.Author.Needs.{needs}
 use native.Mathlib.Numerals.{add-one}
 use native.Mathlib.Omega.{arith}

@@ -7,7 +7,7 @@ use borrow.Rule.Slice.PartMut.{putMid, take-put}
 use native.Mathlib.Omega.{arith}
 use lib.ListN.{length, set}
 use lib.Seq.{take-set-le, getD-set-same}
-use Rattle.florian_klein.specs.Rows.{Sized, rowOf}
+use Rattle.florian_klein.specs.Rows.{Sized}
 use Rattle.florian_klein.specs.Problem.{Stored}
 use Rattle.florian_klein.proofs.Parts.{put-mid, square-small, row-low}
 use Rattle.florian_klein.proofs.keep.Statement.{statement}

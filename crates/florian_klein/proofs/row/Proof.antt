@@ -1,5 +1,5 @@
 -- `florian_klein::row` meets its contract. The invariant: the first of the candidates before l is held in row m. Assumes nothing.
-use mathlib.Core.Path.{_≡_, refl, sym, ap, _∙_}
+use mathlib.Core.Path.{_≡_, refl, ap, _∙_}
 use mathlib.Core.List.{List}
 use Prim.Native.Nat.{ℕ, suc, _+_, _-_, _*_, _≤_, _<_}
 use borrow.Author.Needs.{needs}
@@ -12,8 +12,8 @@ use Rattle.day.specs.Sums.{at, sum-grows}
 use Rattle.day.specs.Day.{Day, dayOf, periods, demandTo}
 use Rattle.theory.specs.Base.{modelOf}
 use Rattle.loads.specs.Bounds.{marker}
-use Rattle.florian_klein.specs.Rows.{Sized, Kept, sized-as}
-use Rattle.florian_klein.specs.Best.{Row, Best, kept-trans, row-kept, best-none}
+use Rattle.florian_klein.specs.Rows.{Kept, sized-as}
+use Rattle.florian_klein.specs.Best.{Row, kept-trans, row-kept, best-none}
 use Rattle.florian_klein.specs.Problem.{Problem, Considered, Found, all-considered}
 use Rattle.florian_klein.proofs.row.Statement.{statement}
 use Rattle.florian_klein.proofs.row.Tie as tie

@@ -2,13 +2,13 @@
 use mathlib.Core.Path.{_≡_, refl, ap, _∙_}
 use mathlib.Core.List.{List}
 use mathlib.Core.Logic.{⊎-elim}
-use Prim.Native.Nat.{ℕ, suc, _+_, _-_, _*_, _≤_, _<_}
+use Prim.Native.Nat.{ℕ, _+_, _-_, _*_, _≤_, _<_}
 use borrow.Author.Needs.{needs}
 use borrow.Rule.Slice.PartMut.{midOf, mid-len, same-len-mid}
 use native.Mathlib.Nat.{eq-or-lt-of-le, mul-le-mul-right}
 use native.Mathlib.Numerals.{add-one}
 use native.Mathlib.Omega.{arith}
-use lib.ListN.{length, set, length-set}
+use lib.ListN.{length, length-set}
 use lib.Seq.{getD-set-same}
 use Rattle.day.specs.Sums.{at, below}
 use Rattle.day.specs.Day.{Day, dayOf, periods, demandTo}
@@ -16,7 +16,7 @@ use Rattle.theory.specs.Base.{modelOf, model-rising, model-unlimited}
 use Rattle.theory.specs.FlorianKlein.{florianKlein-right, florianKlein-zero}
 use Rattle.florian_klein.specs.Rows.{sized-as}
 use Rattle.florian_klein.specs.Best.{Row, row-kept}
-use Rattle.florian_klein.specs.Problem.{Problem, Found}
+use Rattle.florian_klein.specs.Problem.{Found}
 use Rattle.florian_klein.proofs.rows.Statement.{statement}
 use Rattle.florian_klein.proofs.rows.Tie as tie
 

@@ -8,7 +8,6 @@ use native.Mathlib.Nat.{eq-or-lt-of-le}
 use native.Mathlib.Omega.{arith}
 use lib.ListN.{length}
 use Rattle.day.specs.Sums.{at}
-use Rattle.day.specs.Plan.{Smaller}
 use Rattle.theory.specs.Order.{means-smaller}
 use Rattle.florian_klein.proofs.smaller.Statement.{statement}
 use Rattle.florian_klein.proofs.smaller.Tie as tie

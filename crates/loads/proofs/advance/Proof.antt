@@ -3,7 +3,6 @@ use mathlib.Core.Path.{_≡_}
 use Prim.Native.Nat.{ℕ, suc, _-_, _≤_}
 use borrow.Author.Needs.{needs}
 use native.Mathlib.Omega.{arith}
-use lib.ListN.{length}
 use Rattle.loads.specs.Fill.{Advanced, advanced-none, advanced-more}
 use Rattle.loads.proofs.advance.Statement.{statement}
 use Rattle.loads.proofs.advance.Tie as tie

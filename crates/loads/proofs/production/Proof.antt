@@ -1,9 +1,7 @@
 -- `loads::production` meets its contract, by the two cases of `making`. Assumes nothing.
-use mathlib.Core.Path.{_≡_, refl, sym}
-use mathlib.Core.Logic.{⊎-elim}
+use mathlib.Core.Path.{_≡_, refl}
 use Prim.Native.Nat.{ℕ, zero, suc, _+_, _*_}
 use borrow.Author.Needs.{needs}
-use native.Mathlib.Omega.{arith}
 use Rattle.day.specs.Plan.{making}
 use Rattle.loads.proofs.production.Statement.{statement}
 use Rattle.loads.proofs.production.Tie as tie

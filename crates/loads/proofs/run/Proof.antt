@@ -1,5 +1,5 @@
 -- `loads::run` meets its contract. The invariant: the row and the amounts are those of the runs of k periods. Assumes nothing.
-use mathlib.Core.Path.{_≡_, refl, sym, ap, _∙_}
+use mathlib.Core.Path.{_≡_, refl, ap, _∙_}
 use mathlib.Core.List.{List}
 use Prim.Native.Nat.{ℕ, suc, _+_, _-_, _*_, _^_, _≤_, _<_}
 use borrow.Author.Needs.{needs}

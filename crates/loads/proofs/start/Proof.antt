@@ -3,7 +3,7 @@ use mathlib.Core.Path.{_≡_, refl}
 use Prim.Native.Nat.{ℕ, zero, suc, _-_, _≤_, _<_}
 use borrow.Author.Needs.{needs}
 use native.Mathlib.Omega.{arith}
-use lib.ListN.{length, length-set}
+use lib.ListN.{length-set}
 use Rattle.loads.specs.Bounds.{marker}
 use Rattle.loads.specs.Fill.{Filled, filled-none, filled-more}
 use Rattle.loads.specs.Run.{startOf}

@@ -1,5 +1,5 @@
 -- `loads::state_after` meets its contract: what it finds in turn is what `cellOf` says. Assumes nothing.
-use mathlib.Core.Path.{_≡_, refl, sym, _∙_}
+use mathlib.Core.Path.{_≡_, sym}
 use Prim.Native.Nat.{ℕ, _-_, _*_, _<_, _≤_}
 use borrow.Author.Needs.{needs}
 use native.Mathlib.Decide.{decLt}
