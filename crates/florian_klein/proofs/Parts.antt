@@ -31,7 +31,7 @@ end-length a xs = ap length (mid-end a xs) ∙ length-drop a xs
 pub square-small : (n : ℕ) → n ≤ 96 → n * n ≤ 9216
 square-small n h = omega (arith, mul-le-mul {n₁ = n} {m₁ = n} {n₂ = 96} {m₂ = 96} h h)
 
--- the work on the runs of up to n periods fits past the rows
+-- the work on the intervals of up to n periods fits past the rows
 pub past-rows : (n count : ℕ) (costs choices : List ℕ) → Sized n costs choices → count ≤ n
     → (2 * n + 1 ≤ length (midOf (n + 1) (length costs - (n + 1)) costs)) × (count * (2 * n + 2) ≤ length (midOf (n * n + n) (length choices - (n * n + n)) choices))
 past-rows n count costs choices s h = (

@@ -70,7 +70,7 @@ module _ (d : Day) (problem : Problem d) where
   capacity-to zero h = omega arith
   capacity-to (suc m) h = omega (arith, capacity-to m (omega arith), problem .one m h)
 
-  -- no run has more full loads than the day has periods
+  -- no interval has more full loads than the day has periods
   pub need-low : (m : ℕ) → m ≤ n → demandTo d m ≤ c * n
   need-low zero h = omega arith
   need-low (suc m) h = omega (arith, problem .supplied m h, capacity-to (suc m) h, mul-le-mul-left c h)

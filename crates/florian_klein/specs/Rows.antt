@@ -16,7 +16,7 @@ use Rattle.loads.specs.Cells.{indexOf}
 use Rattle.loads.specs.Told.{Told}
 use Rattle.loads.specs.Run.{Ran}
 
--- the loads of a run that makes W in all, and the index of the state that it ends in
+-- the loads of an interval that makes W in all, and the index of the state that it ends in
 pub record Split (W c : ℕ) (w : Loads) (top : ℕ) : Type 0 where
   pub full : w .full ≡ c
   pub part : w .part ≡ W % c
@@ -32,11 +32,11 @@ pub record Held (B v : ℕ) (plan : List ℕ) (o : Option Solution) : Type 0 whe
   pub told : Told B v o
   pub amounts : Amounts plan o
 
--- the run from l that makes W in `count` periods
+-- the interval from l that makes W in `count` periods
 abbrev pub runOf : Model → (l c W count : ℕ) → Option Solution
 runOf M l c W count = loadsTo M l c (W % c) count (W / c) (min 1 (W % c))
 
--- the areas that the equal path needs: the rows' costs and plans in front, the work on a run past them
+-- the areas that the equal path needs: the rows' costs and plans in front, the work on an interval past them
 pub record Sized (n : ℕ) (costs choices : List ℕ) : Type 0 where
   pub costs′ : length costs ≡ 6 * (n + 1)
   pub choices′ : length choices ≡ 4 * ((n + 1) * (n + 1))
@@ -49,12 +49,12 @@ pub record Kept (a b : ℕ) (costs choices costs₁ choices₁ : List ℕ) : Typ
   pub costs′ : take a costs₁ ≡ take a costs
   pub choices′ : take b choices₁ ≡ take b choices
 
--- past them stand the runs of `count` periods from l on
+-- past them stand the intervals of `count` periods from l on
 pub record Laid (M : Model) (n l : ℕ) (w : Loads) (count top : ℕ) (costs choices costs′ choices′ : List ℕ) : Type 0 where
   pub kept : Kept (n + 1) (n * n + n) costs choices costs′ choices′
   pub ran : Ran M l w count top (2 * n + 2) (drop (n + 1) costs′) (drop (n * n + n) choices′)
 
--- a run was tried: its cost and amounts
+-- an interval was tried: its cost and amounts
 pub record Trial (M : Model) (n l c W : ℕ) (costs choices : List ℕ) (r : ℕ) (costs′ choices′ plan : List ℕ) : Type 0 where
   pub kept : Kept (n + 1) (n * n + n) costs choices costs′ choices′
   pub held : Held (length plan * stageMost) r plan (runOf M l c W (length plan))
@@ -66,7 +66,7 @@ rowOf n choices m = take m (drop (m * n) choices)
 abbrev pub solutionOf : ℕ → List ℕ → List ℕ → ℕ → Solution
 solutionOf n costs choices m = record { cost = at costs m; plan = rowOf n choices m }
 
--- row l, and after it the run to the period after which `count` more are past
+-- row l, and after it the interval to the period after which `count` more are past
 pub record Candidate (M : Model) (n l c W count : ℕ) (costs choices : List ℕ) (r : ℕ) (costs₁ choices₁ plan : List ℕ) : Type 0 where
   pub kept : Kept (n + 1) (n * n + n) costs choices costs₁ choices₁
   pub held : Held ((l + count) * stageMost) r plan (glue (some (solutionOf n costs choices l)) (runOf M l c W count))

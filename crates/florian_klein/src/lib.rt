@@ -1,5 +1,5 @@
-//! The rows of the equal path. Row m is the plan of the first m periods that leaves the store empty, with its cost: the first of
-//! row l and a run from l to m, over l below m. Row m stands in the choice area from m × n on, its cost in cell m of the cost area.
+//! The rows of the equal path. Row m is the plan of the first m periods that leaves the inventory empty, with its cost: the first of
+//! row l and an interval from l to m, over l below m. Row m stands in the choice area from m × n on, its cost in cell m of the cost area.
 ghost use mathlib.Core.Path.{_≡_};
 ghost use Prim.Native.Nat.{ℕ, _+_, _-_, _*_, _≤_, _<_, _/_, _%_, min};
 ghost use lib.ListN.{length};
@@ -62,13 +62,13 @@ fn goes_first(v: u64, x: &[u16], w: u64, y: &[u16]) -> bool
     smaller(x, y)
 }
 
-// The loads of a run, and the state that it ends in.
+// The loads of an interval, and the state that it ends in.
 struct Lots {
     loads: Loads,
     top: usize,
 }
 
-// Where the state with j full loads stands that has a part load if there is one.
+// Where the state with j full loads stands that has a fractional load if there is one.
 fn state_of(j: u64, part: u64) -> usize
     requires { ⌜ j ≤ 96 ⌝ }
     ensures { λ r. ⌜ r ≡ indexOf j (min 1 part) ⌝ }
@@ -79,7 +79,7 @@ fn state_of(j: u64, part: u64) -> usize
     (2 * j + 1) as usize
 }
 
-// The loads that make `left` in all: as many full ones as it holds, and a part load where they leave something.
+// The loads that make `left` in all: as many full ones as it holds, and a fractional load where they leave something.
 fn split(left: u64, full: u16) -> Lots
     requires { ⌜ (0 < full) × (left ≤ full * 96) ⌝ }
     ensures { λ r. ⌜ Split left full (r .loads) (r .top) ⌝ }
@@ -96,7 +96,7 @@ fn split(left: u64, full: u16) -> Lots
     }
 }
 
-// The runs of `count` periods from l on, past the rows.
+// The intervals of `count` periods from l on, past the rows.
 fn lay(
     demand: &[u16],
     capacity: &[u16],
@@ -134,7 +134,7 @@ fn lay(
     );
 }
 
-// The run from l that makes `left` in as many periods as there are slots: its amounts, and its cost.
+// The interval from l that makes `left` in as many periods as there are slots: its amounts, and its cost.
 fn trial(
     demand: &[u16],
     capacity: &[u16],
@@ -171,7 +171,7 @@ fn trial(
     costs[n + 1 + top]
 }
 
-// Row l, and after it the run from l that makes `left`: as many periods as there are slots. Its amounts, and its cost.
+// Row l, and after it the interval from l that makes `left`: as many periods as there are slots. Its amounts, and its cost.
 fn candidate(
     demand: &[u16],
     capacity: &[u16],

@@ -1,4 +1,4 @@
--- One state of a run after one period more, as numbers: which of three amounts the period makes, and what the state then costs.
+-- One state of an interval after one period more, as numbers: which of three amounts the period makes, and what the state then costs.
 -- Main definition: `cellOf`. Assumes nothing.
 use mathlib.Core.Path.{_≡_, refl}
 use Prim.Native.Nat.{ℕ, _+_, _-_, _*_, _/_, _%_, _≤_}
@@ -12,14 +12,14 @@ use Rattle.loads.specs.declared.Period.{Period}
 use Rattle.loads.specs.declared.Cell.{Cell}
 use Rattle.loads.specs.Bounds.{marker}
 
--- where a row has j full loads and d part loads
+-- where a row has j full loads and d fractional loads
 abbrev pub indexOf : ℕ → ℕ → ℕ
 indexOf j d = 2 * j + d
 
 abbrev pub nothing : Cell
 nothing = record { cost = marker; amount = 0 }
 
--- x is made after a state that cost `before`, and what is then in store costs `hold`
+-- x is made after a state that cost `before`, and what is then in inventory costs `hold`
 abbrev pub offerOf : Period → (before x hold : ℕ) → Cell
 offerOf p before x hold = record { cost = before + (making (p .setup) (p .unit) x + hold); amount = x }
 
@@ -31,7 +31,7 @@ cheaperOf a b = pick (decLt (b .cost) (a .cost)) b a
 abbrev pub loadOf : Period → (ℕ → ℕ) → (s step n load hold : ℕ) → Cell → Cell
 loadOf p row s step n load hold best = pick (decLt 0 n) (cheaperOf best (offerOf p (row (s - step)) load hold)) best
 
--- nothing is made, or the part load, or a full one: of the equally cheap the smallest
+-- nothing is made, or the fractional load, or a full one: of the equally cheap the smallest
 abbrev pub bestOf : Period → Loads → (ℕ → ℕ) → (j d hold : ℕ) → Cell
 bestOf p w row j d hold =
     loadOf p row (indexOf j d) 2 j (w .full) hold (loadOf p row (indexOf j d) 1 d (w .part) hold (offerOf p (row (indexOf j d)) 0 hold))

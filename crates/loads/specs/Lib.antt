@@ -1,4 +1,4 @@
--- The runs of the equal path: what code keeps of them, and what it means. A module uses those above it.
+-- The intervals of the equal path: what code keeps of them, and what it means. A module uses those above it.
 pub mod Bounds
 pub mod Cells
 pub mod Told

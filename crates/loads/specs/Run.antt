@@ -1,5 +1,5 @@
--- What is kept of the runs from l on: a row of costs for the states after k periods, and for each period what it makes in each state.
--- Main statements: `ran-none` and `ran-more`, what a loop over the periods keeps; `back-plan`, the run read back. Assumes nothing.
+-- What is kept of the intervals from l on: a row of costs for the states after k periods, and for each period what it makes in each state.
+-- Main statements: `ran-none` and `ran-more`, what a loop over the periods keeps; `back-plan`, the interval read back. Assumes nothing.
 use mathlib.Core.Path.{_≡_, refl, sym, ap, _∙_}
 use mathlib.Core.List.{List, [], _∷_, _++_}
 use mathlib.Core.Option.{none, some}
@@ -32,7 +32,7 @@ abbrev pub startOf : ℕ → ℕ
 startOf zero = 0
 startOf (suc s) = marker
 
--- the runs of k periods from l on, in the states up to top; period i of the run has its amounts from i × width on
+-- the intervals of k periods from l on, in the states up to top; period i of the interval has its amounts from i × width on
 pub record Ran (M : Model) (l : ℕ) (w : Loads) (k top width : ℕ) (row picks : List ℕ) : Type 0 where
   pub costs : (j d : ℕ) → d ≤ 1 → indexOf j d ≤ top → Told (k * stageMost) (at row (indexOf j d)) (loadsTo M l (w .full) (w .part) k j d)
   pub amounts : (i j d : ℕ) → i < k → d ≤ 1 → indexOf j d ≤ top → Amount (at picks (i * width + indexOf j d)) (loadsTo M l (w .full) (w .part) (suc i) j d)
@@ -124,7 +124,7 @@ came full part j d less real (one-part h) =
 came full part j d less real (one-full h) =
     record { index = omega (arith, step-full full full (λ e. omega arith) refl); few = omega arith }
 
--- The amounts read back are the first of the runs to the state.
+-- The amounts read back are the first of the intervals to the state.
 module _ (M : Model) (l : ℕ) (w : Loads) (count top width : ℕ) (row picks : List ℕ) (less : w .part < w .full) (ran : Ran M l w count top width row picks) where
   pub back-plan : (k : ℕ) → k ≤ count → (j d : ℕ) → d ≤ 1 → (0 < d → 0 < w .part) → indexOf j d ≤ top → (f : Solution)
       → loadsTo M l (w .full) (w .part) k j d ≡ some f → backOf (w .full) width picks k (indexOf j d) ≡ f .plan

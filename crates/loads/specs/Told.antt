@@ -1,4 +1,4 @@
--- What the numbers of a cell mean: the cost of the first of the runs to a state, or a mark that there is none, and what the last period makes.
+-- What the numbers of a cell mean: the cost of the first of the intervals to a state, or a mark that there is none, and what the last period makes.
 -- Main statement: `cell-told`. Assumes nothing.
 use mathlib.Core.Path.{_≡_, refl, sym, ap}
 use mathlib.Core.Option.{Option, none, some}
@@ -79,7 +79,7 @@ given-left zero none o h = refl
 given-left zero (some a) o h = refl
 given-left (suc n) a o h = absurd (h (omega arith))
 
--- p is period l + k of the model, in a run from l
+-- p is period l + k of the model, in an interval from l
 pub record At (M : Model) (l k : ℕ) (p : Period) : Type 0 where
   pub setup : p .setup ≡ M .setup (l + k)
   pub unit : p .unit ≡ M .unit (l + k)
@@ -162,7 +162,7 @@ module _ (M : Model) (l k : ℕ) (p : Period) (w : Loads) (here : At M l k p) (n
       let g = none-given j in
       rw (loads-next M l (w .full) (w .part) k j d, a, b, e, f, g) refl
 
-  -- What the code finds of a state tells the first of the runs to it.
+  -- What the code finds of a state tells the first of the intervals to it.
   pub cell-told : Chosen (B + stageMost) (cellOf p w row j d) (Run (suc k) j d)
   cell-told = go (decLt X (p .due))
     where

@@ -1,4 +1,5 @@
-//! The runs of the equal path. A state of a run is how many full loads are made and whether the part load is:
+//! The regeneration intervals of the equal path (document 01: runs). A state of one is how many full loads are made and whether the fractional
+//! load (document 01: the part load) is:
 //! j and d stand at index 2 × j + d of a row of costs.
 ghost use mathlib.Core.Path.{_≡_};
 ghost use Prim.Native.Nat.{ℕ, _+_, _-_, _*_, _≤_, _<_, _/_, _%_};
@@ -17,13 +18,13 @@ ghost use Rattle.loads.specs.Bounds.{productMost, stockMost, rowMost};
 // A number above every cost: what can't be reached costs this or more.
 pub const NONE: u64 = 6000000000000000000;
 
-// What a run's periods make: nothing, a full load, or the part load, which is less.
+// What an interval's periods make: nothing, a full load, or the fractional load, which is less.
 pub struct Loads {
     pub full: u16,
     pub part: u16,
 }
 
-// A period of a run: its costs, and what the run must have made by its end.
+// A period of an interval: its costs, and what the interval must have made by its end.
 pub struct Period {
     pub setup: u32,
     pub unit: u32,
@@ -45,7 +46,7 @@ fn times(rate: u32, units: u64) -> u64
     rate as u64 * units
 }
 
-// What j full loads and d part loads make.
+// What j full loads and d fractional loads make.
 fn made_by(loads: Loads, j: u64, d: u64) -> u64
     requires { ⌜ (j ≤ 96) × (d ≤ 1) ⌝ }
     ensures { λ r. ⌜ (r ≡ made (loads .full) (loads .part) j d) × (r ≤ stockMost) ⌝ }
@@ -63,7 +64,7 @@ fn production(p: Period, x: u16) -> u64
     p.setup as u64 + times(p.unit, x as u64)
 }
 
-// To make x after a state that cost `before`, where it costs `hold` to hold what is then in store.
+// To make x after a state that cost `before`, where it costs `hold` to hold what is then in inventory.
 fn offer(p: Period, before: u64, x: u16, hold: u64) -> Cell
     requires { ⌜ (before ≤ rowMost) × (hold ≤ productMost) ⌝ }
     ensures { λ r. ⌜ r ≡ offerOf p before x hold ⌝ }
@@ -147,7 +148,7 @@ fn start(top: usize, row: &mut [u64])
     row[0] = 0;
 }
 
-// Period i, in a run that must have made `due` by its end.
+// Period i, in an interval that must have made `due` by its end.
 fn period_at(setup: &[u32], unit: &[u32], holding: &[u32], i: usize, due: u64) -> Period
     requires { ⌜ (i < length (now setup)) × (i < length (now unit)) × (i < length (now holding)) ⌝ }
     ensures { λ r. ⌜ Read (now (setup .entry)) (now (unit .entry)) (now (holding .entry)) i due r ⌝ }
@@ -160,7 +161,7 @@ fn period_at(setup: &[u32], unit: &[u32], holding: &[u32], i: usize, due: u64) -
     }
 }
 
-// The runs of `count` periods from l on: their costs by the states up to `top`, and what each period makes, from its number times `width` on.
+// The intervals of `count` periods from l on: their costs by the states up to `top`, and what each period makes, from its number times `width` on.
 pub fn run(
     demand: &[u16],
     capacity: &[u16],
@@ -212,7 +213,7 @@ fn before(full: u16, x: u16, s: usize) -> usize
     less(s, 1)
 }
 
-// The run that leads to the state at s, as many periods as there are slots.
+// The interval that leads to the state at s, as many periods as there are slots.
 pub fn read_back(full: u16, width: usize, picks: &[u16], s: usize, slots: &mut [u16])
     requires { ⌜ (s < width) × (length (now slots) * width ≤ length (now picks)) ⌝ }
     ensures { λ _. ⌜ now (slots .exit) ≡ backOf full width (now (picks .entry)) (length (now (slots .entry))) s ⌝ }

@@ -1,4 +1,4 @@
--- `florian_klein::candidate` meets its contract: row l is copied, and the run read back after it. Assumes nothing.
+-- `florian_klein::candidate` meets its contract: row l is copied, and the interval read back after it. Assumes nothing.
 use mathlib.Core.Path.{_≡_, ap, _∙_}
 use mathlib.Core.List.{List, _++_}
 use Prim.Native.Nat.{ℕ, _+_, _-_, _*_, _^_, _≤_, _<_}

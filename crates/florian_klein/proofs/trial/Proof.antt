@@ -1,4 +1,4 @@
--- `florian_klein::trial` meets its contract: the state that the run ends in tells its cost, and the run is read back from it. Assumes nothing.
+-- `florian_klein::trial` meets its contract: the state that the interval ends in tells its cost, and the interval is read back from it. Assumes nothing.
 use mathlib.Core.Path.{_≡_, refl, sym, ap, _∙_}
 use mathlib.Core.List.{List}
 use mathlib.Core.Option.{Option, none, some}

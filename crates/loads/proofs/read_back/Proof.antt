@@ -1,4 +1,4 @@
--- `loads::read_back` meets its contract. The invariant: what is still to be read, and then the slots written, are the run. Assumes nothing.
+-- `loads::read_back` meets its contract. The invariant: what is still to be read, and then the slots written, are the interval. Assumes nothing.
 use mathlib.Core.Path.{_≡_, refl, sym, _∙_}
 use mathlib.Core.List.{List, [], _∷_, _++_, append-nil, append-assoc}
 use Prim.Native.Nat.{ℕ, suc, _+_, _-_, _*_, _≤_, _<_}

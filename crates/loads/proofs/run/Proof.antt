@@ -1,4 +1,4 @@
--- `loads::run` meets its contract. The invariant: the row and the amounts are those of the runs of k periods. Assumes nothing.
+-- `loads::run` meets its contract. The invariant: the row and the amounts are those of the intervals of k periods. Assumes nothing.
 use mathlib.Core.Path.{_≡_, refl, ap, _∙_}
 use mathlib.Core.List.{List}
 use Prim.Native.Nat.{ℕ, suc, _+_, _-_, _*_, _^_, _≤_, _<_}
