@@ -1,4 +1,4 @@
--- The days of document 01 as models: N is R, H is h, and no ceiling is met.
+-- The days of document 01 as models: N is R, H is h, and no ceiling binds.
 -- Main statement: `optimal-iff`, a plan is the day's just where it is the model's. Assumes nothing.
 use mathlib.Core.Path.{_≡_, refl}
 use mathlib.Core.List.{List}

@@ -20,7 +20,7 @@ pub record Rising (M : Model) : Type 0 where
   pub nought : M .floor 0 ≡ 0
   pub rises : (k : ℕ) → M .floor k ≤ M .floor (suc k)
 
--- no ceiling is ever met: that of a model without a store limit is its whole demand
+-- no ceiling ever binds: that of a model without a store limit is its whole demand, and no plan makes more
 abbrev pub Unlimited : Model → Type 0
 Unlimited M = (i j : ℕ) → M .floor i ≤ M .ceiling j
 
