@@ -19,6 +19,11 @@ abbrev pub sumTo : (ℕ → ℕ) → ℕ → ℕ
 sumTo f zero = 0
 sumTo f (suc i) = sumTo f i + f i
 
+-- r is the value, and at most `top`: what a sum of such terms needs so that it fits
+pub record Term (value top r : ℕ) : Type 0 where
+  pub is : r ≡ value
+  pub low : r ≤ top
+
 -- what holds below i and at i holds below i + 1
 pub below : (P : ℕ → Type 0) (i : ℕ) → ((k : ℕ) → k < i → P k) → P i → (k : ℕ) → k < suc i → P k
 below P i all here k l = ⊎-elim (λ (e : k ≡ i). rw e here) (λ lt. all k lt) (eq-or-lt-of-le (le-of-suc-le-suc l))

@@ -18,7 +18,7 @@ use Rattle.dayfile.specs.declared.ReadAnswer.{ReadAnswer}
 use Rattle.dayfile.specs.declared.ReadAnswer.the-variants.{Periods}
 use Rattle.dayfile.specs.Answers.{shortest, Reading}
 use Rattle.dayfile.specs.Passed.{file-passed}
-use Rattle.report.specs.Text.{Held}
+use Rattle.lines.specs.Text.{Held}
 
 -- an accepted file has at most 96 periods
 pub read-few : (s : List ℕ) (before after : Day) (answer : ReadAnswer) (n : ℕ) → answer ≡ Periods n → Reading s before answer after → n ≤ maxPeriods

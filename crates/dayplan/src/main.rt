@@ -2,7 +2,7 @@
 //! (Document 01, "Marked days".)
 ghost use Prim.Native.Nat.{_+_};
 ghost use lib.ListN.{length};
-ghost use Rattle.report.specs.Text.{Held};
+ghost use Rattle.lines.specs.Text.{Held};
 ghost use Rattle.dayplan.specs.Input.{PieceOf, InputOf};
 use day::Answer;
 use day::Refusal;
@@ -61,7 +61,7 @@ fn read_input(file: &mut [u8]) -> Input
 
 fn print_refusal(r: Refusal) {
     let mut line = [0u8; 96];
-    let n = report::refusal_line(r, &mut line);
+    let n = lines::refusal_line(r, &mut line);
     io::write_all(STDOUT_FILENO, &line[0..n]);
 }
 
@@ -69,13 +69,13 @@ fn print_amount(demand: &[u16], plan: &[u16], i: usize)
     requires { ⌜ Held (now demand) (now plan) (i + 1) ⌝ }
 {
     let mut line = [0u8; 96];
-    let n = report::amount_line(demand, plan, i, &mut line);
+    let n = lines::amount_line(demand, plan, i, &mut line);
     io::write_all(STDOUT_FILENO, &line[0..n]);
 }
 
 fn print_totals(n: usize, totals: Totals) {
     let mut line = [0u8; 96];
-    let end = report::plan_line(n as u64, totals.cost, totals.setups, &mut line);
+    let end = lines::plan_line(n as u64, totals.cost, totals.setups, &mut line);
     io::write_all(STDOUT_FILENO, &line[0..end]);
 }
 

@@ -22,7 +22,7 @@ use Rattle.checks.specs.Passed.{Enough, passed, refused, first-refused, first-p
 use Rattle.theory.specs.Base.{modelOf, optimal-iff}
 use Rattle.theory.specs.Cut.{cost-ext, optimal-ext}
 use Rattle.theory.specs.Recursion.{leads-optimal}
-use Rattle.florian_klein.specs.Rows.{Sized}
+use Rattle.equal_rows.specs.Rows.{Sized}
 use Rattle.equal.specs.Solved.{Ready, Solved}
 
 -- a list without refusals has none in either part

@@ -9,7 +9,7 @@ ghost use Rattle.day.specs.Day.{dayOf};
 ghost use Rattle.day.specs.Refusals.{checked};
 ghost use Rattle.day.specs.Outcome.{Accepted};
 ghost use Rattle.day.specs.Paths.{Runs, refusal, equal};
-ghost use Rattle.florian_klein.specs.Rows.{Sized};
+ghost use Rattle.equal_rows.specs.Rows.{Sized};
 ghost use Rattle.equal.specs.Solved.{Ready, Solved};
 use day::Answer;
 use day::Check;
@@ -67,7 +67,7 @@ fn solve(
         areas::clear_choices(slots, n);
         return 0;
     }
-    florian_klein::rows(
+    equal_rows::rows(
         demand,
         capacity,
         setup,
@@ -78,7 +78,7 @@ fn solve(
         slots,
     );
     let from = n * n;
-    florian_klein::copy(&choices[from..from + n], slots);
+    equal_rows::copy(&choices[from..from + n], slots);
     costs[n]
 }
 

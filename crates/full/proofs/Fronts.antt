@@ -11,8 +11,8 @@ use Rattle.day.specs.Day.{Day, periods}
 use Rattle.day.specs.Outcome.{Memory, Cleared, Accepted}
 use Rattle.day.specs.Paths.{full}
 use Rattle.theory.specs.Full.{back}
-use Rattle.table.specs.Table.{cellAt, Fillable, Filled, Readable, ReadBack}
-use Rattle.table.specs.Right.{back-length, filled-longer, filled-traced, filled-optimal, filled-cost, filled-setups}
+use Rattle.full_table.specs.Table.{cellAt, Fillable, Filled, Readable, ReadBack}
+use Rattle.full_table.specs.Right.{back-length, filled-longer, filled-traced, filled-optimal, filled-cost, filled-setups}
 use Rattle.full.specs.Work.{Tested, Planned}
 
 -- past a front that has been written, the list is as it was

@@ -7,7 +7,7 @@ use Rattle.day.specs.Sums.{at}
 use Rattle.day.specs.Day.{Day, periods}
 use Rattle.day.specs.Plan.{Optimal}
 use Rattle.day.specs.Outcome.{Memory, Counts}
-use Rattle.table.specs.Table.{Fillable}
+use Rattle.full_table.specs.Table.{Fillable}
 
 -- what tests 1 to 7 leave, where T is R over the day
 pub record Tested (d : Day) (m : Memory) (T : ℕ) : Type 0 where

@@ -59,7 +59,7 @@ fn fill_and_read(
     let n = demand.len();
     let cost_cells = 2 * (total + 1);
     let choice_cells = n * (total + 1);
-    let cost = table::fill(
+    let cost = full_table::fill(
         demand,
         capacity,
         setup,
@@ -71,7 +71,7 @@ fn fill_and_read(
     );
     Totals {
         cost,
-        setups: table::read_back(choices, slots, n, total),
+        setups: full_table::read_back(choices, slots, n, total),
     }
 }
 

@@ -17,15 +17,6 @@ loop-holds c = clearing-none _ _
 mul-choices : tie.Need-mul-choices Inv-loop μ-loop
 mul-choices c = omega (arith, c .before .before .good)
 
-slice-write-choices : tie.Need-slice-write-choices Inv-loop μ-loop
-slice-write-choices c = omega arith
-
-add-k : tie.Need-add-k Inv-loop μ-loop
-add-k c = omega arith
-
-loop-less : tie.Need-loop-less Inv-loop μ-loop
-loop-less c = omega arith
-
 loop-again : tie.Need-loop-again Inv-loop μ-loop
 loop-again c = clearing-more _ _ _ _ (c .before .before .pre) (c .before .loop .inv) (c .loop-test .taken)
 
@@ -38,4 +29,4 @@ returns c = clearing-all _ _ _ _ (c .before .loop .inv) (c .loop-test .left)
 pub clear-choices-spec : {M : Type 1} → statement M
 clear-choices-spec =
     tie.close
-    (tie.spec Inv-loop μ-loop loop-holds mul-choices slice-write-choices add-k loop-less loop-again same-length returns)
+    (tie.spec Inv-loop μ-loop loop-holds mul-choices (λ c. omega arith) (λ c. omega arith) (λ c. omega arith) loop-again same-length returns)

@@ -17,15 +17,6 @@ loop-holds c = clearing-none _ _
 mul-costs : tie.Need-mul-costs Inv-loop μ-loop
 mul-costs c = omega (arith, c .before .before .good)
 
-slice-write-costs : tie.Need-slice-write-costs Inv-loop μ-loop
-slice-write-costs c = omega arith
-
-add-k : tie.Need-add-k Inv-loop μ-loop
-add-k c = omega arith
-
-loop-less : tie.Need-loop-less Inv-loop μ-loop
-loop-less c = omega arith
-
 loop-again : tie.Need-loop-again Inv-loop μ-loop
 loop-again c = clearing-more _ _ _ _ (c .before .before .pre) (c .before .loop .inv) (c .loop-test .taken)
 
@@ -38,4 +29,4 @@ returns c = clearing-all _ _ _ _ (c .before .loop .inv) (c .loop-test .left)
 pub clear-costs-spec : {M : Type 1} → statement M
 clear-costs-spec =
     tie.close
-    (tie.spec Inv-loop μ-loop loop-holds mul-costs slice-write-costs add-k loop-less loop-again same-length returns)
+    (tie.spec Inv-loop μ-loop loop-holds mul-costs (λ c. omega arith) (λ c. omega arith) (λ c. omega arith) loop-again same-length returns)

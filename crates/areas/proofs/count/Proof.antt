@@ -14,27 +14,6 @@ Inv-loop slots n made₀ k₀ made k = (k ≤ n) × (made ≤ k) × (made ≡ se
 abbrev μ-loop : tie.MeasureT-loop
 μ-loop slots n made₀ k₀ made k = n - k
 
-loop-holds : tie.Need-loop-holds Inv-loop μ-loop
-loop-holds c = omega arith
-
-mul-setup-of : tie.Need-mul-setup-of Inv-loop μ-loop
-mul-setup-of c = omega arith
-
-shared-slice-read-setup-of : tie.Need-shared-slice-read-setup-of Inv-loop μ-loop
-shared-slice-read-setup-of c = omega arith
-
-setup-of-requires : tie.Need-setup-of-requires Inv-loop μ-loop
-setup-of-requires c κs = tt
-
-add-made : tie.Need-add-made Inv-loop μ-loop
-add-made c = omega arith
-
-add-k : tie.Need-add-k Inv-loop μ-loop
-add-k c = omega arith
-
-loop-less : tie.Need-loop-less Inv-loop μ-loop
-loop-less c = omega arith
-
 loop-again : tie.Need-loop-again Inv-loop μ-loop
 loop-again c = (omega arith, omega arith, rw add-one (omega arith))
 
@@ -47,12 +26,12 @@ count-spec =
     (tie.spec
     Inv-loop
     μ-loop
-    loop-holds
-    mul-setup-of
-    shared-slice-read-setup-of
-    setup-of-requires
-    add-made
-    add-k
-    loop-less
+    (λ c. omega arith)
+    (λ c. omega arith)
+    (λ c. omega arith)
+    (λ c κs. tt)
+    (λ c. omega arith)
+    (λ c. omega arith)
+    (λ c. omega arith)
     loop-again
     returns)

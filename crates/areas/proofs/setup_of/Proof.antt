@@ -11,11 +11,8 @@ setup-some : (x : ℕ) → (x ≡ 0 → ⊥) → 1 ≡ setupAt x
 setup-some zero h = absurd (h refl)
 setup-some (suc x) h = refl
 
-returns : tie.Need-returns
-returns c = search needs
-
 returns-2 : tie.Need-returns-2
 returns-2 c = (setup-some _ (c .if1 .left), omega arith)
 
 pub setup-of-spec : {M : Type 1} → statement M
-setup-of-spec = tie.close (tie.spec returns returns-2)
+setup-of-spec = tie.close (tie.spec (λ c. search needs) returns-2)

@@ -30,21 +30,12 @@ decides :
     → answer ≡ checked (first (badTables d (badTotal d ∷ [])))
 decides d ok is = is ∙ ap checked (sym (first-passed (badTables d []) (badTotal d ∷ []) ok ∙ first-one (badTotal d)))
 
-tables-requires : tie.Need-tables-requires
-tables-requires c κs = search needs
-
-enum-known-r : tie.Need-enum-known-r
-enum-known-r c = search needs
-
 returns : tie.Need-returns
 returns c =
     let p = c .before .before .before in
     let d = tables p in
     let e = refused (first (badTables d [])) (p .tables .ensures) (c .before .r .given .1) in
     sym (ap checked (first-refused (badTables d []) (badTotal d ∷ []) e))
-
-enum-told : tie.Need-enum-told
-enum-told c = search needs
 
 total-requires : tie.Need-total-requires
 total-requires c κs = tables-passed (tables (c .before .before)) [] (tested c) .few
@@ -62,4 +53,4 @@ returns-3 c =
     decides d (tested p) (simp (le-ltb maxTotal (total d) (omega arith)))
 
 pub day-spec : {M : Type 1} → statement M
-day-spec = tie.close (tie.spec tables-requires enum-known-r returns enum-told total-requires returns-2 returns-3)
+day-spec = tie.close (tie.spec (λ c κs. search needs) (λ c. search needs) returns (λ c. search needs) total-requires returns-2 returns-3)

@@ -7,33 +7,6 @@ use borrow.Author.Needs.{needs}
 use Rattle.dayplan.proofs.plan.Statement.{statement}
 use Rattle.dayplan.proofs.plan.Tie as tie
 
-slice-aggregate-plan : tie.Need-slice-aggregate-plan
-slice-aggregate-plan c = search needs
-
-slice-aggregate-plan-2 : tie.Need-slice-aggregate-plan-2
-slice-aggregate-plan-2 c = search needs
-
-slice-aggregate-plan-3 : tie.Need-slice-aggregate-plan-3
-slice-aggregate-plan-3 c = search needs
-
-plan-requires : tie.Need-plan-requires
-plan-requires c κs = search needs
-
-enum-known-r : tie.Need-enum-known-r
-enum-known-r c = search needs
-
-print-refusal-requires : tie.Need-print-refusal-requires
-print-refusal-requires c κs = search needs
-
-enum-known-totals : tie.Need-enum-known-totals
-enum-known-totals c = search needs
-
-print-totals-requires : tie.Need-print-totals-requires
-print-totals-requires c κs = search needs
-
-slice-aggregate-print-amounts : tie.Need-slice-aggregate-print-amounts
-slice-aggregate-print-amounts c = search needs
-
 print-amounts-requires : tie.Need-print-amounts-requires
 print-amounts-requires c κs =
     let planned = c .before .before .before .before .before .before .before .before in
@@ -48,25 +21,19 @@ print-amounts-requires c κs =
     (omega arith)
     (planned .plan .ensures)
 
-returns : tie.Need-returns
-returns c = search needs
-
-returns-2 : tie.Need-returns-2
-returns-2 c = search needs
-
 pub plan-spec : {M : Type 1} → statement M
 plan-spec =
     tie.close
     (tie.spec
-    slice-aggregate-plan
-    slice-aggregate-plan-2
-    slice-aggregate-plan-3
-    plan-requires
-    enum-known-r
-    print-refusal-requires
-    enum-known-totals
-    print-totals-requires
-    slice-aggregate-print-amounts
+    (λ c. search needs)
+    (λ c. search needs)
+    (λ c. search needs)
+    (λ c κs. search needs)
+    (λ c. search needs)
+    (λ c κs. search needs)
+    (λ c. search needs)
+    (λ c κs. search needs)
+    (λ c. search needs)
     print-amounts-requires
-    returns
-    returns-2)
+    (λ c. search needs)
+    (λ c. search needs))

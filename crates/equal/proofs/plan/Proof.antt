@@ -19,38 +19,11 @@ tested c =
 accepted : (c : tie.After-enum-told) → tested (c .before .before) ≡ none
 accepted c = passed (tested (c .before .before)) (c .before .before .test .ensures) (c .enum-told .given .1)
 
-test-requires : tie.Need-test-requires
-test-requires c κs = search needs
-
-enum-known-r : tie.Need-enum-known-r
-enum-known-r c = search needs
-
-same-length : tie.Need-same-length
-same-length c = search needs
-
-same-length-2 : tie.Need-same-length-2
-same-length-2 c = search needs
-
-same-length-3 : tie.Need-same-length-3
-same-length-3 c = search needs
-
 returns : tie.Need-returns
 returns c = let p = c .before .before .before in (refused (tested p) (p .test .ensures) (c .before .r .given .1), refl)
 
-enum-told : tie.Need-enum-told
-enum-told c = search needs
-
 work-requires : tie.Need-work-requires
 work-requires c κs = accepted (c .before .before .before)
-
-same-length-4 : tie.Need-same-length-4
-same-length-4 c = search needs
-
-same-length-5 : tie.Need-same-length-5
-same-length-5 c = search needs
-
-same-length-6 : tie.Need-same-length-6
-same-length-6 c = search needs
 
 returns-2 : tie.Need-returns-2
 returns-2 c = (accepted (c .before .before .before .before .before .before .before .before .before .before), c .before .before .before .before .before .before .work .ensures)
@@ -59,15 +32,15 @@ pub plan-spec : {M : Type 1} → statement M
 plan-spec =
     tie.close
     (tie.spec
-    test-requires
-    enum-known-r
-    same-length
-    same-length-2
-    same-length-3
+    (λ c κs. search needs)
+    (λ c. search needs)
+    (λ c. search needs)
+    (λ c. search needs)
+    (λ c. search needs)
     returns
-    enum-told
+    (λ c. search needs)
     work-requires
-    same-length-4
-    same-length-5
-    same-length-6
+    (λ c. search needs)
+    (λ c. search needs)
+    (λ c. search needs)
     returns-2)

@@ -10,7 +10,7 @@ use Rattle.day.specs.Sums.{at}
 use Rattle.day.specs.Day.{Day, dayOf, periods}
 use Rattle.day.specs.Outcome.{Cleared}
 use Rattle.theory.specs.Base.{modelOf}
-use Rattle.florian_klein.specs.Best.{Row}
+use Rattle.equal_rows.specs.Best.{Row}
 use Rattle.equal.specs.Solved.{Ready, Solved, idle-solved}
 use Rattle.equal.proofs.solve.Statement.{statement}
 use Rattle.equal.proofs.solve.Tie as tie
@@ -37,15 +37,6 @@ positive : (c : ℕ) → (c ≡ 0 → ⊥) → 0 < c
 positive zero h = absurd (h refl)
 positive (suc c) h = omega arith
 
-shared-slice-read-if1 : tie.Need-shared-slice-read-if1
-shared-slice-read-if1 c = search needs
-
-clear-choices-requires : tie.Need-clear-choices-requires
-clear-choices-requires c κs = search needs
-
-same-length : tie.Need-same-length
-same-length c = search needs
-
 returns : tie.Need-returns
 returns c =
     let a = c .before .before .before .before .before .before .before .before .before .before .before .before .before .before .args in
@@ -57,46 +48,28 @@ rows-requires c κs =
     let pre = c .before .before .before .before .before .before .before .before .before .before .before .before .before .pre in
     (record { limits = pre .0 .limits; one = pre .0 .one; room = positive _ (c .before .before .before .if1 .left); supplied = pre .0 .supplied }, pre .1, pre .2)
 
-mul-from : tie.Need-mul-from
-mul-from c = search needs
-
-add-copy : tie.Need-add-copy
-add-copy c = search needs
-
-mul-copy : tie.Need-mul-copy
-mul-copy c = search needs
-
-sub-copy : tie.Need-sub-copy
-sub-copy c = search needs
-
-part-copy-start : tie.Need-part-copy-start
-part-copy-start c = search needs
-
-part-copy-end : tie.Need-part-copy-end
-part-copy-end c = search needs
-
-copy-requires : tie.Need-copy-requires
-copy-requires c κs = search needs
-
-mul-result : tie.Need-mul-result
-mul-result c = search needs
-
-slice-read-result : tie.Need-slice-read-result
-slice-read-result c = search needs
-
-same-length-2 : tie.Need-same-length-2
-same-length-2 c = search needs
-
-same-length-3 : tie.Need-same-length-3
-same-length-3 c = search needs
-
-same-length-4 : tie.Need-same-length-4
-same-length-4 c = search needs
-
 returns-2 : tie.Need-returns-2
 returns-2 c =
     let a = c .before .before .before .before .before .before .before .before .before .before .before .before .before .before .before .before .before .before .before .before .before .before .before .before .before .before .before .args in
     last-row (dayOf (a .demand .now) (a .capacity .now) (a .setup .now) (a .unit .now) (a .holding .now)) _ _ _ (c .before .before .before .before .before .before .before .before .before .before .before .before .before .rows .ensures) (c .before .before .before .copy .ensures)
 
 pub solve-spec : {M : Type 1} → statement M
-solve-spec = tie.close (tie.spec shared-slice-read-if1 clear-choices-requires same-length returns rows-requires mul-from add-copy mul-copy sub-copy part-copy-start part-copy-end copy-requires mul-result slice-read-result same-length-2 same-length-3 same-length-4 returns-2)
+solve-spec = tie.close (tie.spec
+    (λ c. search needs)
+    (λ c κs. search needs)
+    (λ c. search needs)
+    returns
+    rows-requires
+    (λ c. search needs)
+    (λ c. search needs)
+    (λ c. search needs)
+    (λ c. search needs)
+    (λ c. search needs)
+    (λ c. search needs)
+    (λ c κs. search needs)
+    (λ c. search needs)
+    (λ c. search needs)
+    (λ c. search needs)
+    (λ c. search needs)
+    (λ c. search needs)
+    returns-2)

@@ -58,31 +58,13 @@ passed4 c =
 limits : (c : tie.After-enum-told) → Limits (given (day2 c))
 limits c = tables-passed (given (day2 c)) (badTotal (given (day2 c)) ∷ []) (passed2 c)
 
-day-requires : tie.Need-day-requires
-day-requires c κs = search needs
-
-enum-known-r : tie.Need-enum-known-r
-enum-known-r c = search needs
-
 returns : tie.Need-returns
 returns c =
     let p = c .before .before .before in
     group-refused [] (tables p) (memory p ++ supply p ++ kind p) refl (p .day .ensures) (c .before .r .given .1)
 
-enum-told : tie.Need-enum-told
-enum-told c = search needs
-
-add-memory : tie.Need-add-memory
-add-memory c = search needs
-
 mul-memory : tie.Need-mul-memory
 mul-memory c = omega (arith, limits c .few)
-
-add-memory-2 : tie.Need-add-memory-2
-add-memory-2 c = search needs
-
-add-memory-3 : tie.Need-add-memory-3
-add-memory-3 c = search needs
 
 mul-memory-2 : tie.Need-mul-memory-2
 mul-memory-2 c = omega (arith, cells-small (length (given (day2 c) .demand)) (limits c .few))
@@ -90,26 +72,14 @@ mul-memory-2 c = omega (arith, cells-small (length (given (day2 c) .demand)) (li
 mul-memory-3 : tie.Need-mul-memory-3
 mul-memory-3 c = omega (arith, cells-small (length (given (day2 c) .demand)) (limits c .few))
 
-memory-requires : tie.Need-memory-requires
-memory-requires c κs = search needs
-
-enum-known-r-2 : tie.Need-enum-known-r-2
-enum-known-r-2 c = search needs
-
 returns-2 : tie.Need-returns-2
 returns-2 c =
     let p = c .before .before .before in
     let q = day2 (p .before) in
     group-refused (tables q) (memory q) (supply q ++ kind q) (passed2 (p .before)) (p .memory .ensures) (c .before .r2 .given .1)
 
-enum-told-2 : tie.Need-enum-told-2
-enum-told-2 c = search needs
-
 shortage-requires : tie.Need-shortage-requires
 shortage-requires c κs = let l = limits (c .before .before .before) in (l .lengths .capacity, l .few)
-
-enum-known-r-3 : tie.Need-enum-known-r-3
-enum-known-r-3 c = search needs
 
 returns-3 : tie.Need-returns-3
 returns-3 c =
@@ -117,9 +87,6 @@ returns-3 c =
     let q = day3 (p .before) in
     group-refused (tables q ++ memory q) (supply q) (kind q) (passed3 (p .before))
     (p .shortage .ensures ∙ ap checked (sym (first-one (shortage (given q))))) (c .before .r3 .given .1)
-
-enum-told-3 : tie.Need-enum-told-3
-enum-told-3 c = search needs
 
 equal-requires : tie.Need-equal-requires
 equal-requires c κs = limits (c .before .before .before .before .before .before) .lengths .capacity
@@ -133,23 +100,23 @@ pub test-spec : {M : Type 1} → statement M
 test-spec =
     tie.close
     (tie.spec
-    day-requires
-    enum-known-r
+    (λ c κs. search needs)
+    (λ c. search needs)
     returns
-    enum-told
-    add-memory
+    (λ c. search needs)
+    (λ c. search needs)
     mul-memory
-    add-memory-2
-    add-memory-3
+    (λ c. search needs)
+    (λ c. search needs)
     mul-memory-2
     mul-memory-3
-    memory-requires
-    enum-known-r-2
+    (λ c κs. search needs)
+    (λ c. search needs)
     returns-2
-    enum-told-2
+    (λ c. search needs)
     shortage-requires
-    enum-known-r-3
+    (λ c. search needs)
     returns-3
-    enum-told-3
+    (λ c. search needs)
     equal-requires
     returns-4)

@@ -22,17 +22,8 @@ ready s = accepted-ready (given s) (lent s) (s .pre)
 enough : (s : tie.Start) → let m = lent s in let n = periods (given s) in Enough (length (m .costs)) (costCells n) (length (m .choices)) (choiceCells n) (length (m .slots)) n
 enough s = accepted-enough (given s) (lent s) (s .pre)
 
-add-cost-cells : tie.Need-add-cost-cells
-add-cost-cells c = search needs
-
 mul-cost-cells : tie.Need-mul-cost-cells
 mul-cost-cells c = omega (arith, ready (c .before .before .before .before .before .before .before .before) .limits .few)
-
-add-choice-cells : tie.Need-add-choice-cells
-add-choice-cells c = search needs
-
-add-choice-cells-2 : tie.Need-add-choice-cells-2
-add-choice-cells-2 c = search needs
 
 mul-choice-cells : tie.Need-mul-choice-cells
 mul-choice-cells c = omega (arith, cells-small (periods (given (c .before .before .before .before .before .before .before .before))) (ready (c .before .before .before .before .before .before .before .before) .limits .few))
@@ -40,29 +31,11 @@ mul-choice-cells c = omega (arith, cells-small (periods (given (c .before .befor
 mul-choice-cells-2 : tie.Need-mul-choice-cells-2
 mul-choice-cells-2 c = omega (arith, cells-small (periods (given (c .before .before .before .before .before .before .before .before))) (ready (c .before .before .before .before .before .before .before .before) .limits .few))
 
-sub-solve : tie.Need-sub-solve
-sub-solve c = search needs
-
-part-solve-start : tie.Need-part-solve-start
-part-solve-start c = search needs
-
 part-solve-end : tie.Need-part-solve-end
 part-solve-end c = enough (c .before .before .before .before .before .before .before .before) .cost
 
-sub-solve-2 : tie.Need-sub-solve-2
-sub-solve-2 c = search needs
-
-part-solve-start-2 : tie.Need-part-solve-start-2
-part-solve-start-2 c = search needs
-
 part-solve-end-2 : tie.Need-part-solve-end-2
 part-solve-end-2 c = enough (c .before .before .before .before .before .before .before .before .before) .choice
-
-sub-solve-3 : tie.Need-sub-solve-3
-sub-solve-3 c = search needs
-
-part-solve-start-3 : tie.Need-part-solve-start-3
-part-solve-start-3 c = search needs
 
 part-solve-end-3 : tie.Need-part-solve-end-3
 part-solve-end-3 c = enough (c .before .before .before .before .before .before .before .before .before .before) .slot
@@ -87,15 +60,6 @@ clear-choices-requires c κs =
     let s = c .before .before .before .before .before .before .before .before .before .before .before .before .before .before .before .before .before .before .before .before .before .before .before .before .before in
     front-holds (given s) (lent s) (s .pre) (choiceCells (periods (given s))) (lent s .choices) (c .before .before .before .before .before .before .before .before .before .before .before .before .before .solve .last .1 .1 .1 .1 .1 .1 .0) (enough s .choice) (c .before .before .before .before .before .before .before .before .before .before .before .before .before .solve .kept .1 .1 .1 .1 .1 .1 .0)
 
-same-length : tie.Need-same-length
-same-length c = search needs
-
-same-length-2 : tie.Need-same-length-2
-same-length-2 c = search needs
-
-same-length-3 : tie.Need-same-length-3
-same-length-3 c = search needs
-
 returns : tie.Need-returns
 returns c =
     let s = c .before .before .before .before .before .before .before .before .before .before .before .before .before .before .before .before .before .before .before .before .before .before .before .before .before .before .before .before in
@@ -104,4 +68,27 @@ returns c =
     work-accepted (given s) (lent s) (s .pre) _ (last .1 .1 .1 .1 .1 .0) (last .1 .1 .1 .1 .1 .1 .0) (last .1 .1 .1 .1 .1 .1 .1 .0) _ _ (kept .1 .1 .1 .1 .1 .1 .1 .0) (kept .1 .1 .1 .1 .1 .0) (kept .1 .1 .1 .1 .1 .1 .0) (c .before .before .before .before .before .before .before .before .before .before .before .before .before .before .before .before .solve .ensures) (c .before .before .before .before .before .before .before .before .count .ensures) (c .before .before .before .before .before .before .clear-costs .ensures) (c .before .before .clear-choices .ensures)
 
 pub work-spec : {M : Type 1} → statement M
-work-spec = tie.close (tie.spec add-cost-cells mul-cost-cells add-choice-cells add-choice-cells-2 mul-choice-cells mul-choice-cells-2 sub-solve part-solve-start part-solve-end sub-solve-2 part-solve-start-2 part-solve-end-2 sub-solve-3 part-solve-start-3 part-solve-end-3 solve-requires count-requires clear-costs-requires clear-choices-requires same-length same-length-2 same-length-3 returns)
+work-spec = tie.close (tie.spec
+    (λ c. search needs)
+    mul-cost-cells
+    (λ c. search needs)
+    (λ c. search needs)
+    mul-choice-cells
+    mul-choice-cells-2
+    (λ c. search needs)
+    (λ c. search needs)
+    part-solve-end
+    (λ c. search needs)
+    (λ c. search needs)
+    part-solve-end-2
+    (λ c. search needs)
+    (λ c. search needs)
+    part-solve-end-3
+    solve-requires
+    count-requires
+    clear-costs-requires
+    clear-choices-requires
+    (λ c. search needs)
+    (λ c. search needs)
+    (λ c. search needs)
+    returns)

@@ -28,28 +28,13 @@ lent c =
 tables : (c : tie.After-enum-told) → first (tableTests (given (c .before .before))) ≡ none
 tables c = passed (first (tableTests (given (c .before .before)))) (c .before .before .day .ensures) (c .enum-told .given .1)
 
-day-requires : tie.Need-day-requires
-day-requires c κs = search needs
-
-enum-known-r : tie.Need-enum-known-r
-enum-known-r c = search needs
-
 returns : tie.Need-returns
 returns c =
     let p = c .before .before .before in
     tables-refused (given p) (lent p) (p .day .ensures) (c .before .r .given .1)
 
-enum-told : tie.Need-enum-told
-enum-told c = search needs
-
 total-requires : tie.Need-total-requires
 total-requires c κs = tables-limits (given (c .before .before)) (lent (c .before .before)) (tables c) .few
-
-add-width : tie.Need-add-width
-add-width c = search needs
-
-mul-memory : tie.Need-mul-memory
-mul-memory c = search needs
 
 mul-memory-2 : tie.Need-mul-memory-2
 mul-memory-2 c =
@@ -58,20 +43,11 @@ mul-memory-2 c =
     let low : c .total .result + 1 ≤ maxPeriods * maxCapacity + 1 = omega (arith, c .total .ensures .low) in
     omega (arith, mul-le-mul (tables-limits (given p) (lent p) (tables told) .few) low)
 
-memory-requires : tie.Need-memory-requires
-memory-requires c κs = search needs
-
-enum-known-r-2 : tie.Need-enum-known-r-2
-enum-known-r-2 c = search needs
-
 returns-2 : tie.Need-returns-2
 returns-2 c =
     let total = c .before .before .before .before in
     let p = total .before .before .before in
     memory-refused (given p) (lent p) (tables (total .before)) (total .total .ensures .is) (c .before .before .before .memory .ensures) (c .before .r2 .given .1)
-
-enum-told-2 : tie.Need-enum-told-2
-enum-told-2 c = search needs
 
 shortage-requires : tie.Need-shortage-requires
 shortage-requires c κs =
@@ -89,17 +65,17 @@ pub test-spec : {M : Type 1} → statement M
 test-spec =
     tie.close
     (tie.spec
-    day-requires
-    enum-known-r
+    (λ c κs. search needs)
+    (λ c. search needs)
     returns
-    enum-told
+    (λ c. search needs)
     total-requires
-    add-width
-    mul-memory
+    (λ c. search needs)
+    (λ c. search needs)
     mul-memory-2
-    memory-requires
-    enum-known-r-2
+    (λ c κs. search needs)
+    (λ c. search needs)
     returns-2
-    enum-told-2
+    (λ c. search needs)
     shortage-requires
     returns-3)

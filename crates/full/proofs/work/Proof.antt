@@ -27,32 +27,14 @@ total-requires c κs = let start = c .before .before .before .before .before .be
 fill-and-read-requires : tie.Need-fill-and-read-requires
 fill-and-read-requires c κs = passed (c .before .before .before)
 
-add-clear-costs : tie.Need-add-clear-costs
-add-clear-costs c = search needs
-
-mul-clear-costs : tie.Need-mul-clear-costs
-mul-clear-costs c = search needs
-
 clear-costs-requires : tie.Need-clear-costs-requires
 clear-costs-requires c κs = omega (arith, passed (c .before .before .before .before .before .before .before .before .before .before .before) .fillable .costCells, c .before .before .before .before .before .before .before .fill-and-read .kept .1 .1 .1 .1 .1 .0)
-
-add-clear-choices : tie.Need-add-clear-choices
-add-clear-choices c = search needs
 
 mul-clear-choices : tie.Need-mul-clear-choices
 mul-clear-choices c = omega (arith, passed (c .before .before .before .before .before .before .before .before .before .before .before .before .before .before .before) .fillable .choiceCells, c .before .before .before .before .before .before .before .before .before .before .before .before .before .before .before .before .before .before .before .before .before .before .before .before .good)
 
 clear-choices-requires : tie.Need-clear-choices-requires
 clear-choices-requires c κs = omega (arith, passed (c .before .before .before .before .before .before .before .before .before .before .before .before .before .before .before) .fillable .choiceCells, c .before .before .before .before .before .before .before .before .before .before .before .fill-and-read .kept .1 .1 .1 .1 .1 .1 .0)
-
-same-length : tie.Need-same-length
-same-length c = search needs
-
-same-length-2 : tie.Need-same-length-2
-same-length-2 c = search needs
-
-same-length-3 : tie.Need-same-length-3
-same-length-3 c = search needs
 
 returns : tie.Need-returns
 returns c =
@@ -65,13 +47,13 @@ work-spec =
     (tie.spec
     total-requires
     fill-and-read-requires
-    add-clear-costs
-    mul-clear-costs
+    (λ c. search needs)
+    (λ c. search needs)
     clear-costs-requires
-    add-clear-choices
+    (λ c. search needs)
     mul-clear-choices
     clear-choices-requires
-    same-length
-    same-length-2
-    same-length-3
+    (λ c. search needs)
+    (λ c. search needs)
+    (λ c. search needs)
     returns)

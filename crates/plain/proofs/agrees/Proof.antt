@@ -7,17 +7,8 @@ use borrow.Author.Needs.{needs}
 use Rattle.plain.proofs.agrees.Statement.{statement}
 use Rattle.plain.proofs.agrees.Tie as tie
 
-enum-known-answer : tie.Need-enum-known-answer
-enum-known-answer c = search needs
-
 returns : tie.Need-returns
 returns c e = let z : _≡_ {A = ℕ} 0 1 = cc in absurd (omega arith)
-
-number-requires : tie.Need-number-requires
-number-requires c κs = search needs
-
-enum-known-answer-2 : tie.Need-enum-known-answer-2
-enum-known-answer-2 c = search needs
 
 returns-2 : tie.Need-returns-2
 returns-2 c e = let z : _≡_ {A = ℕ} 0 1 = cc in absurd (omega arith)
@@ -27,9 +18,6 @@ returns-3 c e = let z : _≡_ {A = ℕ} 0 1 = cc in absurd (omega arith)
 
 returns-4 : tie.Need-returns-4
 returns-4 c e = let z : _≡_ {A = ℕ} 0 1 = cc in absurd (omega arith)
-
-same-plan-requires : tie.Need-same-plan-requires
-same-plan-requires c κs = search needs
 
 returns-5 : tie.Need-returns-5
 returns-5 c e =
@@ -48,13 +36,13 @@ pub agrees-spec : {M : Type 1} → statement M
 agrees-spec =
     tie.close
     (tie.spec
-    enum-known-answer
+    (λ c. search needs)
     returns
-    number-requires
-    enum-known-answer-2
+    (λ c κs. search needs)
+    (λ c. search needs)
     returns-2
     returns-3
     returns-4
-    same-plan-requires
+    (λ c κs. search needs)
     returns-5
     returns-6)

@@ -16,30 +16,9 @@ Inv-loop demand capacity setup unit holding best₀ count m₀ best m = (m ≤ c
 abbrev μ-loop : tie.MeasureT-loop
 μ-loop demand capacity setup unit holding best₀ count m₀ best m = count - m
 
-plans-requires : tie.Need-plans-requires Inv-loop μ-loop
-plans-requires c κs = search needs
-
 loop-holds : tie.Need-loop-holds Inv-loop μ-loop
 loop-holds c =
     (search needs, record { holds = λ f. let z : _≡_ {A = ℕ} 0 1 = cc in absurd (omega arith); least = λ j l. absurd (omega arith) })
-
-plan-of-requires : tie.Need-plan-of-requires Inv-loop μ-loop
-plan-of-requires c κs = search needs
-
-slice-aggregate-weigh : tie.Need-slice-aggregate-weigh Inv-loop μ-loop
-slice-aggregate-weigh c = search needs
-
-weigh-requires : tie.Need-weigh-requires Inv-loop μ-loop
-weigh-requires c κs = search needs
-
-better-requires : tie.Need-better-requires Inv-loop μ-loop
-better-requires c κs = search needs
-
-add-m : tie.Need-add-m Inv-loop μ-loop
-add-m c = search needs
-
-loop-less : tie.Need-loop-less Inv-loop μ-loop
-loop-less c = search needs
 
 loop-again : tie.Need-loop-again Inv-loop μ-loop
 loop-again c =
@@ -58,13 +37,13 @@ search-spec =
     (tie.spec
     Inv-loop
     μ-loop
-    plans-requires
+    (λ c κs. search needs)
     loop-holds
-    plan-of-requires
-    slice-aggregate-weigh
-    weigh-requires
-    better-requires
-    add-m
-    loop-less
+    (λ c κs. search needs)
+    (λ c. search needs)
+    (λ c κs. search needs)
+    (λ c κs. search needs)
+    (λ c. search needs)
+    (λ c. search needs)
     loop-again
     returns)

@@ -10,24 +10,14 @@ Inv-loop kind t₀ i₀ t i = i ≤ 200
 abbrev μ-loop : tie.MeasureT-loop
 μ-loop kind t₀ i₀ t i = 200 - i
 
-loop-holds : tie.Need-loop-holds Inv-loop μ-loop
-loop-holds c = search needs
-
-day-requires : tie.Need-day-requires Inv-loop μ-loop
-day-requires c κs = search needs
-
-add-i : tie.Need-add-i Inv-loop μ-loop
-add-i c = search needs
-
-loop-less : tie.Need-loop-less Inv-loop μ-loop
-loop-less c = search needs
-
-loop-again : tie.Need-loop-again Inv-loop μ-loop
-loop-again c = search needs
-
-returns : tie.Need-returns Inv-loop μ-loop
-returns c = search needs
-
 pub days-spec : {M : Type 1} → statement M
 days-spec =
-    tie.close (tie.spec Inv-loop μ-loop loop-holds day-requires add-i loop-less loop-again returns)
+    tie.close (tie.spec
+    Inv-loop
+    μ-loop
+    (λ c. search needs)
+    (λ c κs. search needs)
+    (λ c. search needs)
+    (λ c. search needs)
+    (λ c. search needs)
+    (λ c. search needs))

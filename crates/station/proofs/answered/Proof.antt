@@ -5,14 +5,8 @@ use Rattle.station.specs.Codes.{LowAnswer}
 use Rattle.station.proofs.answered.Statement.{statement}
 use Rattle.station.proofs.answered.Tie as tie
 
-enum-known-a : tie.Need-enum-known-a
-enum-known-a c = search needs
-
 refused-requires : tie.Need-refused-requires
 refused-requires c κs = subst LowAnswer (c .before .a .given .1) (c .before .before .before .pre)
-
-enum-known-a-2 : tie.Need-enum-known-a-2
-enum-known-a-2 c = search needs
 
 returns : tie.Need-returns
 returns c = rw (c .before .before .a .given .1, c .refused .ensures) refl
@@ -21,4 +15,4 @@ returns-2 : tie.Need-returns-2
 returns-2 c = rw (c .before .before .a2 .given .1) refl
 
 pub answered-spec : {M : Type 1} → statement M
-answered-spec = tie.close (tie.spec enum-known-a refused-requires enum-known-a-2 returns returns-2)
+answered-spec = tie.close (tie.spec (λ c. search needs) refused-requires (λ c. search needs) returns returns-2)

@@ -4,17 +4,8 @@ use Rattle.station.proofs.Named.{number-low}
 use Rattle.station.proofs.refused.Statement.{statement}
 use Rattle.station.proofs.refused.Tie as tie
 
-number-requires : tie.Need-number-requires
-number-requires c κs = search needs
-
-period-requires : tie.Need-period-requires
-period-requires c κs = search needs
-
 code-requires : tie.Need-code-requires
 code-requires c κs = (rw (c .before .number .ensures) (number-low (c .before .before .args .r)), rw (c .period .ensures) (c .before .before .pre))
 
-returns : tie.Need-returns
-returns c = search needs
-
 pub refused-spec : {M : Type 1} → statement M
-refused-spec = tie.close (tie.spec number-requires period-requires code-requires returns)
+refused-spec = tie.close (tie.spec (λ c κs. search needs) (λ c κs. search needs) code-requires (λ c. search needs))

@@ -27,27 +27,15 @@ other c = start c .args .second .now
 abbrev before : tie.After-compare → List ℤ
 before c = start c .args .difference .now
 
-compare-requires : tie.Need-compare-requires
-compare-requires c κs = search needs
-
-enum-known-r : tie.Need-enum-known-r
-enum-known-r c = search needs
-
 refused-requires : tie.Need-refused-requires
 refused-requires c κs =
     let w = c .before .before .before in
     compared-low (day w) (plan w) (other w) (w .compare .ensures) (c .before .r .given .1)
 
-enum-known-rule : tie.Need-enum-known-rule
-enum-known-rule c = search needs
-
 broken-requires : tie.Need-broken-requires
 broken-requires c κs =
     let w = c .before .before .before in
     compared-low (day w) (plan w) (other w) (w .compare .ensures) (c .before .rule .given .1)
-
-enum-known-v : tie.Need-enum-known-v
-enum-known-v c = search needs
 
 returns : tie.Need-returns
 returns c =
@@ -68,12 +56,12 @@ pub yakkurem-compare-spec : {M : Type 1} → statement M
 yakkurem-compare-spec =
     tie.close
     (tie.spec
-    compare-requires
-    enum-known-r
+    (λ c κs. search needs)
+    (λ c. search needs)
     refused-requires
-    enum-known-rule
+    (λ c. search needs)
     broken-requires
-    enum-known-v
+    (λ c. search needs)
     returns
     returns-2
     returns-3)

@@ -32,12 +32,6 @@ part c = (rw (admitted (c .before)) at (c .body .ensures)) .bytes
 whole : (s : List ℕ) (i : ℕ) → badLookup s i ≡ none → length (body s (recordAt s (i - 1))) ≡ 16
 whole s i e = period-body s (recordAt s (i - 1)) (period-at s (i - 1) (omega (arith, lookup-passed s i e)))
 
-check-requires : tie.Need-check-requires
-check-requires c κs = search needs
-
-enum-known-r : tie.Need-enum-known-r
-enum-known-r c = search needs
-
 refused-requires : tie.Need-refused-requires
 refused-requires c κs =
     let p = c .before .before .before in
@@ -47,12 +41,6 @@ returns : tie.Need-returns
 returns c =
     let p = c .before .before .before .before in
     rw (refused (badLookup (file p) (period p)) (p .check .ensures) (c .before .before .r .given .1), c .refused .ensures) refl
-
-enum-told : tie.Need-enum-told
-enum-told c = search needs
-
-body-requires : tie.Need-body-requires
-body-requires c κs = search needs
 
 array-requires : tie.Need-array-requires
 array-requires c κs = let p = c .before .before .before in rw (part c) (whole (file p) (period p) (admitted (c .before)))
@@ -64,11 +52,11 @@ pub yakkurem-lookup-spec : {M : Type 1} → statement M
 yakkurem-lookup-spec =
     tie.close
     (tie.spec
-    check-requires
-    enum-known-r
+    (λ c κs. search needs)
+    (λ c. search needs)
     refused-requires
     returns
-    enum-told
-    body-requires
+    (λ c. search needs)
+    (λ c κs. search needs)
     array-requires
     returns-2)

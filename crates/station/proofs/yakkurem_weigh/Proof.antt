@@ -22,31 +22,16 @@ plan c = start c .args .plan .now
 abbrev before : tie.After-weigh → List ℕ
 before c = start c .args .answer .now
 
-weigh-requires : tie.Need-weigh-requires
-weigh-requires c κs = search needs
-
-enum-known-r : tie.Need-enum-known-r
-enum-known-r c = search needs
-
 refused-requires : tie.Need-refused-requires
 refused-requires c κs =
     let w = c .before .before .before in
     weigh-low (day w) (plan w) (w .weigh .ensures) (c .before .r .given .1)
-
-enum-known-v : tie.Need-enum-known-v
-enum-known-v c = search needs
-
-enum-known-v-2 : tie.Need-enum-known-v-2
-enum-known-v-2 c = search needs
 
 broken-requires : tie.Need-broken-requires
 broken-requires c κs =
     let v = c .before .before .before .before in
     let w = v .before .before in
     weigh-low (day w) (plan w) (w .weigh .ensures) (v .v .given .1 ∙ ap Judged (c .before .v2 .given .1))
-
-enum-known-v-3 : tie.Need-enum-known-v-3
-enum-known-v-3 c = search needs
 
 returns : tie.Need-returns
 returns c =
@@ -69,13 +54,13 @@ pub yakkurem-weigh-spec : {M : Type 1} → statement M
 yakkurem-weigh-spec =
     tie.close
     (tie.spec
-    weigh-requires
-    enum-known-r
+    (λ c κs. search needs)
+    (λ c. search needs)
     refused-requires
-    enum-known-v
-    enum-known-v-2
+    (λ c. search needs)
+    (λ c. search needs)
     broken-requires
-    enum-known-v-3
+    (λ c. search needs)
     returns
     returns-2
     returns-3)

@@ -16,31 +16,16 @@ written c = c .before .before
 abbrev start : tie.After-write → tie.Start
 start c = c .before .before .before .before .before .before .before .before
 
-write-requires : tie.Need-write-requires
-write-requires c κs = search needs
-
-enum-known-r : tie.Need-enum-known-r
-enum-known-r c = search needs
-
 refused-requires : tie.Need-refused-requires
 refused-requires c κs =
     let p = written (c .before .before .before) in
     let a = start p .args in
     write-low (dayOf (a .demand .now) (a .capacity .now) (a .setup .now) (a .unit .now) (a .holding .now)) (a .out .now) _ (p .write .ensures) (c .before .r .given .1)
 
-enum-known-n : tie.Need-enum-known-n
-enum-known-n c = search needs
-
-same-length : tie.Need-same-length
-same-length c = search needs
-
 returns : tie.Need-returns
 returns c =
     let p = written (c .before .before .before .before) in
     shows _ (p .write .ensures) (c .before .before .r .given .1) (ap (λ (v : ℕ). seen v (start p .args .count .now)) (c .refused .ensures))
-
-same-length-2 : tie.Need-same-length-2
-same-length-2 c = search needs
 
 returns-2 : tie.Need-returns-2
 returns-2 c = let p = written (c .before .before .before .before) in shows _ (p .write .ensures) (c .before .before .n .given .1) refl
@@ -49,11 +34,11 @@ pub yakkurem-write-spec : {M : Type 1} → statement M
 yakkurem-write-spec =
     tie.close
     (tie.spec
-    write-requires
-    enum-known-r
+    (λ c κs. search needs)
+    (λ c. search needs)
     refused-requires
-    enum-known-n
-    same-length
+    (λ c. search needs)
+    (λ c. search needs)
     returns
-    same-length-2
+    (λ c. search needs)
     returns-2)

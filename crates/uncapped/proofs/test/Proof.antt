@@ -56,31 +56,10 @@ passed4 c =
 limits : (c : tie.After-enum-told) → Limits (given (day2 c))
 limits c = tables-passed (given (day2 c)) (badTotal (given (day2 c)) ∷ []) (passed2 c)
 
-day-requires : tie.Need-day-requires
-day-requires c κs = search needs
-
-enum-known-r : tie.Need-enum-known-r
-enum-known-r c = search needs
-
 returns : tie.Need-returns
 returns c =
     let p = c .before .before .before in
     group-refused [] (tables p) (memory p ++ supply p ++ kind p) refl (p .day .ensures) (c .before .r .given .1)
-
-enum-told : tie.Need-enum-told
-enum-told c = search needs
-
-add-memory : tie.Need-add-memory
-add-memory c = search needs
-
-add-memory-2 : tie.Need-add-memory-2
-add-memory-2 c = search needs
-
-memory-requires : tie.Need-memory-requires
-memory-requires c κs = search needs
-
-enum-known-r-2 : tie.Need-enum-known-r-2
-enum-known-r-2 c = search needs
 
 returns-2 : tie.Need-returns-2
 returns-2 c =
@@ -88,14 +67,8 @@ returns-2 c =
     let q = day2 (p .before) in
     group-refused (tables q) (memory q) (supply q ++ kind q) (passed2 (p .before)) (p .memory .ensures) (c .before .r2 .given .1)
 
-enum-told-2 : tie.Need-enum-told-2
-enum-told-2 c = search needs
-
 shortage-requires : tie.Need-shortage-requires
 shortage-requires c κs = let l = limits (c .before .before .before) in (l .lengths .capacity, l .few)
-
-enum-known-r-3 : tie.Need-enum-known-r-3
-enum-known-r-3 c = search needs
 
 returns-3 : tie.Need-returns-3
 returns-3 c =
@@ -103,9 +76,6 @@ returns-3 c =
     let q = day3 (p .before) in
     group-refused (tables q ++ memory q) (supply q) (kind q) (passed3 (p .before))
     (p .shortage .ensures ∙ ap checked (sym (first-one (shortage (given q))))) (c .before .r3 .given .1)
-
-enum-told-3 : tie.Need-enum-told-3
-enum-told-3 c = search needs
 
 binding-requires : tie.Need-binding-requires
 binding-requires c κs = let l = limits (c .before .before .before .before .before .before) in (l .lengths .capacity, l .few)
@@ -119,19 +89,19 @@ pub test-spec : {M : Type 1} → statement M
 test-spec =
     tie.close
     (tie.spec
-    day-requires
-    enum-known-r
+    (λ c κs. search needs)
+    (λ c. search needs)
     returns
-    enum-told
-    add-memory
-    add-memory-2
-    memory-requires
-    enum-known-r-2
+    (λ c. search needs)
+    (λ c. search needs)
+    (λ c. search needs)
+    (λ c κs. search needs)
+    (λ c. search needs)
     returns-2
-    enum-told-2
+    (λ c. search needs)
     shortage-requires
-    enum-known-r-3
+    (λ c. search needs)
     returns-3
-    enum-told-3
+    (λ c. search needs)
     binding-requires
     returns-4)

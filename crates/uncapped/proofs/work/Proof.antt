@@ -55,17 +55,11 @@ count-requires c κs =
     let e = enough (c .before .before .before .before .before .before .before .before .before .before .before .before .before .before .before .before .before .before .before .before .before .before) in
     omega (arith, c .before .before .before .before .read-back .kept .1 .1 .1 .1 .1 .1 .0)
 
-add-clear-costs : tie.Need-add-clear-costs
-add-clear-costs c = search needs
-
 clear-costs-requires : tie.Need-clear-costs-requires
 clear-costs-requires c κs =
     let e = enough (c .before .before .before .before .before .before .before .before .before .before .before .before .before .before .before .before .before .before .before .before .before .before .before .before) in
     let f = c .before .before .before .before .before .before .before .before .before .before .before .before .before .fill .ensures in
     omega (arith, f .costs-size, length-set (c .before .before .before .before .before .before .before .before .before .before .before .before .before .before .before .before .before .before .before .before .before .before .before .before .args .costs .now) 0 0)
-
-add-clear-choices : tie.Need-add-clear-choices
-add-clear-choices c = search needs
 
 clear-choices-requires : tie.Need-clear-choices-requires
 clear-choices-requires c κs =
@@ -74,12 +68,6 @@ clear-choices-requires c κs =
 
 same-length : tie.Need-same-length
 same-length c = c .before .before .before .before .before .before .clear-costs .kept .0 ∙ c .before .before .before .before .before .before .before .before .before .before .before .before .before .before .before .before .before .before .before .before .fill .ensures .costs-size ∙ length-set (c .before .before .before .before .before .before .before .before .before .before .before .before .before .before .before .before .before .before .before .before .before .before .before .before .before .before .before .before .before .before .before .args .costs .now) 0 0
-
-same-length-2 : tie.Need-same-length-2
-same-length-2 c = search needs
-
-same-length-3 : tie.Need-same-length-3
-same-length-3 c = search needs
 
 returns : tie.Need-returns
 returns c =
@@ -96,11 +84,11 @@ work-spec =
     mul-t21
     slice-read-t23
     count-requires
-    add-clear-costs
+    (λ c. search needs)
     clear-costs-requires
-    add-clear-choices
+    (λ c. search needs)
     clear-choices-requires
     same-length
-    same-length-2
-    same-length-3
+    (λ c. search needs)
+    (λ c. search needs)
     returns)

@@ -20,45 +20,6 @@ wide c = record {
   amount = λ k. omega (arith, c .shared-slice-known6 .given k);
 }
 
-mul-judge : tie.Need-mul-judge
-mul-judge c = search needs
-
-shared-slice-read-judge : tie.Need-shared-slice-read-judge
-shared-slice-read-judge c = search needs
-
-mul-t13 : tie.Need-mul-t13
-mul-t13 c = search needs
-
-shared-slice-read-t15 : tie.Need-shared-slice-read-t15
-shared-slice-read-t15 c = search needs
-
-mul-t16 : tie.Need-mul-t16
-mul-t16 c = search needs
-
-shared-slice-read-t18 : tie.Need-shared-slice-read-t18
-shared-slice-read-t18 c = search needs
-
-mul-t19 : tie.Need-mul-t19
-mul-t19 c = search needs
-
-shared-slice-read-t21 : tie.Need-shared-slice-read-t21
-shared-slice-read-t21 c = search needs
-
-mul-t22 : tie.Need-mul-t22
-mul-t22 c = search needs
-
-shared-slice-read-t24 : tie.Need-shared-slice-read-t24
-shared-slice-read-t24 c = search needs
-
-mul-judge-2 : tie.Need-mul-judge-2
-mul-judge-2 c = search needs
-
-shared-slice-read-judge-2 : tie.Need-shared-slice-read-judge-2
-shared-slice-read-judge-2 c = search needs
-
-add-judge : tie.Need-add-judge
-add-judge c = search needs
-
 judge-requires : tie.Need-judge-requires
 judge-requires c κs =
     let start = c .before .before .before .before .before .before in
@@ -77,18 +38,18 @@ pub advance-spec : {M : Type 1} → statement M
 advance-spec =
     tie.close
     (tie.spec
-    mul-judge
-    shared-slice-read-judge
-    mul-t13
-    shared-slice-read-t15
-    mul-t16
-    shared-slice-read-t18
-    mul-t19
-    shared-slice-read-t21
-    mul-t22
-    shared-slice-read-t24
-    mul-judge-2
-    shared-slice-read-judge-2
-    add-judge
+    (λ c. search needs)
+    (λ c. search needs)
+    (λ c. search needs)
+    (λ c. search needs)
+    (λ c. search needs)
+    (λ c. search needs)
+    (λ c. search needs)
+    (λ c. search needs)
+    (λ c. search needs)
+    (λ c. search needs)
+    (λ c. search needs)
+    (λ c. search needs)
+    (λ c. search needs)
     judge-requires
     returns)

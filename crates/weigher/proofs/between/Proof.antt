@@ -16,18 +16,6 @@ use Rattle.weigher.proofs.between.Tie as tie
 holding : {v : Verdict} {t : Totals} → v ≡ Holds t → Small v → t .cost < 2 ^ 63
 holding e s = rw e at s
 
-enum-known-v : tie.Need-enum-known-v
-enum-known-v c = search needs
-
-enum-known-v-2 : tie.Need-enum-known-v-2
-enum-known-v-2 c = search needs
-
-enum-known-w : tie.Need-enum-known-w
-enum-known-w c = search needs
-
-enum-known-w-2 : tie.Need-enum-known-w-2
-enum-known-w-2 c = search needs
-
 difference-requires : tie.Need-difference-requires
 difference-requires c κs =
     let p = c .before .before .before .before in
@@ -48,12 +36,4 @@ returns-3 c =
 pub between-spec : {M : Type 1} → statement M
 between-spec =
     tie.close
-    (tie.spec
-    enum-known-v
-    enum-known-v-2
-    enum-known-w
-    enum-known-w-2
-    difference-requires
-    returns
-    returns-2
-    returns-3)
+    (tie.spec (λ c. search needs) (λ c. search needs) (λ c. search needs) (λ c. search needs) difference-requires returns returns-2 returns-3)

@@ -37,24 +37,6 @@ other c = c .before .before .before .before .before .before .before .args .other
 taken-apart : (d : Day) (x y : List ℕ) {o p v w : Weighed} → o ≡ weighedOf d x → o ≡ v → p ≡ weighedOf d y → p ≡ w → compareOf v w ≡ comparedOf d x y
 taken-apart d x y is e is′ e′ = λ i. compareOf ((sym e ∙ is) i) ((sym e′ ∙ is′) i)
 
-weigh-requires : tie.Need-weigh-requires
-weigh-requires c κs = search needs
-
-enum-known-r : tie.Need-enum-known-r
-enum-known-r c = search needs
-
-enum-known-v : tie.Need-enum-known-v
-enum-known-v c = search needs
-
-weigh-requires-2 : tie.Need-weigh-requires-2
-weigh-requires-2 c κs = search needs
-
-enum-known-r-2 : tie.Need-enum-known-r-2
-enum-known-r-2 c = search needs
-
-enum-known-w : tie.Need-enum-known-w
-enum-known-w c = search needs
-
 between-requires : tie.Need-between-requires
 between-requires c κs =
     let second = c .before .before .before in
@@ -94,12 +76,12 @@ pub compare-spec : {M : Type 1} → statement M
 compare-spec =
     tie.close
     (tie.spec
-    weigh-requires
-    enum-known-r
-    enum-known-v
-    weigh-requires-2
-    enum-known-r-2
-    enum-known-w
+    (λ c κs. search needs)
+    (λ c. search needs)
+    (λ c. search needs)
+    (λ c κs. search needs)
+    (λ c. search needs)
+    (λ c. search needs)
     between-requires
     returns
     returns-2

@@ -11,9 +11,6 @@ use Rattle.weigher.proofs.holding_cost.Tie as tie
 low : (c : tie.Start) → c .args .rate * (c .args .made - c .args .demanded) < 2 ^ 56
 low c = omega (arith, paid-low (c .args .rate) (c .args .made - c .args .demanded) (2 ^ 24) (search needs) (omega arith))
 
-sub-result : tie.Need-sub-result
-sub-result c = search needs
-
 mul-result : tie.Need-mul-result
 mul-result c = omega (arith, low c)
 
@@ -21,4 +18,4 @@ returns : tie.Need-returns
 returns c = record { is = refl; low = low c }
 
 pub holding-cost-spec : {M : Type 1} → statement M
-holding-cost-spec = tie.close (tie.spec sub-result mul-result returns)
+holding-cost-spec = tie.close (tie.spec (λ c. search needs) mul-result returns)

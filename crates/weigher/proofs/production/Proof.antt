@@ -18,9 +18,6 @@ low c =
     let a = c .before .args in
     rw (made _ _ _ (c .if1 .left)) (production-low (a .setup) (a .unit) (a .amount) (search needs) (search needs) (search needs))
 
-returns : tie.Need-returns
-returns c = search needs
-
 mul-result : tie.Need-mul-result
 mul-result c = omega (arith, low c)
 
@@ -31,4 +28,4 @@ returns-2 : tie.Need-returns-2
 returns-2 c = record { is = made _ _ _ (c .if1 .left); low = low c }
 
 pub production-spec : {M : Type 1} → statement M
-production-spec = tie.close (tie.spec returns mul-result add-result returns-2)
+production-spec = tie.close (tie.spec (λ c. search needs) mul-result add-result returns-2)

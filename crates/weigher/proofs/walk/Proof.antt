@@ -23,25 +23,10 @@ loop-holds c = record { inside = search needs; sums = refl; kept = refl }
 advance-requires : tie.Need-advance-requires Inv-loop μ-loop
 advance-requires c κs = record { ready = c .before .before .before .before .before .before .before .before .pre; inside = c .loop-test .taken; sums = c .before .loop .inv .sums }
 
-enum-known-rule : tie.Need-enum-known-rule Inv-loop μ-loop
-enum-known-rule c = search needs
-
-add-t14 : tie.Need-add-t14 Inv-loop μ-loop
-add-t14 c = search needs
-
 returns : tie.Need-returns Inv-loop μ-loop
 returns c =
     let called = c .before .before .before in
     rw add-one (walked-broken (called .before .before .loop .inv) (called .before .loop-test .taken) (called .advance .ensures) (c .before .rule .given .1))
-
-enum-known-t : tie.Need-enum-known-t Inv-loop μ-loop
-enum-known-t c = search needs
-
-add-i : tie.Need-add-i Inv-loop μ-loop
-add-i c = search needs
-
-loop-less : tie.Need-loop-less Inv-loop μ-loop
-loop-less c = search needs
 
 loop-again : tie.Need-loop-again Inv-loop μ-loop
 loop-again c =
@@ -59,11 +44,11 @@ walk-spec =
     μ-loop
     loop-holds
     advance-requires
-    enum-known-rule
-    add-t14
+    (λ c. search needs)
+    (λ c. search needs)
     returns
-    enum-known-t
-    add-i
-    loop-less
+    (λ c. search needs)
+    (λ c. search needs)
+    (λ c. search needs)
     loop-again
     returns-2)

@@ -35,20 +35,11 @@ decides c =
     let o = badSlots (length (plan p)) (periods d) in
     first-passed (badTables d (badTotal d ∷ [])) (o ∷ []) (tested c) ∙ first-one o
 
-day-requires : tie.Need-day-requires
-day-requires c κs = search needs
-
-enum-known-r : tie.Need-enum-known-r
-enum-known-r c = search needs
-
 returns : tie.Need-returns
 returns c =
     let p = c .before .before .before in
     let d = tables p in
     rw (first-refused (badTables d (badTotal d ∷ [])) (badSlots (length (plan p)) (periods d) ∷ []) (refused _ (p .day .ensures) (c .before .r .given .1))) refl
-
-enum-told : tie.Need-enum-told
-enum-told c = search needs
 
 returns-2 : tie.Need-returns-2
 returns-2 c = rw (decides (c .before), lt-ltb _ _ (c .if1 .taken)) refl
@@ -65,4 +56,4 @@ returns-3 c = rw (c .walk .ensures, decides (c .before .before), le-ltb _ _ (c .
 pub weigh-spec : {M : Type 1} → statement M
 weigh-spec =
     tie.close
-    (tie.spec day-requires enum-known-r returns enum-told returns-2 walk-requires returns-3)
+    (tie.spec (λ c κs. search needs) (λ c. search needs) returns (λ c. search needs) returns-2 walk-requires returns-3)

@@ -57,9 +57,6 @@ cast-result-2 c =
     let f = c .before .fits .d in
     rw (toZ-ofZ w64 _ f) (not-less _ f (rw (toZ-ofZ w64 _ f) at (c .if1 .left)))
 
-returns-2 : tie.Need-returns-2
-returns-2 c = search needs
-
 pub magnitude-spec : {M : Type 1} → statement M
 magnitude-spec =
-    tie.close (tie.spec sub-result cast-result add-result returns cast-result-2 returns-2)
+    tie.close (tie.spec sub-result cast-result add-result returns cast-result-2 (λ c. search needs))

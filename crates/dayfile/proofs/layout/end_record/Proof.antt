@@ -17,17 +17,8 @@ returns c =
     let p = c .before .before .args .at in
     simp (le-ltb _ _ (c .if1 .taken), lt-ltb (length s) (next s p) (omega arith))
 
-shared-slice-read-is-kind : tie.Need-shared-slice-read-is-kind
-shared-slice-read-is-kind c = search needs
-
-is-kind-requires : tie.Need-is-kind-requires
-is-kind-requires c κs = search needs
-
 returns-2 : tie.Need-returns-2
 returns-2 c = simp (lt-ltb _ _ (c .before .before .before .if1 .left), ← c .before .is-kind .ensures, c .if2 .taken)
-
-next-requires : tie.Need-next-requires
-next-requires c κs = search needs
 
 returns-3 : tie.Need-returns-3
 returns-3 c =
@@ -41,9 +32,6 @@ returns-4 c =
     simp
     (lt-ltb _ _ (k .before .before .before .if1 .left), ← k .before .is-kind .ensures, k .if2 .left, ← c .before .before .next .ensures, le-ltb _ _ (c .before .if3 .left), ne-eqb _ _ (c .if4 .taken))
 
-body-requires : tie.Need-body-requires
-body-requires c κs = search needs
-
 number2-requires : tie.Need-number2-requires
 number2-requires c κs =
     let k = c .before .before .before .before in
@@ -51,9 +39,6 @@ number2-requires c κs =
     rw (c .body .ensures .bytes)
     (simp (length-take, length-drop)
     (omega (arith, kind-length (at (now (a .file)) (a .at)) (sym (k .before .is-kind .ensures) ∙ not-false _ (k .if2 .left)), c .before .before .before .next .ensures)))
-
-cast-if5 : tie.Need-cast-if5
-cast-if5 c = search needs
 
 returns-5 : tie.Need-returns-5
 returns-5 c =
@@ -72,14 +57,14 @@ end-record-spec =
     tie.close
     (tie.spec
     returns
-    shared-slice-read-is-kind
-    is-kind-requires
+    (λ c. search needs)
+    (λ c κs. search needs)
     returns-2
-    next-requires
+    (λ c κs. search needs)
     returns-3
     returns-4
-    body-requires
+    (λ c κs. search needs)
     number2-requires
-    cast-if5
+    (λ c. search needs)
     returns-5
     returns-6)

@@ -19,24 +19,6 @@ file c = now (c .before .before .args .file)
 walked : (c : tie.After-count) → (walk (file (c .before .before .before .before)) ≡ none) × (c .before .before .n .given .0 .0 ≡ periodsIn (file (c .before .before .before .before)))
 walked c = answered-periods _ _ (c .before .before .before .before .walk .ensures) (c .before .before .n .given .1)
 
-walk-requires : tie.Need-walk-requires
-walk-requires c κs = search needs
-
-enum-known-r : tie.Need-enum-known-r
-enum-known-r c = search needs
-
-enum-known-n : tie.Need-enum-known-n
-enum-known-n c = search needs
-
-count-requires : tie.Need-count-requires
-count-requires c κs = search needs
-
-enum-known-r-2 : tie.Need-enum-known-r-2
-enum-known-r-2 c = search needs
-
-enum-told : tie.Need-enum-told
-enum-told c = search needs
-
 returns : tie.Need-returns
 returns c =
     let p = c .before .before .before in
@@ -58,12 +40,12 @@ pub periods-spec : {M : Type 1} → statement M
 periods-spec =
     tie.close
     (tie.spec
-    walk-requires
-    enum-known-r
-    enum-known-n
-    count-requires
-    enum-known-r-2
-    enum-told
+    (λ c κs. search needs)
+    (λ c. search needs)
+    (λ c. search needs)
+    (λ c κs. search needs)
+    (λ c. search needs)
+    (λ c. search needs)
     returns
     returns-2
     returns-3)

@@ -20,9 +20,6 @@ abbrev μ-loop : tie.MeasureT-loop
 loop-holds : tie.Need-loop-holds Inv-loop μ-loop
 loop-holds c = walked-none _
 
-is-period-requires : tie.Need-is-period-requires Inv-loop μ-loop
-is-period-requires c κs = search needs
-
 -- in a turn a whole period stands here
 turn : (c : tie.Then1 Inv-loop μ-loop) → WholePeriod (now (c .before .before .before .before .args .file)) (c .before .before .loop .at)
 turn c = period _ _ (sym (c .before .is-period .ensures) ∙ c .if1 .taken)
@@ -53,4 +50,4 @@ returns c =
 pub walk-spec : {M : Type 1} → statement M
 walk-spec =
     tie.close
-    (tie.spec Inv-loop μ-loop loop-holds is-period-requires next-requires add-n loop-less loop-again end-record-requires returns)
+    (tie.spec Inv-loop μ-loop loop-holds (λ c κs. search needs) next-requires add-n loop-less loop-again end-record-requires returns)

@@ -20,24 +20,6 @@ admitted c = passed _ (c .before .before .check .ensures) (c .enum-told .given .
 asked : (c : tie.After-enum-told) → (1 ≤ c .before .before .before .before .args .period) × (c .before .before .before .before .args .period ≤ periodsIn (now (c .before .before .before .before .args .file)))
 asked c = let a = c .before .before .before .before .args in lookup-passed (now (a .file)) (a .period) (admitted c)
 
-check-requires : tie.Need-check-requires
-check-requires c κs = search needs
-
-enum-told : tie.Need-enum-told
-enum-told c = search needs
-
-enum-told-2 : tie.Need-enum-told-2
-enum-told-2 c = search needs
-
-sub-result : tie.Need-sub-result
-sub-result c = search needs
-
-part-result-start : tie.Need-part-result-start
-part-result-start c = search needs
-
-part-result-end : tie.Need-part-result-end
-part-result-end c = search needs
-
 returns : tie.Need-returns
 returns c =
     let p = c .before .before .before in
@@ -63,12 +45,12 @@ pub body-spec : {M : Type 1} → statement M
 body-spec =
     tie.close
     (tie.spec
-    check-requires
-    enum-told
-    enum-told-2
-    sub-result
-    part-result-start
-    part-result-end
+    (λ c κs. search needs)
+    (λ c. search needs)
+    (λ c. search needs)
+    (λ c. search needs)
+    (λ c. search needs)
+    (λ c. search needs)
     returns
     sub-record-at
     record-at-requires

@@ -11,18 +11,6 @@ use Rattle.dayfile.specs.Passed.{answered-refused, answered-periods}
 use Rattle.dayfile.proofs.lookup.check.Statement.{statement}
 use Rattle.dayfile.proofs.lookup.check.Tie as tie
 
-periods-requires : tie.Need-periods-requires
-periods-requires c κs = search needs
-
-enum-known-r : tie.Need-enum-known-r
-enum-known-r c = search needs
-
-enum-known-n : tie.Need-enum-known-n
-enum-known-n c = search needs
-
-number-requires : tie.Need-number-requires
-number-requires c κs = search needs
-
 returns : tie.Need-returns
 returns c =
     let p = c .before .before .before in
@@ -41,4 +29,4 @@ returns-2 c =
 pub check-spec : {M : Type 1} → statement M
 check-spec =
     tie.close
-    (tie.spec periods-requires enum-known-r enum-known-n number-requires returns returns-2)
+    (tie.spec (λ c κs. search needs) (λ c. search needs) (λ c. search needs) (λ c κs. search needs) returns returns-2)

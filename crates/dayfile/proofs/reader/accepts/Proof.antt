@@ -27,15 +27,6 @@ rest c = badSlots (c .before .before .args .cells) (periodsIn (file c)) ∷ badV
 counted : (c : tie.After-known-told2) → (first (badFile (file (c .before .before .before)) []) ≡ none) × (c .before .n .given .0 .0 ≡ periodsIn (file (c .before .before .before)))
 counted c = answered-periods _ _ (c .before .before .before .periods .ensures) (c .before .n .given .1)
 
-periods-requires : tie.Need-periods-requires
-periods-requires c κs = search needs
-
-enum-known-r : tie.Need-enum-known-r
-enum-known-r c = search needs
-
-enum-known-n : tie.Need-enum-known-n
-enum-known-n c = search needs
-
 returns : tie.Need-returns
 returns c =
     let p = c .before .before .before .before in
@@ -46,12 +37,6 @@ values-requires : tie.Need-values-requires
 values-requires c κs =
     let w = counted (c .before) in
     (w .1, rw (w .1) (file-passed (file (c .before .before .before .before)) [] (w .0)))
-
-enum-known-r-2 : tie.Need-enum-known-r-2
-enum-known-r-2 c = search needs
-
-enum-told : tie.Need-enum-told
-enum-told c = search needs
 
 returns-2 : tie.Need-returns-2
 returns-2 c =
@@ -79,13 +64,13 @@ pub accepts-spec : {M : Type 1} → statement M
 accepts-spec =
     tie.close
     (tie.spec
-    periods-requires
-    enum-known-r
-    enum-known-n
+    (λ c κs. search needs)
+    (λ c. search needs)
+    (λ c. search needs)
     returns
     values-requires
-    enum-known-r-2
-    enum-told
+    (λ c. search needs)
+    (λ c. search needs)
     returns-2
     returns-3
     returns-4)

@@ -74,12 +74,6 @@ decode-requires c κs = rw (body-part _ _ (c .before .next .ensures)) (period-bo
 put-requires : tie.Need-put-requires Inv-loop μ-loop
 put-requires c κs = room (c .before .before .before .before .before .before .before .before)
 
-add-k : tie.Need-add-k Inv-loop μ-loop
-add-k c = omega arith
-
-loop-less : tie.Need-loop-less Inv-loop μ-loop
-loop-less c = omega arith
-
 loop-again : tie.Need-loop-again Inv-loop μ-loop
 loop-again c =
     let p = c .before .before .before .before .before .before .before .before .before .before in
@@ -123,8 +117,8 @@ fill-spec =
     part-decode-end
     decode-requires
     put-requires
-    add-k
-    loop-less
+    (λ c. omega arith)
+    (λ c. omega arith)
     loop-again
     same-length
     same-length-2

@@ -28,18 +28,6 @@ admitted : (c : tie.After-answer)
     → (badRead (file (c .before .before)) (shortest (lent (c .before .before))) ≡ none) × (c .answer .given .0 .0 ≡ periodsIn (file (c .before .before)))
 admitted c = answered-periods _ _ (tested (c .before .before)) (c .answer .given .1)
 
-shortest-requires : tie.Need-shortest-requires
-shortest-requires c κs = search needs
-
-accepts-requires : tie.Need-accepts-requires
-accepts-requires c κs = search needs
-
-enum-known-answer : tie.Need-enum-known-answer
-enum-known-answer c = search needs
-
-enum-told : tie.Need-enum-told
-enum-told c = search needs
-
 returns : tie.Need-returns
 returns c =
     let p = c .before .before in
@@ -52,21 +40,6 @@ fill-requires c κs =
     let w = admitted a in
     (w .1, rw (w .1) (read-passed (file (a .before .before)) (lent (a .before .before)) (w .0)))
 
-same-length : tie.Need-same-length
-same-length c = search needs
-
-same-length-2 : tie.Need-same-length-2
-same-length-2 c = search needs
-
-same-length-3 : tie.Need-same-length-3
-same-length-3 c = search needs
-
-same-length-4 : tie.Need-same-length-4
-same-length-4 c = search needs
-
-same-length-5 : tie.Need-same-length-5
-same-length-5 c = search needs
-
 returns-2 : tie.Need-returns-2
 returns-2 c =
     let f = c .before .before .before .before .before .before .before .before .before .before in
@@ -77,15 +50,15 @@ pub read-spec : {M : Type 1} → statement M
 read-spec =
     tie.close
     (tie.spec
-    shortest-requires
-    accepts-requires
-    enum-known-answer
-    enum-told
+    (λ c κs. search needs)
+    (λ c κs. search needs)
+    (λ c. search needs)
+    (λ c. search needs)
     returns
     fill-requires
-    same-length
-    same-length-2
-    same-length-3
-    same-length-4
-    same-length-5
+    (λ c. search needs)
+    (λ c. search needs)
+    (λ c. search needs)
+    (λ c. search needs)
+    (λ c. search needs)
     returns-2)

@@ -24,69 +24,6 @@ file c = now (c .before .before .before .before .before .before .before .args .f
 front : (c : tie.After-fill) → firstOf (c .before .before .before .before .before .before .before .args .n) (tables c) ≡ dayIn (file c)
 front c = filled-front (file c) _ (let z = replicate 96 0 in dayOf z z z z z) (tables c) (c .before .before .before .before .before .before .before .pre .0) (c .fill .ensures)
 
-slice-aggregate-fill : tie.Need-slice-aggregate-fill
-slice-aggregate-fill c = search needs
-
-slice-aggregate-fill-2 : tie.Need-slice-aggregate-fill-2
-slice-aggregate-fill-2 c = search needs
-
-slice-aggregate-fill-3 : tie.Need-slice-aggregate-fill-3
-slice-aggregate-fill-3 c = search needs
-
-slice-aggregate-fill-4 : tie.Need-slice-aggregate-fill-4
-slice-aggregate-fill-4 c = search needs
-
-slice-aggregate-fill-5 : tie.Need-slice-aggregate-fill-5
-slice-aggregate-fill-5 c = search needs
-
-fill-requires : tie.Need-fill-requires
-fill-requires c κs = search needs
-
-sub-values : tie.Need-sub-values
-sub-values c = search needs
-
-part-values-start : tie.Need-part-values-start
-part-values-start c = search needs
-
-part-values-end : tie.Need-part-values-end
-part-values-end c = search needs
-
-sub-values-2 : tie.Need-sub-values-2
-sub-values-2 c = search needs
-
-part-values-start-2 : tie.Need-part-values-start-2
-part-values-start-2 c = search needs
-
-part-values-end-2 : tie.Need-part-values-end-2
-part-values-end-2 c = search needs
-
-sub-values-3 : tie.Need-sub-values-3
-sub-values-3 c = search needs
-
-part-values-start-3 : tie.Need-part-values-start-3
-part-values-start-3 c = search needs
-
-part-values-end-3 : tie.Need-part-values-end-3
-part-values-end-3 c = search needs
-
-sub-values-4 : tie.Need-sub-values-4
-sub-values-4 c = search needs
-
-part-values-start-4 : tie.Need-part-values-start-4
-part-values-start-4 c = search needs
-
-part-values-end-4 : tie.Need-part-values-end-4
-part-values-end-4 c = search needs
-
-sub-values-5 : tie.Need-sub-values-5
-sub-values-5 c = search needs
-
-part-values-start-5 : tie.Need-part-values-start-5
-part-values-start-5 c = search needs
-
-part-values-end-5 : tie.Need-part-values-end-5
-part-values-end-5 c = search needs
-
 values-requires : tie.Need-values-requires
 values-requires c κs = let p = c .before .before .before .before .before .before .before .before .before .before .before .before .before .before .before in rw (front p) (day-lengths (file p))
 
@@ -97,26 +34,26 @@ pub values-spec : {M : Type 1} → statement M
 values-spec =
     tie.close
     (tie.spec
-    slice-aggregate-fill
-    slice-aggregate-fill-2
-    slice-aggregate-fill-3
-    slice-aggregate-fill-4
-    slice-aggregate-fill-5
-    fill-requires
-    sub-values
-    part-values-start
-    part-values-end
-    sub-values-2
-    part-values-start-2
-    part-values-end-2
-    sub-values-3
-    part-values-start-3
-    part-values-end-3
-    sub-values-4
-    part-values-start-4
-    part-values-end-4
-    sub-values-5
-    part-values-start-5
-    part-values-end-5
+    (λ c. search needs)
+    (λ c. search needs)
+    (λ c. search needs)
+    (λ c. search needs)
+    (λ c. search needs)
+    (λ c κs. search needs)
+    (λ c. search needs)
+    (λ c. search needs)
+    (λ c. search needs)
+    (λ c. search needs)
+    (λ c. search needs)
+    (λ c. search needs)
+    (λ c. search needs)
+    (λ c. search needs)
+    (λ c. search needs)
+    (λ c. search needs)
+    (λ c. search needs)
+    (λ c. search needs)
+    (λ c. search needs)
+    (λ c. search needs)
+    (λ c. search needs)
     values-requires
     returns)

@@ -16,27 +16,6 @@ day c =
     let a = c .before .before .before .before .before .before .before .before .args in
     dayOf (now (a .demand)) (now (a .capacity)) (now (a .setup)) (now (a .unit)) (now (a .holding))
 
-put-periods-requires : tie.Need-put-periods-requires
-put-periods-requires c κs = search needs
-
-cast-end-record : tie.Need-cast-end-record
-cast-end-record c = search needs
-
-end-record-requires : tie.Need-end-record-requires
-end-record-requires c κs = search needs
-
-slice-aggregate-copy : tie.Need-slice-aggregate-copy
-slice-aggregate-copy c = search needs
-
-mul-copy : tie.Need-mul-copy
-mul-copy c = search needs
-
-copy-requires : tie.Need-copy-requires
-copy-requires c κs = search needs
-
-same-length : tie.Need-same-length
-same-length c = search needs
-
 returns : tie.Need-returns
 returns c =
     let p = c .before .before in
@@ -52,11 +31,11 @@ pub put-file-spec : {M : Type 1} → statement M
 put-file-spec =
     tie.close
     (tie.spec
-    put-periods-requires
-    cast-end-record
-    end-record-requires
-    slice-aggregate-copy
-    mul-copy
-    copy-requires
-    same-length
+    (λ c κs. search needs)
+    (λ c. search needs)
+    (λ c κs. search needs)
+    (λ c. search needs)
+    (λ c. search needs)
+    (λ c κs. search needs)
+    (λ c. search needs)
     returns)

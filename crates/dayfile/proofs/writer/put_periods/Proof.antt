@@ -41,23 +41,11 @@ record-of-requires c κs =
       holding = omega (arith, w .holding);
     }
 
-slice-aggregate-copy : tie.Need-slice-aggregate-copy Inv-loop μ-loop
-slice-aggregate-copy c = search needs
-
 copy-requires : tie.Need-copy-requires Inv-loop μ-loop
 copy-requires c κs =
     let r = c .before .before in
     let e : length (r .record-of .result) ≡ 17 = ap length (r .record-of .ensures) in
     omega (arith, e, r .before .before .loop .inv, r .before .before .before .before .before .before .before .before .before .pre .1)
-
-add-at : tie.Need-add-at Inv-loop μ-loop
-add-at c = omega arith
-
-add-k : tie.Need-add-k Inv-loop μ-loop
-add-k c = omega arith
-
-loop-less : tie.Need-loop-less Inv-loop μ-loop
-loop-less c = omega arith
 
 loop-again : tie.Need-loop-again Inv-loop μ-loop
 loop-again c =
@@ -84,11 +72,11 @@ put-periods-spec =
     μ-loop
     loop-holds
     record-of-requires
-    slice-aggregate-copy
+    (λ c. search needs)
     copy-requires
-    add-at
-    add-k
-    loop-less
+    (λ c. omega arith)
+    (λ c. omega arith)
+    (λ c. omega arith)
     loop-again
     same-length
     returns)

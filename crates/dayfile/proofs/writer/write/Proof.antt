@@ -31,19 +31,10 @@ admitted c = passed _ (c .before .before .tables .ensures) (c .enum-told .given 
 limits : (c : tie.After-enum-told) → Limits (day (c .before .before))
 limits c = tables-passed _ [] (admitted c)
 
-tables-requires : tie.Need-tables-requires
-tables-requires c κs = search needs
-
-enum-known-r : tie.Need-enum-known-r
-enum-known-r c = search needs
-
 returns : tie.Need-returns
 returns c =
     let p = c .before .before .before in
     (first-refused (badTables (day p) []) (rest p) (refused (first (badTables (day p) [])) (p .tables .ensures) (c .before .r .given .1)), refl)
-
-enum-told : tie.Need-enum-told
-enum-told c = search needs
 
 mul-size : tie.Need-mul-size
 mul-size c = omega (arith, limits c .few)
@@ -61,9 +52,6 @@ put-file-requires c κs =
     let w = limits (c .before .before) in
     (w .lengths, (w .few, c .before .if1 .left))
 
-same-length : tie.Need-same-length
-same-length c = search needs
-
 returns-3 : tie.Need-returns-3
 returns-3 c =
     let f = c .before .before in
@@ -75,13 +63,13 @@ pub write-spec : {M : Type 1} → statement M
 write-spec =
     tie.close
     (tie.spec
-    tables-requires
-    enum-known-r
+    (λ c κs. search needs)
+    (λ c. search needs)
     returns
-    enum-told
+    (λ c. search needs)
     mul-size
     add-size
     returns-2
     put-file-requires
-    same-length
+    (λ c. search needs)
     returns-3)

@@ -20,47 +20,11 @@ abbrev μ-loop : tie.MeasureT-loop
 loop-holds : tie.Need-loop-holds Inv-loop μ-loop
 loop-holds c = (omega arith, c .before .before .before .before .before .before .pre .1 .1 .1)
 
-sub-l : tie.Need-sub-l Inv-loop μ-loop
-sub-l c = omega arith
-
-mul-candidate : tie.Need-mul-candidate Inv-loop μ-loop
-mul-candidate c = omega arith
-
-shared-slice-read-candidate : tie.Need-shared-slice-read-candidate Inv-loop μ-loop
-shared-slice-read-candidate c = omega arith
-
-mul-candidate-2 : tie.Need-mul-candidate-2 Inv-loop μ-loop
-mul-candidate-2 c = omega arith
-
-shared-slice-read-candidate-2 : tie.Need-shared-slice-read-candidate-2 Inv-loop μ-loop
-shared-slice-read-candidate-2 c = omega arith
-
-mul-candidate-3 : tie.Need-mul-candidate-3 Inv-loop μ-loop
-mul-candidate-3 c = omega arith
-
-shared-slice-read-candidate-3 : tie.Need-shared-slice-read-candidate-3 Inv-loop μ-loop
-shared-slice-read-candidate-3 c = omega arith
-
-mul-candidate-4 : tie.Need-mul-candidate-4 Inv-loop μ-loop
-mul-candidate-4 c = omega arith
-
-shared-slice-read-candidate-4 : tie.Need-shared-slice-read-candidate-4 Inv-loop μ-loop
-shared-slice-read-candidate-4 c = omega arith
-
-mul-candidate-5 : tie.Need-mul-candidate-5 Inv-loop μ-loop
-mul-candidate-5 c = omega arith
-
-shared-slice-read-candidate-5 : tie.Need-shared-slice-read-candidate-5 Inv-loop μ-loop
-shared-slice-read-candidate-5 c = omega arith
-
 candidate-requires : tie.Need-candidate-requires Inv-loop μ-loop
 candidate-requires c κs =
     let t = c .before .before .before .before .before .before in
     let p = t .before .before .before .before .before .before .before .pre in
     seen-room _ (p .0) _ _ (t .loop .l) (t .loop .l - 1) _ (p .1 .0 .0) (omega arith) (t .loop .inv .1) (t .loop .inv .0) (p .1 .1 .0)
-
-loop-less : tie.Need-loop-less Inv-loop μ-loop
-loop-less c = omega arith
 
 loop-again : tie.Need-loop-again Inv-loop μ-loop
 loop-again c =
@@ -78,18 +42,18 @@ cheapest-spec =
     Inv-loop
     μ-loop
     loop-holds
-    sub-l
-    mul-candidate
-    shared-slice-read-candidate
-    mul-candidate-2
-    shared-slice-read-candidate-2
-    mul-candidate-3
-    shared-slice-read-candidate-3
-    mul-candidate-4
-    shared-slice-read-candidate-4
-    mul-candidate-5
-    shared-slice-read-candidate-5
+    (λ c. omega arith)
+    (λ c. omega arith)
+    (λ c. omega arith)
+    (λ c. omega arith)
+    (λ c. omega arith)
+    (λ c. omega arith)
+    (λ c. omega arith)
+    (λ c. omega arith)
+    (λ c. omega arith)
+    (λ c. omega arith)
+    (λ c. omega arith)
     candidate-requires
-    loop-less
+    (λ c. omega arith)
     loop-again
     returns)

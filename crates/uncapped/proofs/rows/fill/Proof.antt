@@ -25,26 +25,8 @@ row-requires c κs =
     let t = c .before .before in
     (t .before .before .before .before .before .before .before .before .pre .0, ((c .before .loop-test .taken, omega (arith, t .loop .inv .1 .costs-size)), t .loop .inv .1 .low))
 
-add-m : tie.Need-add-m Inv-loop μ-loop
-add-m c = omega arith
-
-mul-costs : tie.Need-mul-costs Inv-loop μ-loop
-mul-costs c = omega arith
-
-slice-write-costs : tie.Need-slice-write-costs Inv-loop μ-loop
-slice-write-costs c = omega arith
-
 cast-choices : tie.Need-cast-choices Inv-loop μ-loop
 cast-choices c = omega (arith, c .before .row .ensures .inside, c .before .before .before .before .before .before .before .before .before .before .before .before .pre .0 .few)
-
-mul-choices : tie.Need-mul-choices Inv-loop μ-loop
-mul-choices c = omega arith
-
-slice-write-choices : tie.Need-slice-write-choices Inv-loop μ-loop
-slice-write-choices c = omega arith
-
-loop-less : tie.Need-loop-less Inv-loop μ-loop
-loop-less c = omega arith
 
 loop-again : tie.Need-loop-again Inv-loop μ-loop
 loop-again c =
@@ -69,13 +51,13 @@ fill-spec =
     μ-loop
     loop-holds
     row-requires
-    add-m
-    mul-costs
-    slice-write-costs
+    (λ c. omega arith)
+    (λ c. omega arith)
+    (λ c. omega arith)
     cast-choices
-    mul-choices
-    slice-write-choices
-    loop-less
+    (λ c. omega arith)
+    (λ c. omega arith)
+    (λ c. omega arith)
     loop-again
     same-length
     same-length-2

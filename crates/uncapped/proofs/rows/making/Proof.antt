@@ -6,9 +6,6 @@ use Rattle.uncapped.proofs.Candidates.{product-low, making-some}
 use Rattle.uncapped.proofs.rows.making.Statement.{statement}
 use Rattle.uncapped.proofs.rows.making.Tie as tie
 
-returns : tie.Need-returns
-returns c = search needs
-
 mul-result : tie.Need-mul-result
 mul-result c = let s = c .before in omega (arith, product-low (s .args .unit) (s .args .x) (s .fits .unit .fits) (s .pre))
 
@@ -24,4 +21,4 @@ returns-2 c =
     }
 
 pub making-spec : {M : Type 1} → statement M
-making-spec = tie.close (tie.spec returns mul-result add-result returns-2)
+making-spec = tie.close (tie.spec (λ c. search needs) mul-result add-result returns-2)

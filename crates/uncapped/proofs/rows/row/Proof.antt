@@ -6,32 +6,8 @@ use Rattle.uncapped.proofs.Candidates.{demand-few, last-seen, last-chos
 use Rattle.uncapped.proofs.rows.row.Statement.{statement}
 use Rattle.uncapped.proofs.rows.row.Tie as tie
 
-mul-made : tie.Need-mul-made
-mul-made c = search needs
-
-shared-slice-read-made : tie.Need-shared-slice-read-made
-shared-slice-read-made c = search needs
-
 cast-made : tie.Need-cast-made
 cast-made c = omega (arith, c .shared-slice-known7 .given (c .before .before .before .before .before .before .before .args .m))
-
-mul-t11 : tie.Need-mul-t11
-mul-t11 c = search needs
-
-shared-slice-read-t15 : tie.Need-shared-slice-read-t15
-shared-slice-read-t15 c = search needs
-
-mul-making : tie.Need-mul-making
-mul-making c = search needs
-
-shared-slice-read-making : tie.Need-shared-slice-read-making
-shared-slice-read-making c = search needs
-
-mul-making-2 : tie.Need-mul-making-2
-mul-making-2 c = search needs
-
-shared-slice-read-making-2 : tie.Need-shared-slice-read-making-2
-shared-slice-read-making-2 c = search needs
 
 making-requires : tie.Need-making-requires
 making-requires c κs = let s = c .before .before .before .before .before .before .before .before .before .before in demand-few _ (s .pre .0) _ (s .pre .1 .0 .0)
@@ -52,15 +28,15 @@ pub row-spec : {M : Type 1} → statement M
 row-spec =
     tie.close
     (tie.spec
-    mul-made
-    shared-slice-read-made
+    (λ c. search needs)
+    (λ c. search needs)
     cast-made
-    mul-t11
-    shared-slice-read-t15
-    mul-making
-    shared-slice-read-making
-    mul-making-2
-    shared-slice-read-making-2
+    (λ c. search needs)
+    (λ c. search needs)
+    (λ c. search needs)
+    (λ c. search needs)
+    (λ c. search needs)
+    (λ c. search needs)
     making-requires
     add-t23
     returns

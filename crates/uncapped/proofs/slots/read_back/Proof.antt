@@ -23,17 +23,8 @@ abbrev μ-loop : tie.MeasureT-loop
 loop-holds : tie.Need-loop-holds Inv-loop μ-loop
 loop-holds c = (omega arith, refl, refl)
 
-mul-from : tie.Need-mul-from Inv-loop μ-loop
-mul-from c = omega arith
-
-shared-slice-read-from : tie.Need-shared-slice-read-from Inv-loop μ-loop
-shared-slice-read-from c = omega arith
-
 cast-from : tie.Need-cast-from Inv-loop μ-loop
 cast-from c = omega (arith, c .shared-slice-known7 .given (c .before .before .loop .m))
-
-sub-put-lot : tie.Need-sub-put-lot Inv-loop μ-loop
-sub-put-lot c = omega arith
 
 put-lot-requires : tie.Need-put-lot-requires Inv-loop μ-loop
 put-lot-requires c κs =
@@ -71,10 +62,10 @@ read-back-spec =
     Inv-loop
     μ-loop
     loop-holds
-    mul-from
-    shared-slice-read-from
+    (λ c. omega arith)
+    (λ c. omega arith)
     cast-from
-    sub-put-lot
+    (λ c. omega arith)
     put-lot-requires
     loop-less
     loop-again

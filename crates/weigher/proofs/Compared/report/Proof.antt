@@ -6,24 +6,6 @@ use borrow.Author.Needs.{needs}
 use Rattle.weigher.proofs.Compared.report.Statement.{statement}
 use Rattle.weigher.proofs.Compared.report.Tie as tie
 
-enum-known-self : tie.Need-enum-known-self
-enum-known-self c = search needs
-
-number-requires : tie.Need-number-requires
-number-requires c κs = search needs
-
-period-requires : tie.Need-period-requires
-period-requires c κs = search needs
-
-enum-known-self-2 : tie.Need-enum-known-self-2
-enum-known-self-2 c = search needs
-
-number-requires-2 : tie.Need-number-requires-2
-number-requires-2 c κs = search needs
-
-enum-known-self-3 : tie.Need-enum-known-self-3
-enum-known-self-3 c = search needs
-
 returns : tie.Need-returns
 returns c = rw (c .before .before .before .self .given .1, c .before .number .ensures, c .period .ensures) refl
 
@@ -37,12 +19,12 @@ pub report-spec : {M : Type 1} → statement M
 report-spec =
     tie.close
     (tie.spec
-    enum-known-self
-    number-requires
-    period-requires
-    enum-known-self-2
-    number-requires-2
-    enum-known-self-3
+    (λ c. search needs)
+    (λ c κs. search needs)
+    (λ c κs. search needs)
+    (λ c. search needs)
+    (λ c κs. search needs)
+    (λ c. search needs)
     returns
     returns-2
     returns-3)

@@ -4,27 +4,6 @@ use borrow.Author.Needs.{needs}
 use Rattle.weigher.proofs.Weighed.report.Statement.{statement}
 use Rattle.weigher.proofs.Weighed.report.Tie as tie
 
-enum-known-self : tie.Need-enum-known-self
-enum-known-self c = search needs
-
-number-requires : tie.Need-number-requires
-number-requires c κs = search needs
-
-period-requires : tie.Need-period-requires
-period-requires c κs = search needs
-
-enum-known-self-2 : tie.Need-enum-known-self-2
-enum-known-self-2 c = search needs
-
-enum-known-verdict : tie.Need-enum-known-verdict
-enum-known-verdict c = search needs
-
-number-requires-2 : tie.Need-number-requires-2
-number-requires-2 c κs = search needs
-
-enum-known-verdict-2 : tie.Need-enum-known-verdict-2
-enum-known-verdict-2 c = search needs
-
 returns : tie.Need-returns
 returns c = rw (c .before .before .before .self .given .1, c .before .number .ensures, c .period .ensures) refl
 
@@ -38,13 +17,13 @@ pub report-spec : {M : Type 1} → statement M
 report-spec =
     tie.close
     (tie.spec
-    enum-known-self
-    number-requires
-    period-requires
-    enum-known-self-2
-    enum-known-verdict
-    number-requires-2
-    enum-known-verdict-2
+    (λ c. search needs)
+    (λ c κs. search needs)
+    (λ c κs. search needs)
+    (λ c. search needs)
+    (λ c. search needs)
+    (λ c κs. search needs)
+    (λ c. search needs)
     returns
     returns-2
     returns-3)
