@@ -2,4 +2,3 @@
 pub mod Candidates
 pub mod Filling
 pub mod ReadBack
-pub mod Entry

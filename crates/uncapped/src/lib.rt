@@ -62,9 +62,8 @@ fn work(
     requires { ⌜ refusal uncapped (dayOf (now demand) (now capacity) (now setup) (now unit) (now holding)) (record { costs = now costs; choices = now choices; slots = now slots }) ≡ none ⌝ }
     ensures { λ r. ⌜ Accepted (dayOf (now (demand .entry)) (now (capacity .entry)) (now (setup .entry)) (now (unit .entry)) (now (holding .entry))) (length (now (demand .entry)) + 1) (length (now (demand .entry)) + 1) r (record { costs = now (costs .entry); choices = now (choices .entry); slots = now (slots .entry) }) (record { costs = now (costs .exit); choices = now (choices .exit); slots = now (slots .exit) }) ⌝ }
 {
-    costs[0] = 0;
-    rows::fill(demand, capacity, setup, unit, holding, costs, choices);
-    slots::read_back(demand, capacity, setup, unit, holding, choices, slots);
+    rows::fill(demand, setup, unit, holding, costs, choices);
+    slots::read_back(demand, choices, slots);
     let n = demand.len();
     let totals = Totals {
         cost: costs[n],
