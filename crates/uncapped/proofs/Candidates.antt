@@ -6,7 +6,7 @@ use Prim.Native.Nat.{ℕ, suc, _+_, _-_, _*_, _≤_, _<_}
 use native.Mathlib.Nat.{mul-le-mul, eq-or-lt-of-le}
 use native.Mathlib.Decide.{decLe}
 use native.Mathlib.Omega.{arith}
-use Rattle.day.specs.Sums.{at, sum-grows, Term}
+use Rattle.day.specs.Sums.{at, sum-grows}
 use Rattle.day.specs.Day.{maxTotal}
 use Rattle.day.specs.Plan.{making}
 use Rattle.terms.specs.Low.{making-low}
@@ -16,7 +16,7 @@ use Rattle.theory.specs.Problem.{Problem, modelOf, Bounded, periods}
 use Rattle.theory.specs.Uncapped.{price, held}
 use Rattle.uncapped.specs.declared.rows.LastLot.{LastLot}
 use Rattle.uncapped.specs.declared.rows.Search.{Search}
-use Rattle.uncapped.specs.Bounds.{LowCosts, CandidateFits, maxHolding, maxMaking}
+use Rattle.uncapped.specs.Bounds.{LowCosts, CandidateFits, maxMaking}
 use Rattle.uncapped.specs.Rows.{better, tried, Least, Searched, LastLotOf}
 
 -- one candidate more, at its price

@@ -2,3 +2,4 @@
 pub mod Candidates
 pub mod Filling
 pub mod ReadBack
+pub mod Entry

@@ -61,13 +61,9 @@ fn cheapest(
     m: usize,
     last: Search,
 ) -> Search
-    requires {
-        ⌜ RestReady (uncapacitated (now demand) (now setup) (now unit) (now holding)) (now costs) m last ⌝
-    }
-    ensures {
-        λ r. ⌜ Searched (uncapacitated (now (demand .entry)) (now (setup .entry)) (now (unit .entry)) (now (holding .entry)))
-            (at (now (costs .entry))) m 0 r ⌝
-    }
+    requires { ⌜ RestReady (uncapacitated (now demand) (now setup) (now unit) (now holding)) (now costs) m last ⌝ }
+    ensures { λ r. ⌜ Searched (uncapacitated (now (demand .entry)) (now (setup .entry)) (now (unit .entry)) (now (holding .entry)))
+        (at (now (costs .entry))) m 0 r ⌝ }
 {
     let mut s = last;
     let mut l = m;
@@ -87,13 +83,9 @@ fn row(
     costs: &[u64],
     m: usize,
 ) -> LastLot
-    requires {
-        ⌜ RowReady (uncapacitated (now demand) (now setup) (now unit) (now holding)) (now costs) m ⌝
-    }
-    ensures {
-        λ r. ⌜ LastLotOf (uncapacitated (now (demand .entry)) (now (setup .entry)) (now (unit .entry)) (now (holding .entry)))
-            (at (now (costs .entry))) m r ⌝
-    }
+    requires { ⌜ RowReady (uncapacitated (now demand) (now setup) (now unit) (now holding)) (now costs) m ⌝ }
+    ensures { λ r. ⌜ LastLotOf (uncapacitated (now (demand .entry)) (now (setup .entry)) (now (unit .entry)) (now (holding .entry)))
+        (at (now (costs .entry))) m r ⌝ }
 {
     let made = demand[m] as u64;
     let best = LastLot {
@@ -121,13 +113,9 @@ pub fn fill(
     costs: &mut [u64],
     choices: &mut [u16],
 )
-    requires {
-        ⌜ FillReady (uncapacitated (now demand) (now setup) (now unit) (now holding)) (now costs) (now choices) ⌝
-    }
-    ensures {
-        λ _. ⌜ RowsWritten (uncapacitated (now (demand .entry)) (now (setup .entry)) (now (unit .entry)) (now (holding .entry)))
-            (now (costs .entry)) (now (choices .entry)) (now (costs .exit)) (now (choices .exit)) ⌝
-    }
+    requires { ⌜ FillReady (uncapacitated (now demand) (now setup) (now unit) (now holding)) (now costs) (now choices) ⌝ }
+    ensures { λ _. ⌜ RowsWritten (uncapacitated (now (demand .entry)) (now (setup .entry)) (now (unit .entry)) (now (holding .entry)))
+        (now (costs .entry)) (now (choices .entry)) (now (costs .exit)) (now (choices .exit)) ⌝ }
 {
     costs[0] = 0;
     let mut m = 0;

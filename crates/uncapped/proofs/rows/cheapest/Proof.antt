@@ -36,7 +36,7 @@ loop-again c =
     let r = at-start (t .before) .pre .ready in (
       omega arith,
       rw (c .candidate .ensures)
-      (searched-more _ (r .bounded) _ _ (r .inside) (t .loop .l) (t .loop .l - 1) _ (omega arith) (t .loop .inv .0) (t .loop .inv .1)),
+          (searched-more _ (r .bounded) _ _ (r .inside) (t .loop .l) (t .loop .l - 1) _ (omega arith) (t .loop .inv .0) (t .loop .inv .1)),
     )
 
 returns : tie.Need-returns Inv-loop μ-loop

@@ -60,7 +60,7 @@ loop-again c =
     let s = at-start (t .before) in (
       omega arith,
       rows-more _ _ _ (cells s) (s .pre .choice-cells)
-      _ _ _ _ _ (add-one _) (r .before .before .loop-test .taken) (t .loop .inv .1) (r .row .ensures),
+          _ _ _ _ _ (add-one _) (r .before .before .loop-test .taken) (t .loop .inv .1) (r .row .ensures),
     )
 
 same-length : tie.Need-same-length Inv-loop μ-loop

@@ -22,7 +22,10 @@ at-loop c = c .before .before .before
 
 -- the lot begins in one of the row's periods
 less : (c : tie.After-put-lot-arg Inv-loop μ-loop) → let m = at-loop c .loop .m in at (at-start (at-loop c) .args .choices .now) m ≤ m - 1
-less c = let t = at-loop c in begins-less _ (at-start t .pre .begins) (t .loop .m) (t .loop .m - 1) (omega arith) (t .loop .inv .0)
+less c =
+    let t = at-loop c in
+    let s = at-start t in
+    begins-less (at (s .args .choices .now)) (s .pre .begins) (t .loop .m) (t .loop .m - 1) (omega arith) (t .loop .inv .0)
 
 loop-holds : tie.Need-loop-holds Inv-loop μ-loop
 loop-holds c = (omega arith, refl, λ rows lots. refl)
@@ -42,17 +45,22 @@ loop-less c = omega (arith, less (c .before .before .before))
 loop-again : tie.Need-loop-again Inv-loop μ-loop
 loop-again c =
     let q = c .before .before in
-    let t = at-loop (q .before) in (
+    let t = at-loop (q .before) in
+    let a = at-start t .args in (
       omega (arith, less (q .before)),
       q .put-lot .kept .1 .0 ∙ t .loop .inv .1,
-      ends-more _ _ _ (t .loop .m) (t .loop .m - 1) (omega arith) (t .loop .inv .0) _ _ (q .put-lot .ensures) (t .loop .inv .2),
+      ends-more (a .demand .now) (a .choices .now) (a .slots .now) (t .loop .m) (t .loop .m - 1) (omega arith) (t .loop .inv .0) _ _
+          (q .put-lot .ensures) (t .loop .inv .2),
     )
 
 same-length : tie.Need-same-length Inv-loop μ-loop
 same-length c = c .before .loop .inv .1
 
 returns : tie.Need-returns Inv-loop μ-loop
-returns c = ends-all _ _ _ _ _ (omega arith) (c .before .loop .inv .2)
+returns c =
+    let t = c .before in
+    let a = at-start t .args in
+    ends-all (a .demand .now) (a .choices .now) (a .slots .now) _ _ (omega arith) (t .loop .inv .2)
 
 pub read-back-spec : {M : Type 1} → statement M
 read-back-spec =
