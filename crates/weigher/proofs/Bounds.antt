@@ -14,8 +14,9 @@ use Rattle.day.specs.Sums.{at, sumTo}
 use Rattle.day.specs.Find.{find}
 use Rattle.day.specs.Day.{Day, periods, maxPeriods}
 use Rattle.day.specs.Plan.{inventory, costAt, costTo, setupAt}
-use Rattle.day.specs.Refusals.{badTotal, badSlots}
-use Rattle.checks.specs.Passed.{tables-passed}
+use Rattle.day.specs.Refusals.{dayTests, badSlots}
+use Rattle.day.specs.Tests.{first-split}
+use Rattle.checks.specs.Passed.{day-passed}
 use Rattle.terms.specs.Low.{paid-low, making-low, setup-low}
 use Rattle.weigher.specs.declared.Weighed.the-variants.{Judged}
 use Rattle.weigher.specs.Verdict.{breaks, verdictAt, verdictOf}
@@ -74,5 +75,5 @@ weighed-signed d plan wide = go (weighRefusal d plan) refl
     go (some r) e = tt
     go none e =
         judged
-        (tables-passed d (badTotal d ∷ badSlots (length plan) (periods d) ∷ []) e .few)
+        (day-passed d (first-split (dayTests d) (badSlots (length plan) (periods d) ∷ []) e .0) .limits .few)
         (find (breaks d (at plan)) (periods d))

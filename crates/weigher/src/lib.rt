@@ -25,7 +25,7 @@ pub enum Rule {
 // What weighing says of a plan: it keeps every rule, or the first that it breaks, with the period.
 pub enum Verdict {
     Holds(Totals),
-    Broken(Rule, usize),
+    Broken(Rule, u16),
 }
 
 // What the weigher answers.
@@ -37,12 +37,12 @@ pub enum Weighed {
 // What the comparison of two plans answers.
 pub enum Compared {
     Refused(Refusal),
-    Broken(Rule, usize),
+    Broken(Rule, u16),
     Difference(i64),
 }
 
 impl Rule {
-    pub fn number(self) -> u64
+    pub fn number(self) -> u8
         ensures { λ r. ⌜ r ≡ ruleNumber self ⌝ }
     {
         match self {
@@ -155,7 +155,7 @@ fn walk(
     while i < demand.len() {
         match advance(demand, capacity, setup, unit, holding, plan, i, s) {
             Ruling::Broke(rule) => {
-                return Verdict::Broken(rule, i + 1);
+                return Verdict::Broken(rule, (i + 1) as u16);
             }
             Ruling::Kept(t) => {
                 s = t;
