@@ -7,10 +7,10 @@ use Rattle.full_rows.proofs.best_for.Statement.{statement}
 use Rattle.full_rows.proofs.best_for.Tie as tie
 
 abbrev Inv-loop : tie.InvT-loop
-Inv-loop s costs from total lowest highest count best₀ j₀ best j = Scanned s (rowAt costs from) total lowest count j best
+Inv-loop s costs from total lowest highest more best₀ j₀ best j = Scanned s (rowAt costs from) total lowest more j best
 
 abbrev μ-loop : tie.MeasureT-loop
-μ-loop s costs from total lowest highest count best₀ j₀ best j = count - j
+μ-loop s costs from total lowest highest more best₀ j₀ best j = more - j
 
 loop-holds : tie.Need-loop-holds Inv-loop μ-loop
 loop-holds c = scanned-none _ _ (c .choice-for .ensures)

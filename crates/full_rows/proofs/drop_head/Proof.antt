@@ -3,13 +3,13 @@ use mathlib.Core.Path.{refl}
 use Prim.Native.Nat.{_-_}
 use native.Mathlib.Omega.{arith}
 use borrow.Author.Needs.{needs}
-use Rattle.full_rows.specs.Queue.{Below}
+use Rattle.full_rows.specs.Queue.{Dropped}
 use Rattle.full_rows.proofs.Queueing.{below-none, below-more, trimmed-found, trimmed-all}
 use Rattle.full_rows.proofs.drop_head.Statement.{statement}
 use Rattle.full_rows.proofs.drop_head.Tie as tie
 
 abbrev Inv-loop : tie.InvT-loop
-Inv-loop choices head tail least first₀ first = Below choices least head tail first
+Inv-loop choices head tail least first₀ first = Dropped choices least head tail first
 
 abbrev μ-loop : tie.MeasureT-loop
 μ-loop choices head tail least first₀ first = tail - first

@@ -3,12 +3,12 @@ use mathlib.Core.Path.{_∙_}
 use Prim.Native.Nat.{suc, _-_}
 use native.Mathlib.Omega.{arith}
 use borrow.Author.Needs.{needs}
-use Rattle.full_rows.proofs.Queueing.{Filling, scratch, filling-none, filling-open, filling-after, filling-room, filling-more, stepped-more}
+use Rattle.full_rows.proofs.Queueing.{RowFilling, scratch, filling-none, filling-open, filling-after, filling-room, filling-more, stepped-more}
 use Rattle.full_rows.proofs.fill.Statement.{statement}
 use Rattle.full_rows.proofs.fill.Tie as tie
 
 abbrev Inv-loop : tie.InvT-loop
-Inv-loop s costs₀ from to choices₀ base top head₀ tail₀ total₀ costs choices head tail total = Filling s costs₀ from to costs choices₀ base choices head tail total
+Inv-loop s costs₀ from to choices₀ base top head₀ tail₀ total₀ costs choices head tail total = RowFilling s costs₀ from to costs choices₀ base choices head tail total
 
 abbrev μ-loop : tie.MeasureT-loop
 μ-loop s costs₀ from to choices₀ base top head₀ tail₀ total₀ costs choices head tail total = suc top - total
