@@ -1,5 +1,5 @@
 -- `terms::making_cost` meets its contract: a sum of a 32-bit number and a 32-bit rate times a 24-bit amount fits. Assumes nothing.
-use Prim.Native.Nat.{_+_, _*_, _^_, _≤_}
+use Prim.Native.Nat.{_*_, _^_, _≤_}
 use native.Mathlib.Omega.{arith}
 use borrow.Author.Needs.{needs}
 use Rattle.terms.specs.Low.{paid-low, making-some}

@@ -6,7 +6,7 @@ use borrow.Author.Needs.{needs}
 use denote.Ref.{now}
 use Rattle.day.specs.Sums.{at}
 use Rattle.day.specs.Day.{dayOf}
-use Rattle.weigher.specs.Walk.{step-is}
+use Rattle.weigher.specs.Walk.{ruling-is}
 use Rattle.weigher.proofs.Bounds.{Wide, sums-low}
 use Rattle.weigher.proofs.advance.Statement.{statement}
 use Rattle.weigher.proofs.advance.Tie as tie
@@ -32,7 +32,7 @@ returns c =
     let a = entry .args in
     rw
     (c .judge .ensures, add-one, entry .pre .sums)
-    (step-is (dayOf (now (a .demand)) (now (a .capacity)) (now (a .setup)) (now (a .unit)) (now (a .holding))) (at (now (a .plan))) (a .i))
+    (ruling-is (dayOf (now (a .demand)) (now (a .capacity)) (now (a .setup)) (now (a .unit)) (now (a .holding))) (at (now (a .plan))) (a .i))
 
 pub advance-spec : {M : Type 1} → statement M
 advance-spec =

@@ -7,13 +7,13 @@ use borrow.Author.Needs.{needs}
 use Rattle.day.specs.declared.Totals.{Totals}
 use Rattle.weigher.specs.declared.Verdict.{Verdict}
 use Rattle.weigher.specs.declared.Verdict.the-variants.{Holds}
-use Rattle.weigher.specs.Walk.{Small}
+use Rattle.weigher.specs.Walk.{Signed}
 use Rattle.weigher.specs.declared.Compared.the-variants.{Difference}
 use Rattle.weigher.proofs.between.Statement.{statement}
 use Rattle.weigher.proofs.between.Tie as tie
 
 -- the cost of a verdict that turned out to hold
-holding : {v : Verdict} {t : Totals} → v ≡ Holds t → Small v → t .cost < 2 ^ 63
+holding : {v : Verdict} {t : Totals} → v ≡ Holds t → Signed v → t .cost < 2 ^ 63
 holding e s = rw e at s
 
 difference-requires : tie.Need-difference-requires

@@ -11,34 +11,34 @@ use Rattle.day.specs.Day.{Day, periods}
 use Rattle.weigher.specs.declared.Rule.{Rule}
 use Rattle.weigher.specs.declared.Verdict.the-variants.{Holds, Broken}
 use Rattle.weigher.specs.declared.Sums.{Sums}
-use Rattle.weigher.specs.declared.Step.{Step}
-use Rattle.weigher.specs.declared.Step.the-variants.{Kept, Broke}
+use Rattle.weigher.specs.declared.Ruling.{Ruling}
+use Rattle.weigher.specs.declared.Ruling.the-variants.{Kept, Broke}
 use Rattle.weigher.specs.Verdict.{breaks, ruleAt, verdictOf}
-use Rattle.weigher.specs.Walk.{sumsTo, stepOn, stepAt}
+use Rattle.weigher.specs.Walk.{sumsTo, rulingOn, rulingAt}
 
 -- the first i periods break no rule, and s holds the sums through them
-pub record Walked (d : Day) (x : ℕ → ℕ) (i : ℕ) (s : Sums) : Type 0 where
+pub record Walking (d : Day) (x : ℕ → ℕ) (i : ℕ) (s : Sums) : Type 0 where
   pub inside : i ≤ periods d
   pub sums : s ≡ sumsTo d x i
   pub kept : find (breaks d x) i ≡ none
 
-module _ {d : Day} {x : ℕ → ℕ} {i : ℕ} {s : Sums} (w : Walked d x i s) where
-  pub walked-more : {o : Step} {t : Sums} → i < periods d → o ≡ stepAt d x i → o ≡ Kept t → Walked d x (suc i) t
-  walked-more {o} {t} l e f = go (breaks d x i) refl e
+module _ {d : Day} {x : ℕ → ℕ} {i : ℕ} {s : Sums} (w : Walking d x i s) where
+  pub walking-more : {o : Ruling} {t : Sums} → i < periods d → o ≡ rulingAt d x i → o ≡ Kept t → Walking d x (suc i) t
+  walking-more {o} {t} l e f = go (breaks d x i) refl e
     where
-      go : (b : Bool) → breaks d x i ≡ b → o ≡ stepOn b (ruleAt d x i) (sumsTo d x (suc i)) → Walked d x (suc i) t
+      go : (b : Bool) → breaks d x i ≡ b → o ≡ rulingOn b (ruleAt d x i) (sumsTo d x (suc i)) → Walking d x (suc i) t
       go true q e = let z : _≡_ {A = ℕ} 0 1 = cc in absurd (omega arith)
       go false q e = record { inside = l; sums = cc; kept = find-none (breaks d x) i (w .kept) q }
 
-  pub walked-broken : {o : Step} {r : Rule} → i < periods d → o ≡ stepAt d x i → o ≡ Broke r → Broken r (suc i) ≡ verdictOf d x
-  walked-broken {o} {r} l e f = go (breaks d x i) refl e
+  pub walking-broken : {o : Ruling} {r : Rule} → i < periods d → o ≡ rulingAt d x i → o ≡ Broke r → Broken r (suc i) ≡ verdictOf d x
+  walking-broken {o} {r} l e f = go (breaks d x i) refl e
     where
-      go : (b : Bool) → breaks d x i ≡ b → o ≡ stepOn b (ruleAt d x i) (sumsTo d x (suc i)) → Broken r (suc i) ≡ verdictOf d x
+      go : (b : Bool) → breaks d x i ≡ b → o ≡ rulingOn b (ruleAt d x i) (sumsTo d x (suc i)) → Broken r (suc i) ≡ verdictOf d x
       go true q e = let g : ruleAt d x i ≡ r = cc in rw (find-here (breaks d x) i (periods d) (w .kept) q l, ← g) refl
       go false q e = let z : _≡_ {A = ℕ} 0 1 = cc in absurd (omega arith)
 
-  pub walked-through : periods d ≤ i → Holds (record { cost = s .cost; setups = s .setups }) ≡ verdictOf d x
-  walked-through l = go (omega (arith, w .inside))
+  pub walking-through : periods d ≤ i → Holds (record { cost = s .cost; setups = s .setups }) ≡ verdictOf d x
+  walking-through l = go (omega (arith, w .inside))
     where
       go : i ≡ periods d → Holds (record { cost = s .cost; setups = s .setups }) ≡ verdictOf d x
       go e = rw (w .sums, e, rw e at (w .kept)) refl
