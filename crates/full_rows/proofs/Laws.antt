@@ -1,8 +1,8 @@
 -- What the row step's functions compute, in plain variables.
 -- Assumes nothing.
-use mathlib.Core.Path.{_≡_, refl, sym, ap, _∙_}
+use mathlib.Core.Path.{_≡_, refl, ap, _∙_}
 use mathlib.Core.List.{List}
-use Prim.Native.Nat.{ℕ, zero, suc, _+_, _-_, _*_, _≤_, _<_}
+use Prim.Native.Nat.{ℕ, suc, _+_, _-_, _≤_, _<_}
 use native.Mathlib.Decide.{decLt}
 use native.Mathlib.Numerals.{add-one}
 use native.Mathlib.Omega.{arith}
@@ -37,7 +37,8 @@ module _ {s : Stage} {row : ℕ → ℕ} {X lo : ℕ} where
       price k = rowPrice (stageIn s) row X (lo + k)
 
       go : (d : Dec (price (suc j) < price (cheapest price j)))
-          → pick d (choiceOf s row X (lo + suc j)) (choiceOf s row X (lo + cheapest price j)) ≡ choiceOf s row X (lo + pick d (suc j) (cheapest price j))
+          → pick d (choiceOf s row X (lo + suc j)) (choiceOf s row X (lo + cheapest price j))
+          ≡ choiceOf s row X (lo + pick d (suc j) (cheapest price j))
       go (yes _) = refl
       go (no _) = refl
 
@@ -103,7 +104,8 @@ module _ {s : Stage} {costs : List ℕ} {from to : ℕ} {choices : List ℕ} {ba
 
   -- cells past the row of choices are free
   pub stepping-free : {costs′ choices′ choices″ : List ℕ} {X : ℕ} → Stepping s costs from to costs′ choices base choices′ X
-      → length choices″ ≡ length choices′ → ((k : ℕ) → k ≤ base + s .top → at choices″ k ≡ at choices′ k) → Stepping s costs from to costs′ choices base choices″ X
+      → length choices″ ≡ length choices′ → ((k : ℕ) → k ≤ base + s .top → at choices″ k ≡ at choices′ k)
+      → Stepping s costs from to costs′ choices base choices″ X
   stepping-free c e f =
       record {
         begun = c .begun;
@@ -126,10 +128,16 @@ module _ {s : Stage} {costs : List ℕ} {from to : ℕ} {choices : List ℕ} {ba
         row = λ Y h. getD-set-other costs′ (to + X) (from + Y) (cell .cost) 0 (r .apart Y X h l) ∙ c .row Y h;
         cost = rw add-one (below (λ (Y : ℕ). After s Y → rowAt next to Y ≡ rowCost (stageIn s) (rowAt costs from) Y) X
             (λ Y h a. getD-set-other costs′ (to + X) (to + Y) (cell .cost) 0 (λ q. omega arith) ∙ c .cost Y h a)
-            (λ a. getD-set-same costs′ (to + X) (cell .cost) 0 (omega (arith, c .costCells, r .costCells)) ∙ ap (λ (k : Cell). k .cost) e ∙ cost-ext (stageIn s) X here (rowAt costs′ from) (rowAt costs from) same));
+            (λ a.
+            getD-set-same costs′ (to + X) (cell .cost) 0 (omega (arith, c .costCells, r .costCells))
+            ∙ ap (λ (k : Cell). k .cost) e
+            ∙ cost-ext (stageIn s) X here (rowAt costs′ from) (rowAt costs from) same));
         amount = rw add-one (below (λ (Y : ℕ). After s Y → at next′ (base + Y) ≡ rowAmount (stageIn s) (rowAt costs from) Y) X
             (λ Y h a. getD-set-other choices′ (base + X) (base + Y) (cell .amount) 0 (λ q. omega arith) ∙ c .amount Y h a)
-            (λ a. getD-set-same choices′ (base + X) (cell .amount) 0 (omega (arith, c .choiceCells, r .choiceCells)) ∙ ap (λ (k : Cell). k .amount) e ∙ amount-ext (stageIn s) X here (rowAt costs′ from) (rowAt costs from) same));
+            (λ a.
+            getD-set-same choices′ (base + X) (cell .amount) 0 (omega (arith, c .choiceCells, r .choiceCells))
+            ∙ ap (λ (k : Cell). k .amount) e
+            ∙ amount-ext (stageIn s) X here (rowAt costs′ from) (rowAt costs from) same));
         kept = λ k h. getD-set-other choices′ (base + X) k (cell .amount) 0 (λ q. omega arith) ∙ c .kept k h;
       }
     where

@@ -14,7 +14,7 @@ use Rattle.theory.specs.Cheapest.{cheapest, cheapest-right, cheapest-unique}
 use Rattle.theory.specs.Full.{lowest, highest, rowAmount}
 use Rattle.full_rows.specs.declared.Stage.{Stage}
 use Rattle.full_rows.specs.Row.{stageIn, priceOf, choiceOf, bestOf, StageBounded, After}
-use Rattle.full_rows.specs.Queue.{keyOf, Candidate, Queue, Window}
+use Rattle.full_rows.specs.Queue.{keyOf, Entry, Candidate, Queue, Window}
 
 -- a is no dearer than b, and cheaper where P holds
 abbrev pub Ahead : Type 0 → ℕ → ℕ → Type 0
@@ -55,11 +55,13 @@ module _ (s : Stage) (row : ℕ → ℕ) (X : ℕ) (under : X ≤ s .top) where
           let x : X - suc v ≡ Y = omega arith in
           let y : s .top - (s .top - Y) ≡ Y = omega arith in
           let d : s .top - Y ≡ suc (v + rest) = omega arith in
-          let m : s .unit * suc (v + rest) ≡ s .unit * suc v + s .unit * rest = ap (λ (k : ℕ). s .unit * k) (omega arith) ∙ mul-add (s .unit) (suc v) rest in
+          let m : s .unit * suc (v + rest) ≡ s .unit * suc v + s .unit * rest =
+          ap (λ (k : ℕ). s .unit * k) (omega arith) ∙ mul-add (s .unit) (suc v) rest in
           rw (x, y, d) (omega arith)
 
   -- prices for one X compare as keys
-  prices : {P : Type 0} (Y Z : ℕ) → Y < X → Z < X → Ahead P (keyOf s row Y) (keyOf s row Z) → Ahead P (priceOf s row X (X - Y)) (priceOf s row X (X - Z))
+  prices : {P : Type 0} (Y Z : ℕ) → Y < X → Z < X → Ahead P (keyOf s row Y) (keyOf s row Z)
+      → Ahead P (priceOf s row X (X - Y)) (priceOf s row X (X - Z))
   prices {P} Y Z l m k = go _ _ (s .unit * (s .top - X)) _ _ (price-key Y l) (price-key Z m) k
     where
       go : (p q c i j : ℕ) → p + c ≡ i → q + c ≡ j → Ahead P i j → Ahead P p q
@@ -76,9 +78,11 @@ head-first {s} {row} {cells} {X} {head} q Y c =
     (eq-or-lt-of-le (w .from))
 
 -- what an amount of at least 1 leaves is a candidate
-candidate : {s : Stage} {X : ℕ} → StageBounded s → After s X → (w : ℕ) → lowest (stageIn s) X ≤ suc w → suc w ≤ highest (stageIn s) X → Candidate s X (X - suc w)
+candidate : {s : Stage} {X : ℕ} → StageBounded s → After s X → (w : ℕ) → lowest (stageIn s) X ≤ suc w → suc w ≤ highest (stageIn s) X
+    → Candidate s X (X - suc w)
 candidate b after w i j =
-    record { entry = record { low = omega (arith, b .rises, after .0); high = omega arith; below = omega (arith, b .rises, after .0) }; near = omega arith }
+    let l = b .rises in
+    record { entry = record { low = omega (arith, after .0); high = omega arith; below = omega (arith, after .0) }; near = omega arith }
 
 module _ {s : Stage} {row : ℕ → ℕ} {X : ℕ} (b : StageBounded s) (after : After s X) where
   -- where no candidate is cheaper, nothing is made
@@ -104,7 +108,8 @@ module _ {s : Stage} {row : ℕ → ℕ} {X : ℕ} (b : StageBounded s) (after :
       ahead g zero i j = let d = dear (omega arith) in (le-of-lt d, λ _. d)
       ahead g (suc v) i j =
           let e : X - (X - suc v) ≡ suc v = omega arith in
-          let k = prices s row X (after .1) (at cells head) (X - suc v) g (omega arith) (head-first (w .queue) (X - suc v) (candidate b after v i j)) in
+          let first = head-first (w .queue) (X - suc v) (candidate b after v i j) in
+          let k = prices s row X (after .1) (at cells head) (X - suc v) g (omega arith) first in
           (rw e at (k .0), λ l. rw e at (k .1 (omega arith)))
 
   -- an empty queue leaves one way to X: from X itself
@@ -114,26 +119,32 @@ module _ {s : Stage} {row : ℕ → ℕ} {X : ℕ} (b : StageBounded s) (after :
       go : Dec (s .high < X) → X ≤ s .high
       go (no n) = omega arith
       go (yes y) =
-          let w = q .substitutes (s .high) (record { entry = record { low = b .some; high = omega arith; below = y }; near = omega (arith, b .reached, after .1) }) in
+          let entry : Entry s X (s .high) = record { low = b .some; high = omega arith; below = y } in
+          let w = q .substitutes (s .high) (record { entry = entry; near = omega (arith, b .reached, after .1) }) in
           absurd (omega (arith, w .from, w .to))
 
   pub best-none : {cells : List ℕ} {head tail : ℕ} → Queue s row cells X head tail → tail ≤ head → choiceOf s row X 0 ≡ bestOf s row X
-  best-none q e = first-best s row X 0 (none-first (empty-reaches q e) (λ Y c. let w = q .substitutes Y c in absurd (omega (arith, w .from, w .to))))
+  best-none q e =
+      first-best s row X 0
+      (none-first (empty-reaches q e) (λ Y c. let w = q .substitutes Y c in absurd (omega (arith, w .from, w .to))))
 
   pub best-head : {cells : List ℕ} {head tail : ℕ} → Window s row cells X head tail → head < tail → s .high < X
       → choiceOf s row X (X - at cells head) ≡ bestOf s row X
   best-head {cells} {head} w some far = first-best s row X (X - at cells head) (head-amount w some (λ h. absurd (omega arith)))
 
   pub best-either : {cells : List ℕ} {head tail : ℕ} → Window s row cells X head tail → head < tail → X ≤ s .high
-      → pick (decLt (priceOf s row X (X - at cells head)) (priceOf s row X 0)) (choiceOf s row X (X - at cells head)) (choiceOf s row X 0) ≡ bestOf s row X
+      → pick (decLt (priceOf s row X (X - at cells head)) (priceOf s row X 0)) (choiceOf s row X (X - at cells head)) (choiceOf s row X 0)
+      ≡ bestOf s row X
   best-either {cells} {head} w some near = go (decLt (priceOf s row X (X - at cells head)) (priceOf s row X 0))
     where
       not-lt : {m k : ℕ} → ¬ (m < k) → k ≤ m
       not-lt n = omega arith
 
-      go : (d : Dec (priceOf s row X (X - at cells head) < priceOf s row X 0)) → pick d (choiceOf s row X (X - at cells head)) (choiceOf s row X 0) ≡ bestOf s row X
+      go : (d : Dec (priceOf s row X (X - at cells head) < priceOf s row X 0))
+          → pick d (choiceOf s row X (X - at cells head)) (choiceOf s row X 0) ≡ bestOf s row X
       go (yes y) = first-best s row X (X - at cells head) (head-amount w some (λ h. y))
       go (no n) =
           let i = w .queue .entries head (omega arith) some in
-          first-best s row X 0
-          (none-first near (λ Y c. le-trans (not-lt n) (prices s row X (after .1) (at cells head) Y (i .below) (c .entry .below) (head-first (w .queue) Y c) .0)))
+          let dear : (Y : ℕ) → Candidate s X Y → priceOf s row X (X - at cells head) ≤ priceOf s row X (X - Y) =
+          (λ Y c. prices s row X (after .1) (at cells head) Y (i .below) (c .entry .below) (head-first (w .queue) Y c) .0) in
+          first-best s row X 0 (none-first near (λ Y c. le-trans (not-lt n) (dear Y c)))

@@ -2,7 +2,7 @@
 -- Main statements: `queue-enter` and `queue-trim`. Assumes nothing.
 use mathlib.Core.Path.{_≡_, refl, ap}
 use mathlib.Core.List.{List}
-use Prim.Native.Nat.{ℕ, _+_, _-_, _*_, _≤_, _<_, min}
+use Prim.Native.Nat.{ℕ, _+_, _-_, _≤_, _<_, min}
 use native.Mathlib.Nat.{le-trans}
 use native.Mathlib.Decide.{decLt}
 use native.Mathlib.Omega.{arith}
@@ -27,15 +27,17 @@ module _ {s : Stage} {row : ℕ → ℕ} where
       }
 
   -- totals that cannot be reached before the stage need not enter
-  pub queue-later : {cells : List ℕ} {X head tail : ℕ} (Z : ℕ) → X ≤ Z → min Z (s .high + 1) ≤ X → Queue s row cells X head tail → Queue s row cells Z head tail
-  queue-later Z l m q =
+  pub queue-later : {cells : List ℕ} {X head tail : ℕ} (Z : ℕ) → X ≤ Z → min Z (s .high + 1) ≤ X → Queue s row cells X head tail
+      → Queue s row cells Z head tail
+  queue-later {cells} {X} Z l m q =
       record {
         ordered = q .ordered;
         entries = λ i a b. entry-later Z l (q .entries i a b);
         rising = q .rising;
         substitutes = λ Y c.
             let e = c .entry in
-            q .substitutes Y (record { entry = record { low = e .low; high = e .high; below = omega (arith, e .high, e .below) }; near = omega (arith, c .near) });
+            let entry : Entry s X Y = record { low = e .low; high = e .high; below = omega (arith, e .high, e .below) } in
+            q .substitutes Y (record { entry = entry; near = omega (arith, c .near) });
       }
 
   -- it reads the row up to `high`, and the cells from its head on
@@ -93,7 +95,9 @@ module _ {s : Stage} {row : ℕ → ℕ} where
       newest Y h k = let g = new r refl in record { place = r; from = o .passed .from; to = omega arith; later = rw g h; cheap = rw g k }
 
       still : (Y : ℕ) → Y < X → (w : Substitute (keyOf s row) cells head tail Y) → Dec (w .place < r) → Substitute (keyOf s row) next head (r + 1) Y
-      still Y h w (yes k) = let g = old (w .place) k in record { place = w .place; from = w .from; to = omega arith; later = rw g (w .later); cheap = rw g (w .cheap) }
+      still Y h w (yes k) =
+          let g = old (w .place) k in
+          record { place = w .place; from = w .from; to = omega arith; later = rw g (w .later); cheap = rw g (w .cheap) }
       still Y h w (no k) = newest Y (omega arith) (le-trans (o .passed .gone (w .place) (omega arith) (w .to)) (w .cheap))
 
       answers : (Y : ℕ) → Candidate s (X + 1) Y → Dec (Y < X) → Substitute (keyOf s row) next head (r + 1) Y

@@ -5,7 +5,7 @@
 -- Main definitions: `Queue` and `Window`. Assumes nothing.
 use mathlib.Core.Path.{_≡_}
 use mathlib.Core.List.{List}
-use Prim.Native.Nat.{ℕ, _+_, _-_, _*_, _≤_, _<_}
+use Prim.Native.Nat.{ℕ, _+_, _-_, _≤_, _<_}
 use lib.ListN.{length}
 use Rattle.day.specs.Sums.{at}
 use Rattle.full_rows.specs.declared.Stage.{Stage}

@@ -1,7 +1,7 @@
 -- What the loop that reads the plan back keeps.
 -- Assumes nothing.
 use mathlib.Core.Path.{_≡_, refl, ap, _∙_}
-use mathlib.Core.List.{List, [], _∷_, _++_, append-assoc}
+use mathlib.Core.List.{List, _∷_, _++_, append-assoc}
 use Prim.Native.Nat.{ℕ, suc, _+_, _-_, _*_, _≤_, _<_}
 use native.Mathlib.Nat.{suc-mul, mul-le-mul-right}
 use native.Mathlib.Omega.{arith}
@@ -9,7 +9,7 @@ use lib.ListN.{length, drop, set, length-set}
 use lib.Seq.{drop-cons, drop-set-lt, getD-set-same}
 use Rattle.day.specs.Sums.{at}
 use Rattle.theory.specs.Full.{back}
-use Rattle.full_table.specs.Table.{cellAt, Traced, Readable, planRead}
+use Rattle.full_table.specs.Table.{cellAt, Traced, Traceable, planRead}
 
 drop-set : (l : List ℕ) (j v : ℕ) → j < length l → drop j (set l j v) ≡ v ∷ drop (suc j) l
 drop-set l j v h =
@@ -33,7 +33,7 @@ pub record Turn (choices : List ℕ) (T base left k : ℕ) : Type 0 where
   pub is : at choices (base - (T + 1) + left) ≡ cellAt choices T (k - 1) left
   pub fits : at choices (base - (T + 1) + left) ≤ left
 
-module _ {choices slots : List ℕ} {n T : ℕ} (r : Readable choices slots n T) where
+module _ {choices slots : List ℕ} {n T : ℕ} (r : Traceable choices slots n T) where
   pub reading-none : Reading choices slots n T slots (n * (T + 1)) T n
   reading-none =
       record {
@@ -83,5 +83,6 @@ module _ {choices slots : List ℕ} {n T : ℕ} (r : Readable choices slots n T)
               size = length-set slots′ j (cellAt choices T j left) ∙ c .size;
             })
 
-  pub reading-all : {slots′ : List ℕ} {base left k : ℕ} → Reading choices slots n T slots′ base left k → k ≤ 0 → slots′ ≡ planRead choices n T ++ drop n slots
+  pub reading-all : {slots′ : List ℕ} {base left k : ℕ} → Reading choices slots n T slots′ base left k → k ≤ 0
+      → slots′ ≡ planRead choices n T ++ drop n slots
   reading-all {slots′} {base} {left} {k} c l = let e : k ≡ 0 = omega arith in rw e at (c .plan)

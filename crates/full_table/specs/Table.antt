@@ -1,5 +1,5 @@
 -- The table of recursion (5) for a problem: what its two loops ask and leave.
--- Main definitions: `Fillable` and `TableFilled`, `Readable` and `planRead`. Assumes nothing.
+-- Main definitions: `Fillable` and `TableFilled`, `Traceable` and `planRead`. Assumes nothing.
 use mathlib.Core.Path.{_≡_}
 use mathlib.Core.List.{List}
 use Prim.Native.Nat.{ℕ, zero, suc, _+_, _-_, _*_, _≤_, _<_, min}
@@ -58,7 +58,7 @@ Traced ch zero X = Unit {0}
 Traced ch (suc k) X = (ch k X ≤ X) × Traced ch k (X - ch k X)
 
 -- choices and slots are there for n periods, and the way back from T can be walked
-pub record Readable (choices slots : List ℕ) (n T : ℕ) : Type 0 where
+pub record Traceable (choices slots : List ℕ) (n T : ℕ) : Type 0 where
   pub small : T ≤ maxTotal
   pub choiceCells : n * (T + 1) ≤ length choices
   pub slotCells : n ≤ length slots

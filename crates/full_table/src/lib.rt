@@ -3,7 +3,7 @@ ghost use mathlib.Core.Path.{_≡_};
 ghost use mathlib.Core.List.{_++_};
 ghost use lib.ListN.{drop};
 ghost use Rattle.theory.specs.Problem.{problemWith};
-ghost use Rattle.full_table.specs.Table.{stageAt, Staged, Fillable, TableFilled, Readable, planRead};
+ghost use Rattle.full_table.specs.Table.{stageAt, Staged, Fillable, TableFilled, Traceable, planRead};
 use full_rows::Stage;
 
 // A period as a stage, where the totals from `low` to `high` can be reached before it, and `total` is N over all periods.
@@ -75,7 +75,7 @@ pub fn fill(
 
 // Reads the plan of n periods back into the slots, from its end.
 pub fn read_back(choices: &[u16], slots: &mut [u16], n: usize, total: usize)
-    requires { ⌜ Readable (now choices) (now slots) n total ⌝ }
+    requires { ⌜ Traceable (now choices) (now slots) n total ⌝ }
     ensures { λ _. ⌜ now (slots .exit) ≡ planRead (now (choices .entry)) n total ++ drop n (now (slots .entry)) ⌝ }
 {
     let width = total + 1;

@@ -16,7 +16,9 @@ loop-holds : tie.Need-loop-holds Inv-loop μ-loop
 loop-holds c = scanned-none _ _ (c .choice-for .ensures)
 
 loop-again : tie.Need-loop-again Inv-loop μ-loop
-loop-again c = scanned-more _ _ (c .before .before .before .loop .inv) (c .before .before .loop-test .taken) (c .before .choice-for2 .ensures) (c .cheaper .ensures)
+loop-again c =
+    let turn = c .before .before in
+    scanned-more _ _ (turn .before .loop .inv) (turn .loop-test .taken) (c .before .choice-for2 .ensures) (c .cheaper .ensures)
 
 returns : tie.Need-returns Inv-loop μ-loop
 returns c = scanned-all (c .before .loop .inv) (c .loop-test .left) (search needs) (search needs)

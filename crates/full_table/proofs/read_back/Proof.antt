@@ -12,7 +12,8 @@ abbrev μ-loop : tie.MeasureT-loop
 μ-loop choices slots₀ n total width base₀ left₀ k₀ slots base left k = k
 
 -- what is known of the cell that a turn reads
-read : (c : tie.In-loop Inv-loop μ-loop) → let a = c .before .before .args in let l = c .before .loop in Turn (a .choices .now) (a .total) (l .base) (l .left) (l .k)
+read : (c : tie.In-loop Inv-loop μ-loop)
+    → let a = c .before .before .args in let l = c .before .loop in Turn (a .choices .now) (a .total) (l .base) (l .left) (l .k)
 read c = reading-turn (c .before .before .pre) (c .before .loop .inv) (c .loop-test .taken)
 
 loop-holds : tie.Need-loop-holds Inv-loop μ-loop
