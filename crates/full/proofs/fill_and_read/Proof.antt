@@ -1,5 +1,4 @@
 -- `full::fill_and_read` meets its contract: the fronts of both areas are lent, filled and read. Assumes nothing.
-use native.Mathlib.Omega.{arith}
 use Rattle.full.proofs.Fronts.{front-fillable, front-traceable, front-planned}
 use borrow.Author.Needs.{needs}
 use Rattle.full.proofs.fill_and_read.Statement.{statement}
@@ -33,15 +32,6 @@ pub fill-and-read-spec : {M : Type 1} → statement M
 fill-and-read-spec =
     tie.close
     (tie.spec
-    (λ c. search needs)
-    (λ c. search needs)
-    (λ c. search needs)
-    (λ c. search needs)
-    (λ c. search needs)
-    (λ c. search needs)
-    fill-requires
-    read-back-requires
-    (λ c. search needs)
-    (λ c. search needs)
-    (λ c. search needs)
+    (λ c. search needs) (λ c. search needs) (λ c. search needs) (λ c. search needs) (λ c. search needs)
+    (λ c. search needs) fill-requires read-back-requires (λ c. search needs) (λ c. search needs) (λ c. search needs)
     returns)

@@ -68,13 +68,6 @@ pub work-spec : {M : Type 1} → statement M
 work-spec =
     tie.close
     (tie.spec
-    (λ c κs. passed c .day .limits .few)
-    (λ c κs. (passed (c .before) .day .limits .few, c .total .ensures .low))
-    (λ c κs. ready (c .before .before .before))
-    totals-requires
-    clear-costs-requires
-    clear-choices-requires
-    (λ c. search needs)
-    (λ c. search needs)
-    (λ c. search needs)
-    returns)
+    (λ c κs. passed c .day .limits .few) (λ c κs. (passed (c .before) .day .limits .few, c .total .ensures .low))
+    (λ c κs. ready (c .before .before .before)) totals-requires clear-costs-requires clear-choices-requires
+    (λ c. search needs) (λ c. search needs) (λ c. search needs) returns)

@@ -50,14 +50,5 @@ pub best-queued-spec : {M : Type 1} → statement M
 best-queued-spec =
     tie.close
     (tie.spec
-    choice-for-requires
-    returns
-    (λ c. search needs)
-    (λ c. search needs)
-    cast-before
-    sub-choice-for
-    choice-for-requires-2
-    returns-2
-    (λ c κs. search needs)
-    (λ c κs. search needs)
-    returns-3)
+    choice-for-requires returns (λ c. search needs) (λ c. search needs) cast-before sub-choice-for choice-for-requires-2
+    returns-2 (λ c κs. search needs) (λ c κs. search needs) returns-3)

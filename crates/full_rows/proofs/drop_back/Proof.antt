@@ -51,17 +51,5 @@ pub drop-back-spec : {M : Type 1} → statement M
 drop-back-spec =
     tie.close
     (tie.spec
-    Inv-loop
-    μ-loop
-    key-requires
-    loop-holds
-    (λ c. search needs)
-    (λ c. search needs)
-    (λ c. search needs)
-    cast-last
-    key-requires-2
-    returns
-    (λ c. search needs)
-    (λ c. search needs)
-    loop-again
-    returns-2)
+    Inv-loop μ-loop key-requires loop-holds (λ c. search needs) (λ c. search needs) (λ c. search needs) cast-last
+    key-requires-2 returns (λ c. search needs) (λ c. search needs) loop-again returns-2)

@@ -33,14 +33,5 @@ pub drop-head-spec : {M : Type 1} → statement M
 drop-head-spec =
     tie.close
     (tie.spec
-    Inv-loop
-    μ-loop
-    loop-holds
-    (λ c. search needs)
-    (λ c. search needs)
-    cast-if1
-    returns
-    (λ c. search needs)
-    (λ c. search needs)
-    loop-again
-    returns-2)
+    Inv-loop μ-loop loop-holds (λ c. search needs) (λ c. search needs) cast-if1 returns (λ c. search needs)
+    (λ c. search needs) loop-again returns-2)

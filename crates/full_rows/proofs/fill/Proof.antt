@@ -77,23 +77,10 @@ pub fill-spec : {M : Type 1} → statement M
 fill-spec =
     tie.close
     (tie.spec
-    Inv-loop
-    μ-loop
-    (λ c. search needs)
-    (λ c. search needs)
-    enter-below-requires
-    loop-holds
-    next-cell-requires
-    enter-requires
-    (λ c. let head = turn c .before in omega (arith, cells (turn c), sizes head, start head .good))
+    Inv-loop μ-loop (λ c. search needs) (λ c. search needs) enter-below-requires loop-holds next-cell-requires
+    enter-requires (λ c. let head = turn c .before in omega (arith, cells (turn c), sizes head, start head .good))
     (λ c. let head = turn c .before in omega (arith, cells (turn c), sizes head, start head .good))
     (λ c. omega (arith, cells (turn c)))
     (λ c. let head = turn c .before in omega (arith, cells (turn c), sizes head, start head .good))
-    (λ c. let head = turn c .before in omega (arith, cells (turn c), sizes head, start head .good))
-    slice-write-choices
-    (λ c. search needs)
-    (λ c. search needs)
-    loop-again
-    (λ c. sizes (c .before) .0)
-    (λ c. sizes (c .before) .1)
-    returns)
+    (λ c. let head = turn c .before in omega (arith, cells (turn c), sizes head, start head .good)) slice-write-choices
+    (λ c. search needs) (λ c. search needs) loop-again (λ c. sizes (c .before) .0) (λ c. sizes (c .before) .1) returns)

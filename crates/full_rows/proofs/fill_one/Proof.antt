@@ -17,14 +17,5 @@ pub fill-one-spec : {M : Type 1} → statement M
 fill-one-spec =
     tie.close
     (tie.spec
-    (λ c κs. search needs)
-    cell-for-requires
-    (λ c. search needs)
-    (λ c. search needs)
-    (λ c. search needs)
-    (λ c. search needs)
-    (λ c. search needs)
-    (λ c. search needs)
-    (λ c. search needs)
-    (λ c. search needs)
-    returns)
+    (λ c κs. search needs) cell-for-requires (λ c. search needs) (λ c. search needs) (λ c. search needs)
+    (λ c. search needs) (λ c. search needs) (λ c. search needs) (λ c. search needs) (λ c. search needs) returns)

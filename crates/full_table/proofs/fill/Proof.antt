@@ -71,17 +71,5 @@ pub fill-spec : {M : Type 1} → statement M
 fill-spec =
     tie.close
     (tie.spec
-    Inv-loop
-    μ-loop
-    (λ c. search needs)
-    (λ c. search needs)
-    loop-holds
-    stage-at-requires
-    step-requires
-    add-base
-    (λ c. search needs)
-    (λ c. search needs)
-    loop-again
-    same-length
-    same-length-2
-    returns)
+    Inv-loop μ-loop (λ c. search needs) (λ c. search needs) loop-holds stage-at-requires step-requires add-base
+    (λ c. search needs) (λ c. search needs) loop-again same-length same-length-2 returns)

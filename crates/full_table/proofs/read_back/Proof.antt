@@ -28,21 +28,8 @@ pub read-back-spec : {M : Type 1} → statement M
 read-back-spec =
     tie.close
     (tie.spec
-    Inv-loop
-    μ-loop
-    (λ c. search needs)
-    (λ c. search needs)
-    loop-holds
-    (λ c. search needs)
-    (λ c. omega (arith, read c))
-    (λ c. omega (arith, read c))
-    (λ c. omega (arith, read c))
-    (λ c. omega (arith, read (c .before)))
-    (λ c. search needs)
-    (λ c. search needs)
-    (λ c. omega (arith, read (c .before)))
-    (λ c. omega (arith, read (c .before)))
-    (λ c. search needs)
-    loop-again
-    (λ c. c .before .loop .inv .size)
+    Inv-loop μ-loop (λ c. search needs) (λ c. search needs) loop-holds (λ c. search needs) (λ c. omega (arith, read c))
+    (λ c. omega (arith, read c)) (λ c. omega (arith, read c)) (λ c. omega (arith, read (c .before))) (λ c. search needs)
+    (λ c. search needs) (λ c. omega (arith, read (c .before))) (λ c. omega (arith, read (c .before)))
+    (λ c. search needs) loop-again (λ c. c .before .loop .inv .size)
     (λ c. reading-all (c .before .before .pre) (c .before .loop .inv) (c .loop-test .left)))

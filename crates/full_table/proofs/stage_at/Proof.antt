@@ -14,19 +14,10 @@ pub stage-at-spec : {M : Type 1} → statement M
 stage-at-spec =
     tie.close
     (tie.spec
-    (λ c. search needs)
-    (λ c. search needs)
-    (λ c. omega (arith, c .shared-slice-known6 .given (period c)))
-    (λ c. search needs)
-    (λ c. search needs)
-    (λ c. search needs)
-    (λ c. search needs)
-    (λ c. search needs)
-    (λ c. search needs)
-    (λ c. search needs)
-    (λ c. search needs)
+    (λ c. search needs) (λ c. search needs) (λ c. omega (arith, c .shared-slice-known6 .given (period c)))
+    (λ c. search needs) (λ c. search needs) (λ c. search needs) (λ c. search needs) (λ c. search needs)
+    (λ c. search needs) (λ c. search needs) (λ c. search needs)
     (λ c. omega (arith, c .shared-slice-known10 .given (period (c .before .before .before .before))))
     (λ c. omega (arith, c .shared-slice-known10 .given (period (c .before .before .before .before))))
     (λ c. let read = c .before .before .before .before in omega (arith, read .shared-slice-known6 .given (period read)))
-    (λ c κs. search needs)
-    (λ c. let e = c .smaller .ensures in rw e refl))
+    (λ c κs. search needs) (λ c. let e = c .smaller .ensures in rw e refl))
