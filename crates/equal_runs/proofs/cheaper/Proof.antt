@@ -1,4 +1,4 @@
--- `equal_runs::cheaper` meets its contract. Assumes nothing.
+-- `equal_runs::cheaper` meets its contract. Assumes unreached.
 use mathlib.Core.Path.{sym}
 use Prim.Native.Nat.{_<_}
 use native.Mathlib.Omega.{arith}
