@@ -8,11 +8,11 @@ use Prim.Native.Nat.{ℕ, zero, suc, _+_, _-_, _*_, _/_, _%_, _^_, _≤_, _<_}
 use native.Mathlib.Nat.{eq-or-lt-of-le, le-of-suc-le-suc, mul-le-mul-right}
 use native.Mathlib.Decide.{ℕ-discrete}
 use native.Mathlib.Omega.{arith}
-use lib.ListN.{length}
+use lib.ListN.{length, replicate}
 use Rattle.day.specs.Sums.{at}
 use Rattle.theory.specs.Basics.{pick, pick-yes, pick-no}
 use Rattle.theory.specs.Model.{Model}
-use Rattle.theory.specs.Problem.{problemWith, modelOf}
+use Rattle.theory.specs.Problem.{Problem, problemWith}
 use Rattle.theory.specs.Stages.{Solution, begin}
 use Rattle.theory.specs.Recursion.{both?}
 use Rattle.theory.specs.Basics.{last, last-snoc}
@@ -24,6 +24,10 @@ use Rattle.equal_runs.specs.States.{indexOf, stateAt}
 use Rattle.equal_runs.specs.Told.{firstTo, CostTold, AmountTold, StateTold, told-most, IsPeriod, Narrow, state-told}
 use Rattle.equal_runs.specs.Fill.{RowLow, RowFilled, Advanced}
 
+-- the problem that four tables hold, with the capacity c throughout
+abbrev pub constantWith : (demand : List ℕ) (c : ℕ) (setup unit holding : List ℕ) → Problem
+constantWith demand c setup unit holding = problemWith demand (replicate (length demand) c) setup unit holding
+
 -- before the first period no load is made
 abbrev pub startOf : ℕ → ℕ
 startOf zero = 0
@@ -34,11 +38,6 @@ pub record Ran (M : Model) (l : ℕ) (w : LoadSizes) (k top width : ℕ) (row pi
   pub costs : (j d : ℕ) → d ≤ 1 → indexOf j d ≤ top → CostTold (k * stageMost) (at row (indexOf j d)) (firstTo M l w k j d)
   pub amounts : (i j d : ℕ) → i < k → d ≤ 1 → indexOf j d ≤ top
       → AmountTold (at picks (i * width + indexOf j d)) (firstTo M l w (suc i) j d)
-
--- the same for a problem of which the capacities are not told: the loads hold all that the intervals need of them
-abbrev pub RanFor : (demand setup unit holding : List ℕ) (l : ℕ) (w : LoadSizes) (k top width : ℕ) (row picks : List ℕ) → Type 0
-RanFor demand setup unit holding l w k top width row picks =
-    (capacity : List ℕ) → Ran (modelOf (problemWith demand capacity setup unit holding)) l w k top width row picks
 
 -- what `run` asks: up to 96 periods in each table, and the states and their amounts in the two areas
 pub record Runnable (demand setup unit holding : List ℕ) (l count top width : ℕ) (row picks : List ℕ) : Type 0 where

@@ -5,11 +5,12 @@ ghost use mathlib.Core.Path.{_≡_};
 ghost use Prim.Native.Nat.{ℕ, _+_, _-_, _*_, _^_, _≤_, _<_, _/_, _%_};
 ghost use lib.ListN.{length};
 ghost use Rattle.day.specs.Sums.{at, Term};
+ghost use Rattle.theory.specs.Problem.{modelOf};
 ghost use Rattle.theory.specs.Loads.{made};
 ghost use Rattle.equal_runs.specs.Bounds.{stockMost, rowMost};
 ghost use Rattle.equal_runs.specs.States.{offerOf, cheaperOf, loadOf, stateBy, periodOf};
 ghost use Rattle.equal_runs.specs.Fill.{RowFilled, RowLow, Advanced};
-ghost use Rattle.equal_runs.specs.Run.{Runnable, RanFor, startOf, stepOf, backOf};
+ghost use Rattle.equal_runs.specs.Run.{Runnable, Ran, constantWith, startOf, stepOf, backOf};
 
 // A number above every cost: what can't be reached costs this or more.
 pub const NONE: u64 = 7000000000000000000;
@@ -150,7 +151,8 @@ fn period_at(setup: &[u32], unit: &[u32], holding: &[u32], i: usize, due: u64) -
     }
 }
 
-// The intervals of `count` periods from l on: their costs by the states up to `top`, and what each period makes, from its number times `width` on.
+// The intervals of `count` periods from l on, where a full load is what each period can make: their costs by the states up to `top`, and what each
+// period makes, from its number times `width` on.
 // Cells past these are left as they come: free.
 pub fn run(
     demand: &[u16],
@@ -171,7 +173,8 @@ pub fn run(
         ⌝ }
     ensures { λ _.
         ⌜
-        RanFor (now (demand .entry)) (now (setup .entry)) (now (unit .entry)) (now (holding .entry))
+        Ran
+        (modelOf (constantWith (now (demand .entry)) (sizes .full) (now (setup .entry)) (now (unit .entry)) (now (holding .entry))))
         l sizes count top width (now (row .exit)) (now (picks .exit))
         ⌝ }
 {

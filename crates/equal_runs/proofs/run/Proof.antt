@@ -8,13 +8,13 @@ use native.Mathlib.Numerals.{add-one}
 use native.Mathlib.Omega.{arith}
 use lib.ListN.{length}
 use Rattle.day.specs.Sums.{at, sumTo}
-use Rattle.theory.specs.Problem.{problemWith, modelOf}
+use Rattle.theory.specs.Problem.{modelOf}
 use Rattle.equal_runs.specs.declared.LoadSizes.{LoadSizes}
 use Rattle.equal_runs.specs.declared.RunPeriod.{RunPeriod}
 use Rattle.equal_runs.specs.States.{periodOf}
 use Rattle.equal_runs.specs.Told.{Narrow}
 use Rattle.equal_runs.specs.Fill.{Advanced}
-use Rattle.equal_runs.specs.Run.{RanFor, ran-none, ran-more, row-low}
+use Rattle.equal_runs.specs.Run.{Ran, constantWith, ran-none, ran-more, row-low}
 use Rattle.equal_runs.proofs.run.Statement.{statement}
 use Rattle.equal_runs.proofs.run.Tie as tie
 
@@ -27,7 +27,7 @@ record Running (demand setup unit holding : List ℕ) (l count : ℕ) (w : LoadS
   low : due ≤ k * 65536
   row-size : length row ≡ length row₀
   picks-size : length picks ≡ length picks₀
-  ran : RanFor demand setup unit holding l w k top width row picks
+  ran : Ran (modelOf (constantWith demand (w .full) setup unit holding)) l w k top width row picks
 
 -- one period more, as the code has it
 turn : (demand setup unit holding : List ℕ) (l k : ℕ) (w : LoadSizes) (top width base due : ℕ) (row picks row′ picks′ : List ℕ) (p : RunPeriod)
@@ -35,17 +35,17 @@ turn : (demand setup unit holding : List ℕ) (l k : ℕ) (w : LoadSizes) (top w
     → sumTo (at demand) l + due ≡ sumTo (at demand) (l + k)
     → p ≡ periodOf setup unit holding (l + k) (due + at demand (l + k))
     → base ≡ k * width
-    → RanFor demand setup unit holding l w k top width row picks
+    → Ran (modelOf (constantWith demand (w .full) setup unit holding)) l w k top width row picks
     → Advanced p w 0 top row row′ base picks picks′
-    → RanFor demand setup unit holding l w (k + 1) top width row′ picks′
-turn demand setup unit holding l k w top width base due row picks row′ picks′ p few low wide narrow sums e from ran next capacity =
+    → Ran (modelOf (constantWith demand (w .full) setup unit holding)) l w (k + 1) top width row′ picks′
+turn demand setup unit holding l k w top width base due row picks row′ picks′ p few low wide narrow sums e from ran next =
     let a = ap (λ (q : RunPeriod). q .setup) e in
     let b = ap (λ (q : RunPeriod). q .unit) e in
     let f = ap (λ (q : RunPeriod). q .holding) e in
     let g = ap (λ (q : RunPeriod). q .due) e in
     rw (add-one k)
-    (ran-more (modelOf (problemWith demand capacity setup unit holding)) l w k top width row picks row′ picks′ p few low wide
-    (record { setup = a; unit = b; holding = f; due = omega arith }) narrow (ran capacity) (rw from at next))
+    (ran-more (modelOf (constantWith demand (w .full) setup unit holding)) l w k top width row picks row′ picks′ p few low wide
+    (record { setup = a; unit = b; holding = f; due = omega arith }) narrow ran (rw from at next))
 
 abbrev Inv-loop : tie.InvT-loop
 Inv-loop demand setup unit holding l count sizes top width row₀ picks₀ k₀ base₀ due₀ row picks k base due =
@@ -89,7 +89,7 @@ loop-holds c =
       low = omega arith;
       row-size = refl;
       picks-size = refl;
-      ran = λ capacity. ran-none _ _ _ _ _ (a .row .now) _ _ (c .before .before .start .ensures);
+      ran = ran-none _ _ _ _ _ (a .row .now) _ _ (c .before .before .start .ensures);
     }
 
 add-i : tie.Need-add-i Inv-loop μ-loop
@@ -120,7 +120,7 @@ advance-requires c κs =
     let pre = entry t .pre in
     let size = begun t .start .ensures .size in
     let next = mul-le-mul-right (entry t .args .width) (c .before .before .before .before .loop-test .taken) in (
-      row-low _ _ _ (t .loop .k) _ _ _ _ (inv .ran (entry t .args .demand .now)) (omega (arith, pre .few)) (omega (arith, pre .states)),
+      row-low _ _ _ (t .loop .k) _ _ _ _ (inv .ran) (omega (arith, pre .few)) (omega (arith, pre .states)),
       pre .low,
       omega (arith, pre .wide, pre .amounts),
     )
