@@ -1,6 +1,6 @@
 -- What the weigher's two calls answer (document 01, "The weigher"), and the number of each rule.
 -- Main definitions: `weighedOf`, `comparedOf`; `ruleNumber`. Assumes nothing.
-use mathlib.Core.List.{List, [], _∷_}
+use mathlib.Core.List.{List, [], _∷_, _++_}
 use mathlib.Core.Option.{Option, none, some}
 use Prim.Native.Nat.{ℕ}
 use lib.ListN.{length}
@@ -8,7 +8,7 @@ use lib.IntN.{pos, _-ℤ_}
 use Rattle.day.specs.declared.Refusal.{Refusal}
 use Rattle.day.specs.Sums.{at}
 use Rattle.day.specs.Day.{Day, periods}
-use Rattle.day.specs.Refusals.{first, badTables, badTotal, badSlots}
+use Rattle.day.specs.Refusals.{first, dayTests, badSlots}
 use Rattle.weigher.specs.declared.Rule.{Rule}
 use Rattle.weigher.specs.declared.Rule.the-variants.{AboveCapacity, Short, Over}
 use Rattle.weigher.specs.declared.Verdict.{Verdict}
@@ -21,7 +21,7 @@ use Rattle.weigher.specs.Verdict.{verdictOf}
 
 -- 1, 2, 3, 4, 6
 abbrev pub weighRefusal : Day → List ℕ → Option Refusal
-weighRefusal d plan = first (badTables d (badTotal d ∷ badSlots (length plan) (periods d) ∷ []))
+weighRefusal d plan = first (dayTests d ++ (badSlots (length plan) (periods d) ∷ []))
 
 -- the first refusal in order, else the verdict on the plan
 abbrev pub orRefused : Option Refusal → Verdict → Weighed

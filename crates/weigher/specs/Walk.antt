@@ -14,6 +14,8 @@ use Rattle.checks.specs.Passed.{SameLengths}
 use Rattle.weigher.specs.declared.Rule.{Rule}
 use Rattle.weigher.specs.declared.Verdict.{Verdict}
 use Rattle.weigher.specs.declared.Verdict.the-variants.{Holds, Broken}
+use Rattle.weigher.specs.declared.Weighed.{Weighed}
+use Rattle.weigher.specs.declared.Weighed.the-variants.{Refused, Judged}
 use Rattle.weigher.specs.declared.Entries.{Entries}
 use Rattle.weigher.specs.declared.Sums.{Sums}
 use Rattle.weigher.specs.declared.Ruling.{Ruling}
@@ -88,7 +90,8 @@ pub record NextPeriod (d : Day) (plan : List ℕ) (i : ℕ) (s : Sums) : Type 0 
   pub inside : i < periods d
   pub sums : s ≡ sumsTo d (at plan) i
 
--- a verdict whose cost fits a signed 64-bit number
-abbrev pub Signed : Verdict → Type 0
-Signed (Holds t) = t .cost < 2 ^ 63
-Signed (Broken r i) = Unit {0}
+-- the cost that an answer holds, where it holds one, fits a signed 64-bit number
+abbrev pub Signed : Weighed → Type 0
+Signed (Refused r) = Unit {0}
+Signed (Judged (Broken r i)) = Unit {0}
+Signed (Judged (Holds t)) = t .cost < 2 ^ 63

@@ -6,7 +6,7 @@ ghost use lib.IntN.{pos, _-ℤ_};
 ghost use Rattle.day.specs.Sums.{at};
 ghost use Rattle.day.specs.Day.{dayOf};
 ghost use Rattle.weigher.specs.Verdict.{totalsOf, verdictOf};
-ghost use Rattle.weigher.specs.Answers.{weighedOf, betweenOf, comparedOf, ruleNumber};
+ghost use Rattle.weigher.specs.Answers.{weighedOf, compareOf, comparedOf, ruleNumber};
 ghost use Rattle.weigher.specs.Walk.{rulingOf, rulingAt, Room, Weighable, FeasiblePlan, NextPeriod, Signed};
 use day::Check;
 use day::Refusal;
@@ -25,7 +25,7 @@ pub enum Rule {
 // What weighing says of a plan: it keeps every rule, or the first that it breaks, with the period.
 pub enum Verdict {
     Holds(Totals),
-    Broken(Rule, usize),
+    Broken(Rule, u16),
 }
 
 // What the weigher answers.
@@ -37,12 +37,12 @@ pub enum Weighed {
 // What the comparison of two plans answers.
 pub enum Compared {
     Refused(Refusal),
-    Broken(Rule, usize),
+    Broken(Rule, u16),
     Difference(i64),
 }
 
 impl Rule {
-    pub fn number(self) -> u64
+    pub fn number(self) -> u8
         ensures { λ r. ⌜ r ≡ ruleNumber self ⌝ }
     {
         match self {
@@ -155,7 +155,7 @@ fn walk(
     while i < demand.len() {
         match advance(demand, capacity, setup, unit, holding, plan, i, s) {
             Ruling::Broke(rule) => {
-                return Verdict::Broken(rule, i + 1);
+                return Verdict::Broken(rule, (i + 1) as u16);
             }
             Ruling::Kept(t) => {
                 s = t;
@@ -221,16 +221,22 @@ fn difference(a: u64, b: u64) -> i64
     (a as i64) - (b as i64)
 }
 
-// How two verdicts compare.
-fn between(v: Verdict, w: Verdict) -> Compared
-    requires { ⌜ Signed v × Signed w ⌝ }
-    ensures { λ r. ⌜ r ≡ betweenOf v w ⌝ }
+// How two answers of the weigher compare.
+fn comparison(a: Weighed, b: Weighed) -> Compared
+    requires { ⌜ Signed a × Signed b ⌝ }
+    ensures { λ r. ⌜ r ≡ compareOf a b ⌝ }
 {
-    match v {
-        Verdict::Broken(rule, period) => Compared::Broken(rule, period),
-        Verdict::Holds(t) => match w {
-            Verdict::Broken(rule, period) => Compared::Broken(rule, period),
-            Verdict::Holds(u) => Compared::Difference(difference(t.cost, u.cost)),
+    match a {
+        Weighed::Refused(r) => Compared::Refused(r),
+        Weighed::Judged(v) => match b {
+            Weighed::Refused(r) => Compared::Refused(r),
+            Weighed::Judged(w) => match v {
+                Verdict::Broken(rule, period) => Compared::Broken(rule, period),
+                Verdict::Holds(t) => match w {
+                    Verdict::Broken(rule, period) => Compared::Broken(rule, period),
+                    Verdict::Holds(u) => Compared::Difference(difference(t.cost, u.cost)),
+                },
+            },
         },
     }
 }
@@ -250,11 +256,7 @@ pub fn compare(
         (dayOf (now (demand .entry)) (now (capacity .entry)) (now (setup .entry)) (now (unit .entry)) (now (holding .entry)))
         (now (plan .entry)) (now (other .entry)) ⌝ }
 {
-    match weigh(demand, capacity, setup, unit, holding, plan) {
-        Weighed::Refused(r) => Compared::Refused(r),
-        Weighed::Judged(v) => match weigh(demand, capacity, setup, unit, holding, other) {
-            Weighed::Refused(r) => Compared::Refused(r),
-            Weighed::Judged(w) => between(v, w),
-        },
-    }
+    let first = weigh(demand, capacity, setup, unit, holding, plan);
+    let second = weigh(demand, capacity, setup, unit, holding, other);
+    comparison(first, second)
 }
