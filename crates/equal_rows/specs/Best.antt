@@ -11,7 +11,7 @@ use lib.ListN.{take, drop}
 use lib.Seq.{take-take, getD-take}
 use Rattle.day.specs.Sums.{at}
 use Rattle.day.specs.Plan.{Precedes}
-use Rattle.theory.specs.Model.{Model, costTo}
+use Rattle.theory.specs.Model.{costTo}
 use Rattle.theory.specs.Problem.{Problem, periods, demandTo, modelOf, model-rising, model-unlimited}
 use Rattle.theory.specs.Stages.{Solution, Leads, Answers}
 use Rattle.theory.specs.Recursion.{PlanOf}

@@ -1,5 +1,5 @@
 -- The problems that the equal path is for, and one candidate more for a row. Main statement: `considered`. Assumes nothing.
-use mathlib.Core.Path.{_≡_, refl}
+use mathlib.Core.Path.{_≡_}
 use mathlib.Core.List.{List}
 use mathlib.Core.Option.{Option, some}
 use Prim.Native.Nat.{ℕ, zero, suc, _+_, _-_, _*_, _≤_, _<_}
@@ -17,7 +17,7 @@ use Rattle.theory.specs.FlorianKlein.{Equal, byLoads}
 use Rattle.theory.specs.Loads.{byLoad, byLoad-answers}
 use Rattle.equal_runs.specs.Bounds.{marker, stageMost}
 use Rattle.equal_rows.specs.Order.{Sooner}
-use Rattle.equal_rows.specs.Rows.{Areas, AreasSized, PlanTold, FrontKept, EarlierKept, CandidateTold, rowOf, solutionOf}
+use Rattle.equal_rows.specs.Rows.{Areas, AreasSized, PlanTold, EarlierKept, CandidateTold, rowOf, solutionOf}
 use Rattle.equal_rows.specs.Best.{PlanRow, BestSoFar, old-stays, new-goes, kept-less, kept-trans, best-kept, row-found}
 
 -- one capacity throughout, and enough of it

@@ -51,7 +51,8 @@ pub record AreasSized (n : ℕ) (a : Areas) : Type 0 where
   pub costs : length (a .costs) ≡ 6 * (n + 1)
   pub choices : length (a .choices) ≡ 4 * ((n + 1) * (n + 1))
 
-pub sized-as : {n : ℕ} {a b : Areas} → AreasSized n a → length (b .costs) ≡ length (a .costs) → length (b .choices) ≡ length (a .choices) → AreasSized n b
+pub sized-as : {n : ℕ} {a b : Areas} → AreasSized n a
+    → length (b .costs) ≡ length (a .costs) → length (b .choices) ≡ length (a .choices) → AreasSized n b
 sized-as s e f = record { costs = e ∙ s .costs; choices = f ∙ s .choices }
 
 -- the first i cost cells and j choice cells are as they were

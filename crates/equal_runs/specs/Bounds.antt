@@ -1,5 +1,5 @@
 -- Bounds that follow from the widths of the tables, so that no sum of costs wraps. Assumes nothing.
-use Prim.Native.Nat.{ℕ, _+_, _*_, _^_, _≤_, _<_}
+use Prim.Native.Nat.{ℕ, _*_, _^_, _≤_, _<_}
 use native.Mathlib.Nat.{mul-le-mul}
 use native.Mathlib.Omega.{arith}
 use Rattle.theory.specs.Loads.{made}

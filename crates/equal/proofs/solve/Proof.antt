@@ -11,7 +11,7 @@ use Rattle.day.specs.Outcome.{Cleared}
 use Rattle.theory.specs.Problem.{Problem, problemWith, periods, modelOf}
 use Rattle.theory.specs.Recursion.{leads-optimal}
 use Rattle.equal_runs.specs.Run.{constantWith}
-use Rattle.equal_rows.specs.Rows.{Areas, areas, solutionOf}
+use Rattle.equal_rows.specs.Rows.{Areas, solutionOf}
 use Rattle.equal_rows.specs.Best.{PlanRow}
 use Rattle.equal_rows.specs.Consider.{ConstantCapacity}
 use Rattle.equal.specs.Solved.{PlanFound, constant-is, idle-found}
@@ -22,7 +22,6 @@ use Rattle.equal.proofs.solve.Tie as tie
 idle : (p : Problem) (slots slots′ : List ℕ) → ConstantCapacity p (at (p .capacity) 0) → at (p .capacity) 0 ≡ 0
     → Cleared (periods p) slots slots′ → PlanFound p slots′
 idle p slots slots′ constant e clear =
-    let zeros : List ℕ = replicate (periods p) 0 in
     idle-found p (rw e at constant) slots′
     (λ k h.
     ap (λ (l : List ℕ). at l k) clear

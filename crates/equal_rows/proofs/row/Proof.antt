@@ -38,7 +38,8 @@ module _ (p : Problem) (c m : ℕ) where
   row-now l a b h g u =
       row-kept p l m (m * periods p) a b (kept-trans (marked-kept a) (u .kept)) h (omega (arith, mul-le-mul-right (periods p) h))
 
-  all-tried : (l : ℕ) (a b : Areas) → ConstantCapacity p c → 0 < m → m ≤ periods p → l ≡ m → Considered p c m l (marked a) b → RowFound p m a b
+  all-tried : (l : ℕ) (a b : Areas) → ConstantCapacity p c → 0 < m → m ≤ periods p → l ≡ m
+      → Considered p c m l (marked a) b → RowFound p m a b
   all-tried l a b constant pos h e u =
       let f = all-considered p c constant m pos h (marked a) b (rw e at u) in
       record { kept = kept-trans (marked-kept a) (f .kept); row = f .row }
