@@ -50,4 +50,5 @@ returns c =
 pub walk-spec : {M : Type 1} → statement M
 walk-spec =
     tie.close
-    (tie.spec Inv-loop μ-loop loop-holds (λ c κs. search needs) next-requires add-n loop-less loop-again end-record-requires returns)
+    (tie.spec Inv-loop μ-loop loop-holds (λ c κs. search needs) next-requires add-n loop-less loop-again end-record-requires
+    returns)

@@ -63,14 +63,5 @@ returns-4 c =
 pub accepts-spec : {M : Type 1} → statement M
 accepts-spec =
     tie.close
-    (tie.spec
-    (λ c κs. search needs)
-    (λ c. search needs)
-    (λ c. search needs)
-    returns
-    values-requires
-    (λ c. search needs)
-    (λ c. search needs)
-    returns-2
-    returns-3
-    returns-4)
+    (tie.spec (λ c κs. search needs) (λ c. search needs) (λ c. search needs) returns values-requires (λ c. search needs)
+    (λ c. search needs) returns-2 returns-3 returns-4)

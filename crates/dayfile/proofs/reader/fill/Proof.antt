@@ -106,23 +106,6 @@ returns c =
 pub fill-spec : {M : Type 1} → statement M
 fill-spec =
     tie.close
-    (tie.spec
-    Inv-loop
-    μ-loop
-    loop-holds
-    add-start
-    next-requires
-    sub-decode
-    part-decode-start
-    part-decode-end
-    decode-requires
-    put-requires
-    (λ c. omega arith)
-    (λ c. omega arith)
-    loop-again
-    same-length
-    same-length-2
-    same-length-3
-    same-length-4
-    same-length-5
-    returns)
+    (tie.spec Inv-loop μ-loop loop-holds add-start next-requires sub-decode part-decode-start part-decode-end decode-requires
+    put-requires (λ c. omega arith) (λ c. omega arith) loop-again same-length same-length-2 same-length-3 same-length-4
+    same-length-5 returns)
