@@ -1,4 +1,4 @@
-// The writer: the file of a day at the front of a lent slice.
+//! The writer (document 01, "Day file"): the file of a day at the front of a lent slice. What it does is `Writing` of the crate dayfile.
 ghost use mathlib.Core.Path.{_≡_};
 ghost use mathlib.Core.List.{_∷_};
 ghost use Prim.Native.Nat.{_+_, _*_, _≤_};
@@ -7,11 +7,10 @@ ghost use lib.Seq.{sets};
 ghost use Rattle.day.specs.Day.{dayOf, maxPeriods};
 ghost use Rattle.day.specs.File.{periodKind, endKind, bytes2, fieldsOf, recordOf, recordsOf};
 ghost use Rattle.checks.specs.Passed.{SameLengths};
-ghost use Rattle.dayfile.specs.Tables.{Cells};
-ghost use Rattle.dayfile.specs.Answers.{withFile, Writing};
-use crate::WriteAnswer;
+ghost use Rattle.dayfile.specs.Answers.{dayBefore, Cells, withFile, Writing};
 use day::Check;
 use day::Refusal;
+use dayfile::WriteAnswer;
 
 // A period's record. Numbers stand most significant byte first.
 fn period_record(demand: u16, capacity: u16, setup: u32, unit: u32, holding: u32) -> [u8; 17]
@@ -47,7 +46,7 @@ fn record_of(
     holding: &[u32],
 ) -> [u8; 17]
     requires { ⌜ Cells (k + 1) (dayOf (now demand) (now capacity) (now setup) (now unit) (now holding)) ⌝ }
-    ensures { λ r. ⌜ r ≡ recordOf (dayOf (now (demand .entry)) (now (capacity .entry)) (now (setup .entry)) (now (unit .entry)) (now (holding .entry))) k ⌝ }
+    ensures { λ r. ⌜ r ≡ recordOf (dayBefore demand capacity setup unit holding) k ⌝ }
 {
     period_record(demand[k], capacity[k], setup[k], unit[k], holding[k])
 }
@@ -82,8 +81,9 @@ fn put_periods(
 )
     requires { ⌜ SameLengths (dayOf (now demand) (now capacity) (now setup) (now unit) (now holding)) ⌝ }
     requires { ⌜ 17 * length (now demand) ≤ length (now out) ⌝ }
-    ensures { λ _. ⌜ now (out .exit)
-        ≡ sets (now (out .entry)) 0 (recordsOf (dayOf (now (demand .entry)) (now (capacity .entry)) (now (setup .entry)) (now (unit .entry)) (now (holding .entry))) (length (now (demand .entry)))) ⌝ }
+    ensures { λ _. ⌜
+        now (out .exit) ≡ sets (now (out .entry)) 0 (recordsOf (dayBefore demand capacity setup unit holding) (length (now (demand .entry))))
+        ⌝ }
 {
     let mut at = 0;
     let mut k = 0;
@@ -107,8 +107,7 @@ fn put_file(
     requires { ⌜ SameLengths (dayOf (now demand) (now capacity) (now setup) (now unit) (now holding)) ⌝ }
     requires { ⌜ length (now demand) ≤ maxPeriods ⌝ }
     requires { ⌜ 17 * length (now demand) + 3 ≤ length (now out) ⌝ }
-    ensures { λ _. ⌜ now (out .exit)
-        ≡ withFile (dayOf (now (demand .entry)) (now (capacity .entry)) (now (setup .entry)) (now (unit .entry)) (now (holding .entry))) (now (out .entry)) ⌝ }
+    ensures { λ _. ⌜ now (out .exit) ≡ withFile (dayBefore demand capacity setup unit holding) (now (out .entry)) ⌝ }
 {
     put_periods(demand, capacity, setup, unit, holding, out);
     let n = demand.len();
@@ -125,8 +124,7 @@ pub fn write(
     holding: &[u32],
     out: &mut [u8],
 ) -> WriteAnswer
-    ensures { λ r. ⌜ Writing (dayOf (now (demand .entry)) (now (capacity .entry)) (now (setup .entry)) (now (unit .entry)) (now (holding .entry)))
-        (now (out .entry)) r (now (out .exit)) ⌝ }
+    ensures { λ r. ⌜ Writing (dayBefore demand capacity setup unit holding) (now (out .entry)) r (now (out .exit)) ⌝ }
 {
     if let Check::Refused(r) = checks::tables(demand, capacity, setup, unit, holding) {
         return WriteAnswer::Refused(r);

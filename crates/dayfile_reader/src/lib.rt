@@ -1,25 +1,33 @@
-// The reader: the periods of a file into five lent tables.
+//! The reader (document 01, "Day file"): the periods of a file into five lent tables. What it does is `Reading` of the crate dayfile.
 ghost use mathlib.Core.Path.{_≡_};
 ghost use Prim.Native.Nat.{_+_, _≤_, min};
 ghost use lib.ListN.{length};
 ghost use Rattle.day.specs.Day.{dayOf, maxPeriods};
 ghost use Rattle.day.specs.Refusals.{checked, badValue};
 ghost use Rattle.day.specs.File.{periodsIn, dayIn};
-ghost use Rattle.dayfile.specs.Answers.{answered, filled, badRead, Reading};
-ghost use Rattle.dayfile.specs.Fields.{fields};
-ghost use Rattle.dayfile.specs.Tables.{Cells, stored};
-use crate::Period;
-use crate::ReadAnswer;
-use crate::layout;
+ghost use Rattle.dayfile.specs.Answers.{dayBefore, dayAfter, Cells, withDay, badRead, Reading};
+ghost use Rattle.dayfile_reader.specs.Numbers.{numbersIn};
+ghost use Rattle.dayfile_reader.specs.Tables.{stored};
 use day::Check;
 use day::Refusal;
+use dayfile::ReadAnswer;
+use dayfile::layout;
+
+// The numbers of one period.
+struct Numbers {
+    demand: u16,
+    capacity: u16,
+    setup: u32,
+    unit: u32,
+    holding: u32,
+}
 
 // The field decoder: the numbers that a period record's body holds.
-fn decode(body: &[u8]) -> Period
+fn decode(body: &[u8]) -> Numbers
     requires { ⌜ length (now body) ≡ 16 ⌝ }
-    ensures { λ r. ⌜ r ≡ fields (now (body .entry)) ⌝ }
+    ensures { λ r. ⌜ r ≡ numbersIn (now (body .entry)) ⌝ }
 {
-    Period {
+    Numbers {
         demand: layout::number2(body, 0) as u16,
         capacity: layout::number2(body, 2) as u16,
         setup: layout::number4(body, 4),
@@ -31,7 +39,7 @@ fn decode(body: &[u8]) -> Period
 // One cell of each table takes a period's number.
 fn put(
     k: usize,
-    period: Period,
+    numbers: Numbers,
     demand: &mut [u16],
     capacity: &mut [u16],
     setup: &mut [u32],
@@ -39,14 +47,13 @@ fn put(
     holding: &mut [u32],
 )
     requires { ⌜ Cells (k + 1) (dayOf (now demand) (now capacity) (now setup) (now unit) (now holding)) ⌝ }
-    ensures { λ _. ⌜ dayOf (now (demand .exit)) (now (capacity .exit)) (now (setup .exit)) (now (unit .exit)) (now (holding .exit))
-        ≡ stored k period (dayOf (now (demand .entry)) (now (capacity .entry)) (now (setup .entry)) (now (unit .entry)) (now (holding .entry))) ⌝ }
+    ensures { λ _. ⌜ dayAfter demand capacity setup unit holding ≡ stored k numbers (dayBefore demand capacity setup unit holding) ⌝ }
 {
-    demand[k] = period.demand;
-    capacity[k] = period.capacity;
-    setup[k] = period.setup;
-    unit[k] = period.unit;
-    holding[k] = period.holding;
+    demand[k] = numbers.demand;
+    capacity[k] = numbers.capacity;
+    setup[k] = numbers.setup;
+    unit[k] = numbers.unit;
+    holding[k] = numbers.holding;
 }
 
 // The first n cells of each table take the numbers of the file's n periods; later cells stay.
@@ -61,8 +68,7 @@ fn fill(
 )
     requires { ⌜ n ≡ periodsIn (now file) ⌝ }
     requires { ⌜ Cells n (dayOf (now demand) (now capacity) (now setup) (now unit) (now holding)) ⌝ }
-    ensures { λ _. ⌜ dayOf (now (demand .exit)) (now (capacity .exit)) (now (setup .exit)) (now (unit .exit)) (now (holding .exit))
-        ≡ filled (now (file .entry)) (dayOf (now (demand .entry)) (now (capacity .entry)) (now (setup .entry)) (now (unit .entry)) (now (holding .entry))) ⌝ }
+    ensures { λ _. ⌜ dayAfter demand capacity setup unit holding ≡ withDay (now (file .entry)) (dayBefore demand capacity setup unit holding) ⌝ }
 {
     let mut at = 0;
     let mut k = 0;
@@ -112,22 +118,18 @@ fn values(file: &[u8], n: usize) -> Check
     )
 }
 
-// The reader's tests, for tables of at least `cells` cells.
-fn accepts(file: &[u8], cells: usize) -> ReadAnswer
-    ensures { λ r. ⌜ r ≡ answered (badRead (now (file .entry)) cells) (periodsIn (now (file .entry))) ⌝ }
+// The reader's tests in order, for a file of `n` periods and tables of at least `cells` cells.
+fn tests(file: &[u8], n: usize, cells: usize) -> Check
+    requires { ⌜ n ≡ periodsIn (now file) ⌝ }
+    ensures { λ r. ⌜ r ≡ checked (badRead (now (file .entry)) cells) ⌝ }
 {
-    match layout::periods(file) {
-        ReadAnswer::Refused(r) => ReadAnswer::Refused(r),
-        ReadAnswer::Periods(n) => {
-            if cells < n {
-                return ReadAnswer::Refused(Refusal::FewSlots);
-            }
-            match values(file, n) {
-                Check::Refused(r) => ReadAnswer::Refused(r),
-                Check::Passed => ReadAnswer::Periods(n),
-            }
-        }
+    if let Check::Refused(r) = layout::tests(file, n) {
+        return Check::Refused(r);
     }
+    if cells < n {
+        return Check::Refused(Refusal::FewSlots);
+    }
+    values(file, n)
 }
 
 fn least(a: usize, b: usize) -> usize
@@ -151,10 +153,11 @@ pub fn read(
     unit: &mut [u32],
     holding: &mut [u32],
 ) -> ReadAnswer
-    ensures { λ r. ⌜ Reading (now (file .entry))
-        (dayOf (now (demand .entry)) (now (capacity .entry)) (now (setup .entry)) (now (unit .entry)) (now (holding .entry))) r
-        (dayOf (now (demand .exit)) (now (capacity .exit)) (now (setup .exit)) (now (unit .exit)) (now (holding .exit))) ⌝ }
+    ensures { λ r. ⌜
+        Reading (now (file .entry)) (dayBefore demand capacity setup unit holding) r (dayAfter demand capacity setup unit holding)
+        ⌝ }
 {
+    let n = layout::periods(file);
     let cells = shortest(
         demand.len(),
         capacity.len(),
@@ -162,10 +165,9 @@ pub fn read(
         unit.len(),
         holding.len(),
     );
-    let answer = accepts(file, cells);
-    let ReadAnswer::Periods(n) = answer else {
-        return answer;
-    };
+    if let Check::Refused(r) = tests(file, n, cells) {
+        return ReadAnswer::Refused(r);
+    }
     fill(file, n, demand, capacity, setup, unit, holding);
-    answer
+    ReadAnswer::Periods(n)
 }

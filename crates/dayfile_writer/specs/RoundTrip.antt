@@ -9,12 +9,12 @@ use native.Mathlib.Omega.{arith}
 use mathlib.Core.Logic.{⊎-elim}
 use lib.ListN.{length, take, drop, length-append, length-take, length-drop}
 use lib.Seq.{take-add, take-all, drop-cons, drop-append-add, getD-append-seam, getD-take, getD-drop}
-use Rattle.day.specs.Sums.{at, listOf, at-listOf}
+use Rattle.day.specs.Sums.{at, listOf, at-listOf, length-listOf, listOf-at}
 use Rattle.day.specs.Day.{Day, periods}
 use Rattle.checks.specs.Passed.{SameLengths}
-use Rattle.dayfile.specs.Tables.{length-listOf, listOf-at}
 use Rattle.dayfile.specs.Layout.{WholePeriod, period-at, body-length, period-body, counted}
-use Rattle.day.specs.File.{periodKind, endKind, bodyLength, body, next, recordAt, number2, number4, Layout, field, dayIn, bytes2, bytes4, fieldsOf, recordOf, recordsOf, fileOf, periodsIn}
+use Rattle.day.specs.File.{periodKind, endKind, bodyLength, body, next, recordAt, number2, number4, Layout, field, dayIn}
+use Rattle.day.specs.File.{bytes2, bytes4, fieldsOf, recordOf, recordsOf, fileOf, periodsIn}
 
 -- every entry is a byte
 abbrev pub Bytes : List ℕ → Type 0
@@ -50,15 +50,26 @@ upto4 b h p l =
     let e : p + 4 ≡ p + 2 + 2 = omega arith in
     rw (a, z, e, upto2 b h (p + 2) (omega arith), upto2 b h p (omega arith), append-assoc) refl
 
--- a whole period record is made of the numbers that its body holds
-record-bytes : (s : List ℕ) → Bytes s → (p : ℕ) → WholePeriod s p
-    → at s p ∷ body s p ≡ periodKind ∷ fieldsOf (number2 (body s p) 0) (number2 (body s p) 2) (number4 (body s p) 4) (number4 (body s p) 8) (number4 (body s p) 12)
-record-bytes s h p w = go (body s p) (bytes-body s h p) (period-body s p w)
-  where
-    go : (b : List ℕ) → Bytes b → length b ≡ 16 → at s p ∷ b ≡ periodKind ∷ fieldsOf (number2 b 0) (number2 b 2) (number4 b 4) (number4 b 8) (number4 b 12)
-    go b h e =
-        cc
-        (w .kind, take-all 16 b (omega arith), upto4 b h 12 (omega arith), upto4 b h 8 (omega arith), upto4 b h 4 (omega arith), upto2 b h 2 (omega arith), upto2 b h 0 (omega arith))
+-- a period's body is made of the numbers that it holds
+abbrev numbersIn : List ℕ → List ℕ
+numbersIn b = fieldsOf (number2 b 0) (number2 b 2) (number4 b 4) (number4 b 8) (number4 b 12)
+
+body-bytes : (b : List ℕ) → Bytes b → length b ≡ 16 → b ≡ numbersIn b
+body-bytes b h e =
+    let two = λ p l. upto2 b h p l in
+    let four = λ p l. upto4 b h p l in
+    cc
+    (take-all 16 b (omega arith), four 12 (omega arith), four 8 (omega arith), four 4 (omega arith), two 2 (omega arith), two 0 (omega arith))
+
+record-bytes : (s : List ℕ) → Bytes s → (p : ℕ) → WholePeriod s p → at s p ∷ body s p ≡ periodKind ∷ numbersIn (body s p)
+record-bytes s h p w = cc (w .kind, body-bytes (body s p) (bytes-body s h p) (period-body s p w))
+
+-- and so is record k of the day that a file holds
+listed : (s : List ℕ) (k : ℕ) → k < periodsIn s → recordOf (dayIn s) k ≡ periodKind ∷ numbersIn (body s (recordAt s k))
+listed s k l =
+    let two = λ offset. at-listOf (field number2 offset s) (periodsIn s) k l in
+    let four = λ offset. at-listOf (field number4 offset s) (periodsIn s) k l in
+    rw (two 0, two 2, four 4, four 8, four 12) refl
 
 -- up to record k a file is what the periods before it give
 prefix : (s : List ℕ) → Bytes s → (k : ℕ) → k ≤ periodsIn s → take (recordAt s k) s ≡ recordsOf (dayIn s) k
@@ -66,8 +77,7 @@ prefix s h zero l = refl
 prefix s h (suc k) l =
     let p = recordAt s k in
     let w = period-at s k l in
-    cc
-    (record-split s p (omega (arith, w .whole)), prefix s h k (omega arith), record-bytes s h p w, at-listOf (field number2 0 s) (periodsIn s) k l, at-listOf (field number2 2 s) (periodsIn s) k l, at-listOf (field number4 4 s) (periodsIn s) k l, at-listOf (field number4 8 s) (periodsIn s) k l, at-listOf (field number4 12 s) (periodsIn s) k l)
+    cc (record-split s p (omega (arith, w .whole)), prefix s h k (omega arith), record-bytes s h p w, listed s k l)
 
 -- a file that is laid out as document 01 says is the file of the day that it holds
 pub only-file : (s : List ℕ) → Bytes s → Layout s (periodsIn s) → s ≡ fileOf (dayIn s)
@@ -76,8 +86,10 @@ only-file s h w =
     let p = recordAt s n in
     let size : next s p ≤ length s = omega (arith, w .size) in
     let b : length (body s p) ≡ 2 = body-length s p size ∙ rw (w .ends) refl in
-    cc
-    (take-all (next s p) s (omega (arith, w .size)), record-split s p (omega arith), prefix s h n (omega arith), w .ends, w .count, take-all 2 (body s p) (omega arith), upto2 (body s p) (bytes-body s h p) 0 (omega arith), length-listOf (field number2 0 s) n)
+    let all = take-all (next s p) s (omega (arith, w .size)) in
+    let end = take-all 2 (body s p) (omega arith) in
+    let count = upto2 (body s p) (bytes-body s h p) 0 (omega arith) in
+    cc (all, record-split s p (omega arith), prefix s h n (omega arith), w .ends, w .count, end, count, length-listOf (field number2 0 s) n)
 
 -- The other way: the file of a day.
 
@@ -147,14 +159,21 @@ bytes4-back v = rw (div-add-mod' (v / 65536) 256, div-add-mod' (v % 65536) 256) 
 -- and holds the day
 pub reads-back : (d : Day) → SameLengths d → dayIn (fileOf d) ≡ d
 reads-back d w =
-    rw
-    (table number2 0 (d .demand) refl (λ k. div-add-mod' (at (d .demand) k) 256), table number2 2 (d .capacity) (w .capacity) (λ k. div-add-mod' (at (d .capacity) k) 256), table number4 4 (d .setup) (w .setup) (λ k. bytes4-back (at (d .setup) k)), table number4 8 (d .unit) (w .unit) (λ k. bytes4-back (at (d .unit) k)), table number4 12 (d .holding) (w .holding) (λ k. bytes4-back (at (d .holding) k)))
+    rw (
+      table number2 0 (d .demand) refl (λ k. div-add-mod' (at (d .demand) k) 256),
+      table number2 2 (d .capacity) (w .capacity) (λ k. div-add-mod' (at (d .capacity) k) 256),
+      table number4 4 (d .setup) (w .setup) (λ k. bytes4-back (at (d .setup) k)),
+      table number4 8 (d .unit) (w .unit) (λ k. bytes4-back (at (d .unit) k)),
+      table number4 12 (d .holding) (w .holding) (λ k. bytes4-back (at (d .holding) k)),
+    )
     refl
   where
     s : List ℕ
     s = fileOf d
 
-    table : (number : List ℕ → ℕ → ℕ) (offset : ℕ) (l : List ℕ) → length l ≡ periods d → ((k : ℕ) → number (periodBody d k) offset ≡ at l k) → listOf (field number offset s) (periodsIn s) ≡ l
+    table : (number : List ℕ → ℕ → ℕ) (offset : ℕ) (l : List ℕ) → length l ≡ periods d
+        → ((k : ℕ) → number (periodBody d k) offset ≡ at l k)
+        → listOf (field number offset s) (periodsIn s) ≡ l
     table number offset l e h =
         rw (counted s (periods d) (file-layout d))
         (listOf-at (periods d) l (field number offset s) e
