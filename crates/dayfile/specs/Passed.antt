@@ -8,10 +8,11 @@ use lib.Dec.{eqb, ltb}
 use borrow.Author.Tests.{eqb-false, ltb-false}
 use Rattle.day.specs.Day.{maxPeriods}
 use Rattle.day.specs.declared.Refusal.{Refusal}
-use Rattle.day.specs.declared.Refusal.the-variants.{PeriodCount, NoSuchPeriod}
+use Rattle.day.specs.declared.Refusal.the-variants.{NoSuchPeriod}
 use Rattle.day.specs.Refusals.{first}
 use Rattle.day.specs.Tests.{not-refused, neither}
 use Rattle.day.specs.File.{periodsIn, noSuchPeriod}
+use Rattle.checks.specs.Passed.{count-passed}
 use Rattle.dayfile.specs.Answers.{fileTests, badLookup}
 
 -- in a list without refusals every test has passed
@@ -26,9 +27,7 @@ each-passed (some r ∷ rest) e = absurd (Option·some-ne-none _ e)
 
 -- a file whose tests passed has at most 96 periods
 pub file-passed : (s : List ℕ) → first (fileTests s) ≡ none → periodsIn s ≤ maxPeriods
-file-passed s e =
-    let n = periodsIn s in
-    ltb-false maxPeriods n (neither (eqb n 0) (ltb maxPeriods n) (not-refused _ PeriodCount (each-passed (fileTests s) e .1 .0)) .1)
+file-passed s e = count-passed (periodsIn s) (each-passed (fileTests s) e .1 .0) .1
 
 -- a lookup that is not refused asks for one of the file's periods
 pub lookup-passed : (s : List ℕ) (i : ℕ) → badLookup s i ≡ none → (1 ≤ i) × (i ≤ periodsIn s)

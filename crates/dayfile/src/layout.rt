@@ -114,7 +114,6 @@ pub fn record_at(file: &[u8], i: usize) -> usize
 
 // 10, 11, 12, at the record after `n` period records, which is to be the end record.
 fn end_record(file: &[u8], at: usize, n: usize) -> Check
-    requires { ⌜ at ≤ length (now file) ⌝ }
     ensures { λ r. ⌜ r ≡ checked (badEnd (now (file .entry)) at n) ⌝ }
 {
     if file.len() <= at {

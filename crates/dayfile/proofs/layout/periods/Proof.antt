@@ -1,4 +1,4 @@
--- `dayfile::layout::walk` meets its contract. The loop's invariant: it has passed n whole periods and stands where record n begins.
+-- `dayfile::layout::periods` meets its contract. The loop's invariant: it has passed n whole periods and stands where record n begins.
 -- The measure is what is left of the file. Assumes nothing.
 use mathlib.Core.Path.{sym, _∙_}
 use Prim.Native.Nat.{_-_}
@@ -8,8 +8,8 @@ use borrow.Author.Needs.{needs}
 use denote.Ref.{now}
 use lib.ListN.{length}
 use Rattle.dayfile.specs.Layout.{WholePeriod, Walked, walked-none, walked-more, walked-end, period}
-use Rattle.dayfile.proofs.layout.walk.Statement.{statement}
-use Rattle.dayfile.proofs.layout.walk.Tie as tie
+use Rattle.dayfile.proofs.layout.periods.Statement.{statement}
+use Rattle.dayfile.proofs.layout.periods.Tie as tie
 
 abbrev Inv-loop : tie.InvT-loop
 Inv-loop file at₀ n₀ at n = Walked file n at
@@ -38,17 +38,10 @@ loop-again c =
     rw (add-one, c .next .ensures)
     (walked-more _ _ _ (c .before .before .before .loop .inv) (sym (c .before .before .is-period .ensures) ∙ c .before .if1 .taken))
 
-end-record-requires : tie.Need-end-record-requires Inv-loop μ-loop
-end-record-requires c κs = c .before .before .loop .inv .inside
-
 returns : tie.Need-returns Inv-loop μ-loop
 returns c =
-    let w = c .before .before .before .loop .inv in
-    let e = walked-end _ _ _ w (sym (c .before .before .is-period .ensures) ∙ c .before .if1 .left) in
-    rw (e, ← w .here) (c .end-record .ensures)
+    sym (walked-end _ _ _ (c .before .before .loop .inv) (sym (c .before .is-period .ensures) ∙ c .if1 .left))
 
-pub walk-spec : {M : Type 1} → statement M
-walk-spec =
-    tie.close
-    (tie.spec Inv-loop μ-loop loop-holds (λ c κs. search needs) next-requires add-n loop-less loop-again end-record-requires
-    returns)
+pub periods-spec : {M : Type 1} → statement M
+periods-spec =
+    tie.close (tie.spec Inv-loop μ-loop loop-holds (λ c κs. search needs) next-requires add-n loop-less loop-again returns)
