@@ -16,11 +16,12 @@ use lib.Dec.{eqb, leb, ltb}
 use lib.ListN.{length, take, drop, length-take, length-drop}
 use borrow.Author.Tests.{eqb-true, leb-true, leb-false, ltb-false, lt-ltb, le-ltb, le-leb, eq-eqb, not-true, not-false}
 use Rattle.day.specs.Sums.{at, length-listOf}
+use Rattle.day.specs.Day.{maxPeriods}
 use Rattle.day.specs.Find.{find, find-none, find-here, none-found, nothing-found, some-found}
 use Rattle.day.specs.Tests.{not-refused, neither}
 use Rattle.day.specs.File.{periodKind, endKind, isKind, bodyLength, body, number2, next, recordAt, Layout}
 use Rattle.day.specs.File.{isPeriod, periodsIn, orZero, unknownKind, truncated, wrongEnd, walk, dayIn}
-use Rattle.checks.specs.Passed.{SameLengths}
+use Rattle.checks.specs.Passed.{SameLengths, Readable}
 use Rattle.dayfile.specs.Passed.{each-passed}
 
 -- a body of a known kind has 2 bytes at least
@@ -169,3 +170,6 @@ day-lengths s = record {
   unit = simp length-listOf;
   holding = simp length-listOf;
 }
+
+pub day-readable : (s : List ℕ) → periodsIn s ≤ maxPeriods → Readable (dayIn s)
+day-readable s l = record { few = rw length-listOf l; lengths = day-lengths s }

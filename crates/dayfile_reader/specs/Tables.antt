@@ -19,6 +19,7 @@ use Rattle.day.specs.Tests.{not-refused}
 use Rattle.day.specs.File.{recordAt, next, body, number2, number4, periodsIn, walk, field, dayIn}
 use Rattle.dayfile.specs.Answers.{Cells, fileTests, shortest, badRead, withFirst, withPeriods, withDay}
 use Rattle.dayfile.specs.Passed.{each-passed}
+use Rattle.dayfile.specs.Layout.{WholePeriod, period-at}
 use Rattle.dayfile_reader.specs.declared.Numbers.{Numbers}
 use Rattle.dayfile_reader.specs.Numbers.{numbersIn}
 
@@ -97,9 +98,24 @@ day-in-front s n before after e w = rw (e, w) (simp with-front)
 periods-more : (s : List ℕ) (k : ℕ) (before : Day) → Cells (suc k) before
     → stored k (numbersIn (body s (recordAt s k))) (withPeriods s k before) ≡ withPeriods s (suc k) before
 periods-more s k before w =
-    let two = λ offset. with-more (field number2 offset s) k in
-    let four = λ offset. with-more (field number4 offset s) k in
-    rw (two 0 _ (w .demand), two 2 _ (w .capacity), four 4 _ (w .setup), four 8 _ (w .unit), four 12 _ (w .holding)) refl
+    rw (
+      with-more (field number2 0 s) k _ (w .demand),
+      with-more (field number2 2 s) k _ (w .capacity),
+      with-more (field number4 4 s) k _ (w .setup),
+      with-more (field number4 8 s) k _ (w .unit),
+      with-more (field number4 12 s) k _ (w .holding),
+    )
+    refl
+
+-- the cells of period k + 1, in tables that have cells for all n
+pub cells-here : (n k : ℕ) (before after : Day) → k < n → Cells n before → SameCells before after → Cells (k + 1) after
+cells-here n k before after l c w = record {
+  demand = omega (arith, c .demand, w .demand);
+  capacity = omega (arith, c .capacity, w .capacity);
+  setup = omega (arith, c .setup, w .setup);
+  unit = omega (arith, c .unit, w .unit);
+  holding = omega (arith, c .holding, w .holding);
+}
 
 -- the loop that fills the tables has read k periods and stands at byte p
 pub record PeriodsRead (s : List ℕ) (n : ℕ) (before : Day) (k p : ℕ) (after : Day) : Type 0 where
@@ -108,17 +124,19 @@ pub record PeriodsRead (s : List ℕ) (n : ℕ) (before : Day) (k p : ℕ) (afte
   pub tables : after ≡ withPeriods s k before
   pub cells : SameCells before after
 
+-- a whole period stands there
+pub period-here : (s : List ℕ) (n : ℕ) (before : Day) (k p : ℕ) (after : Day) → PeriodsRead s n before k p after → n ≡ periodsIn s → k < n
+    → WholePeriod s p
+period-here s n before k p after w e l = rw (w .here) (period-at s k (omega arith))
+
 -- a turn of it: the next period's numbers go to cell k
-pub read-turn : (s : List ℕ) (n : ℕ) (before : Day) (k p : ℕ) (after later : Day) → PeriodsRead s n before k p after → k < n → Cells n before
-    → later ≡ stored k (numbersIn (body s p)) after → PeriodsRead s n before (k + 1) (next s p) later
-read-turn s n before k p after later w l c e =
-    let room : Cells (suc k) before = record {
-      demand = omega (arith, c .demand);
-      capacity = omega (arith, c .capacity);
-      setup = omega (arith, c .setup);
-      unit = omega (arith, c .unit);
-      holding = omega (arith, c .holding);
-    } in
-    let tables : later ≡ withPeriods s (suc k) before = e ∙ rw (w .tables, w .here) (periods-more s k before room) in
-    rw add-one
+pub read-turn : (s : List ℕ) (n : ℕ) (before : Day) (k p : ℕ) (after later : Day) {end : ℕ} {numbers : Numbers} {part : List ℕ}
+    → PeriodsRead s n before k p after → k < n → Cells n before
+    → end ≡ next s p → part ≡ body s p → numbers ≡ numbersIn part → later ≡ stored k numbers after
+    → PeriodsRead s n before (k + 1) end later
+read-turn s n before k p after later w l c to from decoded put =
+    let same : SameCells before before = record { demand = refl; capacity = refl; setup = refl; unit = refl; holding = refl } in
+    let room : Cells (suc k) before = rw add-one at (cells-here n k before before l c same) in
+    let tables : later ≡ withPeriods s (suc k) before = put ∙ rw (decoded, from, w .tables, w .here) (periods-more s k before room) in
+    rw (add-one, to)
     (record { done = l; here = rw (w .here) refl; tables = tables; cells = same-cells s (suc k) before later tables room })

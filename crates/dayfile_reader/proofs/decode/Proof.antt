@@ -1,7 +1,7 @@
--- `dayfile::reader::decode` meets its contract: field by field what the calls give. Assumes nothing.
+-- `dayfile_reader::decode` meets its contract: field by field what the calls give. Assumes nothing.
 use borrow.Author.Needs.{needs}
-use Rattle.dayfile.proofs.reader.decode.Statement.{statement}
-use Rattle.dayfile.proofs.reader.decode.Tie as tie
+use Rattle.dayfile_reader.proofs.decode.Statement.{statement}
+use Rattle.dayfile_reader.proofs.decode.Tie as tie
 
 returns : tie.Need-returns
 returns c = cc

@@ -1,53 +1,66 @@
--- `dayfile::reader::read` meets its contract: refused by its tests, it touches nothing; else it fills the tables. Assumes nothing.
+-- `dayfile_reader::read` meets its contract: refused by its tests, it touches nothing; else it fills the tables. Assumes nothing.
 use mathlib.Core.Path.{_≡_, refl}
 use mathlib.Core.List.{List}
 use mathlib.Core.Option.{none}
 use Prim.Native.Nat.{ℕ}
+use borrow.Author.Needs.{needs}
 use denote.Ref.{now}
 use Rattle.day.specs.Day.{Day, dayOf}
-use Rattle.day.specs.File.{periodsIn}
-use Rattle.dayfile.specs.Answers.{answered, shortest, badRead}
-use Rattle.dayfile.specs.Passed.{answered-refused, answered-periods, read-passed}
-use borrow.Author.Needs.{needs}
-use Rattle.dayfile.proofs.reader.read.Statement.{statement}
-use Rattle.dayfile.proofs.reader.read.Tie as tie
+use Rattle.day.specs.Refusals.{checked}
+use Rattle.day.specs.Tests.{passed, refused}
+use Rattle.dayfile.specs.Answers.{shortest, badRead}
+use Rattle.dayfile_reader.specs.Tables.{read-passed}
+use Rattle.dayfile_reader.proofs.read.Statement.{statement}
+use Rattle.dayfile_reader.proofs.read.Tie as tie
 
-abbrev file : tie.After-accepts → List ℕ
-file c = now (c .before .before .before .before .before .before .before .before .args .file)
+abbrev start : tie.After-periods → tie.Start
+start c = c .before .before .before .before .before .before .before
+
+abbrev file : tie.After-tests → List ℕ
+file c = now (start (c .before .before) .args .file)
 
 -- the tables as they were lent
-abbrev lent : tie.After-accepts → Day
+abbrev lent : tie.After-tests → Day
 lent c =
-    let a = c .before .before .before .before .before .before .before .before .args in
+    let a = start (c .before .before) .args in
     dayOf (now (a .demand)) (now (a .capacity)) (now (a .setup)) (now (a .unit)) (now (a .holding))
 
-tested : (c : tie.After-accepts) → c .accepts .result ≡ answered (badRead (file c) (shortest (lent c))) (periodsIn (file c))
-tested c = rw (c .before .shortest .ensures) at (c .accepts .ensures)
+tested : (c : tie.After-tests) → c .tests .result ≡ checked (badRead (file c) (shortest (lent c)))
+tested c = rw (c .before .shortest .ensures) at (c .tests .ensures)
 
-admitted : (c : tie.After-answer)
-    → (badRead (file (c .before .before)) (shortest (lent (c .before .before))) ≡ none) × (c .answer .given .0 .0 ≡ periodsIn (file (c .before .before)))
-admitted c = answered-periods _ _ (tested (c .before .before)) (c .answer .given .1)
+admitted : (c : tie.After-enum-told) → badRead (file (c .before .before)) (shortest (lent (c .before .before))) ≡ none
+admitted c = passed _ (tested (c .before .before)) (c .enum-told .given .1)
+
+-- the tests passed before the tables were lent on
+abbrev at-tests : tie.After-fill-arg5 → tie.After-enum-told
+at-tests c = c .before .before .before .before .before
+
+-- and after the call that fills them they come back one by one
+abbrev at-setup : tie.After-slice-known10 → tie.After-setup
+at-setup c = c .before .before .before .before .before
+
+abbrev at-fill : tie.After-setup → tie.After-fill
+at-fill c = c .before .before .before .before .before
 
 returns : tie.Need-returns
 returns c =
-    let p = c .before .before in
-    rw (c .enum-told .given .1)
-    (answered-refused (badRead (file p) (shortest (lent p))) (periodsIn (file p)) (tested p) (c .enum-told .given .1), refl)
+    let p = c .before .before .before in
+    (refused (badRead (file p) (shortest (lent p))) (tested p) (c .before .r .given .1), refl)
 
 fill-requires : tie.Need-fill-requires
 fill-requires c κs =
-    let a = c .before .before .before .before .before .before in
-    let w = admitted a in
-    (w .1, rw (w .1) (read-passed (file (a .before .before)) (lent (a .before .before)) (w .0)))
+    let p = at-tests c .before .before in
+    let n = p .before .before .periods .ensures in
+    (n, rw n (read-passed (file p) (lent p) (admitted (at-tests c)) .cells))
 
 returns-2 : tie.Need-returns-2
 returns-2 c =
-    let f = c .before .before .before .before .before .before .before .before .before .before in
-    let w = admitted (f .before .before .before .before .before .before .before) in
-    (w .0, w .1, f .fill .ensures)
+    let f = at-fill (at-setup c) in
+    let t = at-tests (f .before) in
+    (admitted t, t .before .before .before .before .periods .ensures, f .fill .ensures)
 
 pub read-spec : {M : Type 1} → statement M
 read-spec =
     tie.close
-    (tie.spec (λ c κs. search needs) (λ c κs. search needs) (λ c. search needs) (λ c. search needs) returns fill-requires
-    (λ c. search needs) (λ c. search needs) (λ c. search needs) (λ c. search needs) (λ c. search needs) returns-2)
+    (tie.spec (λ c κs. search needs) (λ c κs. search needs) (λ c κs. search needs) (λ c. search needs) returns (λ c. search needs)
+    fill-requires (λ c. search needs) (λ c. search needs) (λ c. search needs) (λ c. search needs) (λ c. search needs) returns-2)

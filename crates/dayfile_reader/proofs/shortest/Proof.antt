@@ -1,7 +1,7 @@
--- `dayfile::reader::shortest` meets its contract: what the four calls give, put together. Assumes nothing.
+-- `dayfile_reader::shortest` meets its contract: what the four calls give, put together. Assumes nothing.
 use borrow.Author.Needs.{needs}
-use Rattle.dayfile.proofs.reader.shortest.Statement.{statement}
-use Rattle.dayfile.proofs.reader.shortest.Tie as tie
+use Rattle.dayfile_reader.proofs.shortest.Statement.{statement}
+use Rattle.dayfile_reader.proofs.shortest.Tie as tie
 
 returns : tie.Need-returns
 returns c = cc

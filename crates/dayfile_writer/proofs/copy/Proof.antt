@@ -1,4 +1,4 @@
--- `dayfile::writer::copy` meets its contract. The loop's invariant: the first k bytes are stored. The measure is how many are left.
+-- `dayfile_writer::copy` meets its contract. The loop's invariant: the first k bytes are stored. The measure is how many are left.
 -- Assumes nothing.
 use mathlib.Core.Path.{_≡_, refl}
 use Prim.Native.Nat.{_-_, _≤_}
@@ -7,9 +7,9 @@ use native.Mathlib.Numerals.{add-one}
 use denote.Ref.{now}
 use lib.ListN.{length, take, length-set}
 use lib.Seq.{sets, take-length}
-use Rattle.dayfile.proofs.Stores.{sets-more}
-use Rattle.dayfile.proofs.writer.copy.Statement.{statement}
-use Rattle.dayfile.proofs.writer.copy.Tie as tie
+use Rattle.dayfile_writer.proofs.Stores.{sets-more}
+use Rattle.dayfile_writer.proofs.copy.Statement.{statement}
+use Rattle.dayfile_writer.proofs.copy.Tie as tie
 
 abbrev Inv-loop : tie.InvT-loop
 Inv-loop bytes out₀ at k₀ out k = (k ≤ length bytes) × (out ≡ sets out₀ at (take k bytes)) × (length out ≡ length out₀)

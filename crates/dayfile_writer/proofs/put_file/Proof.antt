@@ -1,15 +1,15 @@
--- `dayfile::writer::put_file` meets its contract: the end record follows the period records. Assumes nothing.
+-- `dayfile_writer::put_file` meets its contract: the end record follows the period records. Assumes nothing.
 use mathlib.Core.Path.{_∙_}
 use Prim.Native.Nat.{_*_}
 use native.Mathlib.Omega.{arith}
 use denote.Ref.{now}
 use Rattle.day.specs.Day.{Day, dayOf, periods}
 use Rattle.day.specs.File.{recordsOf, fileOf}
-use Rattle.dayfile.specs.RoundTrip.{records-length, file-length}
-use Rattle.dayfile.proofs.Stores.{sets-then, sets-front}
+use Rattle.dayfile_writer.specs.RoundTrip.{records-length, file-length}
+use Rattle.dayfile_writer.proofs.Stores.{sets-then, sets-front}
 use borrow.Author.Needs.{needs}
-use Rattle.dayfile.proofs.writer.put_file.Statement.{statement}
-use Rattle.dayfile.proofs.writer.put_file.Tie as tie
+use Rattle.dayfile_writer.proofs.put_file.Statement.{statement}
+use Rattle.dayfile_writer.proofs.put_file.Tie as tie
 
 abbrev day : tie.After-put-periods → Day
 day c =

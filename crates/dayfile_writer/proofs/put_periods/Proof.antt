@@ -1,4 +1,4 @@
--- `dayfile::writer::put_periods` meets its contract. The loop's invariant: the first k records stand at the slice's front. The measure
+-- `dayfile_writer::put_periods` meets its contract. The loop's invariant: the first k records stand at the slice's front. The measure
 -- is how many are left. Assumes nothing.
 use mathlib.Core.Path.{_≡_, refl, ap, _∙_}
 use Prim.Native.Nat.{_*_, _-_, _≤_}
@@ -10,10 +10,10 @@ use lib.ListN.{length}
 use lib.Seq.{sets}
 use Rattle.day.specs.Day.{Day, dayOf}
 use Rattle.day.specs.File.{recordsOf}
-use Rattle.dayfile.specs.RoundTrip.{records-length}
-use Rattle.dayfile.proofs.Stores.{sets-then}
-use Rattle.dayfile.proofs.writer.put_periods.Statement.{statement}
-use Rattle.dayfile.proofs.writer.put_periods.Tie as tie
+use Rattle.dayfile_writer.specs.RoundTrip.{records-length}
+use Rattle.dayfile_writer.proofs.Stores.{sets-then}
+use Rattle.dayfile_writer.proofs.put_periods.Statement.{statement}
+use Rattle.dayfile_writer.proofs.put_periods.Tie as tie
 
 abbrev Inv-loop : tie.InvT-loop
 Inv-loop demand capacity setup unit holding out₀ at₀ k₀ out at k =

@@ -1,4 +1,4 @@
--- `dayfile::writer::write` meets its contract: the tables' refusal, or that of the room after it; else the file. Assumes nothing.
+-- `dayfile_writer::write` meets its contract: the tables' refusal, or that of the room after it; else the file. Assumes nothing.
 use mathlib.Core.Path.{_≡_, refl, sym}
 use mathlib.Core.List.{List, [], _∷_}
 use mathlib.Core.Option.{Option, none}
@@ -11,10 +11,10 @@ use Rattle.day.specs.Day.{Day, dayOf}
 use Rattle.day.specs.Refusals.{first, badTables, badSlots}
 use Rattle.day.specs.File.{fileOf}
 use Rattle.checks.specs.Passed.{Limits, passed, refused, first-passed, first-refused, tables-passed}
-use Rattle.dayfile.specs.RoundTrip.{file-length}
+use Rattle.dayfile_writer.specs.RoundTrip.{file-length}
 use borrow.Author.Needs.{needs}
-use Rattle.dayfile.proofs.writer.write.Statement.{statement}
-use Rattle.dayfile.proofs.writer.write.Tie as tie
+use Rattle.dayfile_writer.proofs.write.Statement.{statement}
+use Rattle.dayfile_writer.proofs.write.Tie as tie
 
 abbrev day : tie.After-tables → Day
 day c =
