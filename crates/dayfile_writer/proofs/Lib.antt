@@ -1,2 +1,2 @@
 -- Laws of a run of stores, as the writer makes them.
-pub mod Stores
+mod Stores

@@ -56,10 +56,14 @@ numbersIn b = fieldsOf (number2 b 0) (number2 b 2) (number4 b 4) (number4 b 8) (
 
 body-bytes : (b : List ℕ) → Bytes b → length b ≡ 16 → b ≡ numbersIn b
 body-bytes b h e =
-    let two = λ p l. upto2 b h p l in
-    let four = λ p l. upto4 b h p l in
-    cc
-    (take-all 16 b (omega arith), four 12 (omega arith), four 8 (omega arith), four 4 (omega arith), two 2 (omega arith), two 0 (omega arith))
+    cc (
+      take-all 16 b (omega arith),
+      upto4 b h 12 (omega arith),
+      upto4 b h 8 (omega arith),
+      upto4 b h 4 (omega arith),
+      upto2 b h 2 (omega arith),
+      upto2 b h 0 (omega arith),
+    )
 
 record-bytes : (s : List ℕ) → Bytes s → (p : ℕ) → WholePeriod s p → at s p ∷ body s p ≡ periodKind ∷ numbersIn (body s p)
 record-bytes s h p w = cc (w .kind, body-bytes (body s p) (bytes-body s h p) (period-body s p w))
@@ -67,9 +71,14 @@ record-bytes s h p w = cc (w .kind, body-bytes (body s p) (bytes-body s h p) (pe
 -- and so is record k of the day that a file holds
 listed : (s : List ℕ) (k : ℕ) → k < periodsIn s → recordOf (dayIn s) k ≡ periodKind ∷ numbersIn (body s (recordAt s k))
 listed s k l =
-    let two = λ offset. at-listOf (field number2 offset s) (periodsIn s) k l in
-    let four = λ offset. at-listOf (field number4 offset s) (periodsIn s) k l in
-    rw (two 0, two 2, four 4, four 8, four 12) refl
+    rw (
+      at-listOf (field number2 0 s) (periodsIn s) k l,
+      at-listOf (field number2 2 s) (periodsIn s) k l,
+      at-listOf (field number4 4 s) (periodsIn s) k l,
+      at-listOf (field number4 8 s) (periodsIn s) k l,
+      at-listOf (field number4 12 s) (periodsIn s) k l,
+    )
+    refl
 
 -- up to record k a file is what the periods before it give
 prefix : (s : List ℕ) → Bytes s → (k : ℕ) → k ≤ periodsIn s → take (recordAt s k) s ≡ recordsOf (dayIn s) k

@@ -4,9 +4,9 @@ ghost use mathlib.Core.List.{_∷_};
 ghost use Prim.Native.Nat.{_+_, _*_, _≤_};
 ghost use lib.ListN.{length};
 ghost use lib.Seq.{sets};
-ghost use Rattle.day.specs.Day.{dayOf, maxPeriods};
+ghost use Rattle.day.specs.Day.{dayOf};
 ghost use Rattle.day.specs.File.{periodKind, endKind, bytes2, fieldsOf, recordOf, recordsOf};
-ghost use Rattle.checks.specs.Passed.{SameLengths};
+ghost use Rattle.checks.specs.Passed.{SameLengths, Readable};
 ghost use Rattle.dayfile.specs.Answers.{dayBefore, Cells, withFile, Writing};
 use day::Check;
 use day::Refusal;
@@ -104,8 +104,7 @@ fn put_file(
     holding: &[u32],
     out: &mut [u8],
 )
-    requires { ⌜ SameLengths (dayOf (now demand) (now capacity) (now setup) (now unit) (now holding)) ⌝ }
-    requires { ⌜ length (now demand) ≤ maxPeriods ⌝ }
+    requires { ⌜ Readable (dayOf (now demand) (now capacity) (now setup) (now unit) (now holding)) ⌝ }
     requires { ⌜ 17 * length (now demand) + 3 ≤ length (now out) ⌝ }
     ensures { λ _. ⌜ now (out .exit) ≡ withFile (dayBefore demand capacity setup unit holding) (now (out .entry)) ⌝ }
 {

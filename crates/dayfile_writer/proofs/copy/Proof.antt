@@ -25,9 +25,6 @@ loop-again c =
     let w = c .before .before .loop .inv in
     (omega arith, rw (add-one, w .1) (sets-more _ _ _ _ (c .before .loop-test .taken)), simp length-set (w .2))
 
-same-length : tie.Need-same-length Inv-loop μ-loop
-same-length c = c .before .loop .inv .2
-
 returns : tie.Need-returns Inv-loop μ-loop
 returns c =
     let e : c .before .loop .k ≡ length (now (c .before .before .args .bytes)) = omega arith in
@@ -37,4 +34,4 @@ pub copy-spec : {M : Type 1} → statement M
 copy-spec =
     tie.close
     (tie.spec Inv-loop μ-loop loop-holds (λ c. omega arith) (λ c. omega arith) (λ c. omega arith) (λ c. omega arith)
-    (λ c. omega arith) loop-again same-length returns)
+    (λ c. omega arith) loop-again (λ c. c .before .loop .inv .2) returns)

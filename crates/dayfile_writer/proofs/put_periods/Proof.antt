@@ -17,14 +17,20 @@ use Rattle.dayfile_writer.proofs.put_periods.Tie as tie
 
 abbrev Inv-loop : tie.InvT-loop
 Inv-loop demand capacity setup unit holding out₀ at₀ k₀ out at k =
-    (k ≤ length demand) × (at ≡ 17 * k) × (out ≡ sets out₀ 0 (recordsOf (dayOf demand capacity setup unit holding) k)) × (length out ≡ length out₀)
+    (k ≤ length demand)
+    × (at ≡ 17 * k)
+    × (out ≡ sets out₀ 0 (recordsOf (dayOf demand capacity setup unit holding) k))
+    × (length out ≡ length out₀)
 
 abbrev μ-loop : tie.MeasureT-loop
 μ-loop demand capacity setup unit holding out₀ at₀ k₀ out at k = length demand - k
 
+abbrev start : tie.At-loop Inv-loop μ-loop → tie.Start Inv-loop μ-loop
+start c = c .before .before .before .before .before .before .before
+
 abbrev day : tie.At-loop Inv-loop μ-loop → Day
 day c =
-    let a = c .before .before .before .before .before .before .before .args in
+    let a = start c .args in
     dayOf (now (a .demand)) (now (a .capacity)) (now (a .setup)) (now (a .unit)) (now (a .holding))
 
 loop-holds : tie.Need-loop-holds Inv-loop μ-loop
@@ -32,7 +38,7 @@ loop-holds c = (omega arith, refl, refl, refl)
 
 record-of-requires : tie.Need-record-of-requires Inv-loop μ-loop
 record-of-requires c κs =
-    let w = c .before .before .before .before .before .before .before .before .pre .0 in
+    let w = start (c .before) .pre .0 in
     record {
       demand = omega arith;
       capacity = omega (arith, w .capacity);
@@ -45,7 +51,7 @@ copy-requires : tie.Need-copy-requires Inv-loop μ-loop
 copy-requires c κs =
     let r = c .before .before in
     let e : length (r .record-of .result) ≡ 17 = ap length (r .record-of .ensures) in
-    omega (arith, e, r .before .before .loop .inv, r .before .before .before .before .before .before .before .before .before .pre .1)
+    omega (arith, e, r .before .before .loop .inv, start (r .before .before) .pre .1)
 
 loop-again : tie.Need-loop-again Inv-loop μ-loop
 loop-again c =
@@ -56,16 +62,13 @@ loop-again c =
     let stored = sets-then (recordsOf (day l) (l .loop .k)) _ _ 0 (l .loop .at) (omega (arith, w .1, records-length (day l) (l .loop .k))) in
     (omega arith, omega arith, rw add-one (p .copy .ensures ∙ rw (r .record-of .ensures, w .2) stored), p .copy .kept .1 .0 ∙ w .3)
 
-same-length : tie.Need-same-length Inv-loop μ-loop
-same-length c = c .before .loop .inv .3
-
 returns : tie.Need-returns Inv-loop μ-loop
 returns c =
-    let e : c .before .loop .k ≡ length (now (c .before .before .before .before .before .before .before .before .args .demand)) = omega arith in
+    let e : c .before .loop .k ≡ length (now (start (c .before) .args .demand)) = omega arith in
     rw e at (c .before .loop .inv .2)
 
 pub put-periods-spec : {M : Type 1} → statement M
 put-periods-spec =
     tie.close
     (tie.spec Inv-loop μ-loop loop-holds record-of-requires (λ c. search needs) copy-requires (λ c. omega arith)
-    (λ c. omega arith) (λ c. omega arith) loop-again same-length returns)
+    (λ c. omega arith) (λ c. omega arith) loop-again (λ c. c .before .loop .inv .3) returns)
