@@ -28,10 +28,10 @@ Agree d (Planned t) m (Refused q) m′ = ⊥
 Agree d (Planned t) m (Planned u) m′ = ((k : ℕ) → k < periods d → at (m .slots) k ≡ at (m′ .slots) k) × (t ≡ u)
 
 -- with room for it, a path refuses a day of its kind for what the day is, alone
-abbrev dayRefusal : Day → Option Refusal
+abbrev pub dayRefusal : Day → Option Refusal
 dayRefusal d = first (dayTests d ++ (shortage d ∷ []))
 
-refusal-is : (P : Path) (d : Day) (m : Memory)
+pub refusal-is : (P : Path) (d : Day) (m : Memory)
     → Roomy P d (sizesOf m) → first (P .own d) ≡ none → refusal P d (sizesOf m) ≡ dayRefusal d
 refusal-is P d m roomy kind = rw (kind, le-ltb _ _ (roomy .costs), le-ltb _ _ (roomy .choices), le-ltb _ _ (roomy .slots)) refl
 
