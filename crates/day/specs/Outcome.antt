@@ -1,10 +1,11 @@
 -- What a caller lends to a path, what the path needs of it and refuses, and what it leaves in it (document 01, "Three paths, one plan").
 -- Main definitions: `refusal`; `Runs`, the contract of every path (demands 1 to 3). Assumes nothing.
-use mathlib.Core.Path.{_≡_}
+use mathlib.Core.Path.{_≡_, refl}
 use mathlib.Core.List.{List, [], _∷_, _++_}
 use mathlib.Core.Option.{Option, none, some}
 use Prim.Native.Nat.{ℕ, _≤_}
 use lib.ListN.{length, drop, replicate}
+use borrow.Author.Tests.{le-ltb}
 use Rattle.day.specs.declared.Refusal.{Refusal}
 use Rattle.day.specs.declared.Totals.{Totals}
 use Rattle.day.specs.declared.Answer.{Answer}
@@ -61,6 +62,14 @@ pathTests P d s = memoryTests P d s ++ (shortage d ∷ P .own d)
 -- a path's first refusal: 1 to 7 in order, then its own
 abbrev pub refusal : Path → Day → Sizes → Option Refusal
 refusal P d s = first (dayTests d ++ pathTests P d s)
+
+-- what the day brings by itself: 1 to 4, 7
+abbrev pub dayRefusal : Day → Option Refusal
+dayRefusal d = first (dayTests d ++ (shortage d ∷ []))
+
+-- with room for it, a path refuses a day of its kind for what the day is, alone
+pub roomy-refusal : (P : Path) (d : Day) (s : Sizes) → Roomy P d s → first (P .own d) ≡ none → refusal P d s ≡ dayRefusal d
+roomy-refusal P d s room kind = rw (kind, le-ltb _ _ (room .costs), le-ltb _ _ (room .choices), le-ltb _ _ (room .slots)) refl
 
 -- a plan's cost and setups
 pub record Counts (d : Day) (x : ℕ → ℕ) (t : Totals) : Type 0 where

@@ -5,7 +5,6 @@ use mathlib.Core.List.{[], _∷_, _++_}
 use mathlib.Core.Option.{Option, none}
 use Prim.Native.Nat.{ℕ, _≤_, _<_}
 use native.Mathlib.Omega.{arith}
-use borrow.Author.Tests.{le-ltb}
 use lib.ListN.{length}
 use Rattle.day.specs.declared.Refusal.{Refusal}
 use Rattle.day.specs.declared.Totals.{Totals}
@@ -15,7 +14,7 @@ use Rattle.day.specs.Sums.{at, sum-ext}
 use Rattle.day.specs.Day.{Day, periods}
 use Rattle.day.specs.Plan.{setupAt}
 use Rattle.day.specs.Refusals.{first, dayTests, shortage, unequal, binding}
-use Rattle.day.specs.Outcome.{Memory, sizesOf, Path, Roomy, refusal, Counts, Runs}
+use Rattle.day.specs.Outcome.{Memory, sizesOf, Path, Roomy, roomy-refusal, Counts, Runs}
 use Rattle.day.specs.Paths.{full, uncapped, equal}
 use Rattle.day.specs.Search.{cost-alike}
 use Rattle.theory.specs.Demands.{plan-unique}
@@ -26,14 +25,6 @@ Agree d (Refused r) m (Refused q) m′ = r ≡ q
 Agree d (Refused r) m (Planned t) m′ = ⊥
 Agree d (Planned t) m (Refused q) m′ = ⊥
 Agree d (Planned t) m (Planned u) m′ = ((k : ℕ) → k < periods d → at (m .slots) k ≡ at (m′ .slots) k) × (t ≡ u)
-
--- with room for it, a path refuses a day of its kind for what the day is, alone
-abbrev pub dayRefusal : Day → Option Refusal
-dayRefusal d = first (dayTests d ++ (shortage d ∷ []))
-
-pub refusal-is : (P : Path) (d : Day) (m : Memory)
-    → Roomy P d (sizesOf m) → first (P .own d) ≡ none → refusal P d (sizesOf m) ≡ dayRefusal d
-refusal-is P d m roomy kind = rw (kind, le-ltb _ _ (roomy .costs), le-ltb _ _ (roomy .choices), le-ltb _ _ (roomy .slots)) refl
 
 -- plans that are alike have the same totals
 same-totals : (d : Day) (x y : ℕ → ℕ) (t u : Totals) → ((k : ℕ) → k < periods d → x k ≡ y k) → Counts d x t → Counts d y u → t ≡ u
@@ -47,21 +38,21 @@ pub paths-agree : (P Q : Path) (d : Day) (m m′ : Memory) (r : Answer) (after :
     → Roomy P d (sizesOf m) → Roomy Q d (sizesOf m′) → first (P .own d) ≡ none → first (Q .own d) ≡ none
     → Runs P d m r after → Runs Q d m′ q after′ → Agree d r after q after′
 paths-agree P Q d m m′ (Refused r) after (Refused q) after′ room room′ kind kind′ a b =
-    let e = refusal-is P d m room kind in
-    let f = refusal-is Q d m′ room′ kind′ in
+    let e = roomy-refusal P d (sizesOf m) room kind in
+    let f = roomy-refusal Q d (sizesOf m′) room′ kind′ in
     let g = a .0 in
     let h = b .0 in
     cc
 paths-agree P Q d m m′ (Refused r) after (Planned u) after′ room room′ kind kind′ a b =
-    let e = refusal-is P d m room kind in
-    let f = refusal-is Q d m′ room′ kind′ in
+    let e = roomy-refusal P d (sizesOf m) room kind in
+    let f = roomy-refusal Q d (sizesOf m′) room′ kind′ in
     let g = a .0 in
     let h = b .0 in
     let z : _≡_ {A = ℕ} 0 1 = cc in
     omega arith
 paths-agree P Q d m m′ (Planned t) after (Refused q) after′ room room′ kind kind′ a b =
-    let e = refusal-is P d m room kind in
-    let f = refusal-is Q d m′ room′ kind′ in
+    let e = roomy-refusal P d (sizesOf m) room kind in
+    let f = roomy-refusal Q d (sizesOf m′) room′ kind′ in
     let g = a .0 in
     let h = b .0 in
     let z : _≡_ {A = ℕ} 0 1 = cc in

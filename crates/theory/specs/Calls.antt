@@ -1,6 +1,6 @@
 -- Demands 2 and 3 of the paths themselves, over their contracts.
--- Main statements: `planned-iff`, `refused-first` (demand 2), `cheapest-first` (demand 3); `equal-run-one`, `equal-run-others` (document 01, runs); the first three
--- stand for the full path as `full-planned-iff`, `full-refused-first`, `full-cheapest-first`. Assumes nothing.
+-- Main statements: `planned-iff`, `refused-first` (demand 2), `cheapest-first` (demand 3), which stand for the full path as `full-planned-iff`,
+-- `full-refused-first`, `full-cheapest-first`; `equal-run-one`, `equal-run-others` (document 01, "Three paths, one plan": runs). Assumes nothing.
 use mathlib.Core.Path.{_≡_, refl, sym, _∙_}
 use mathlib.Core.List.{[], _∷_}
 use mathlib.Core.Logic.{_⊎_, inl, inr, ⊎-elim, _↔_}
@@ -17,7 +17,7 @@ use Rattle.day.specs.Day.{Day, periods, total}
 use Rattle.day.specs.Plan.{Feasible, Run, PartLoaded, cost}
 use Rattle.day.specs.Refusals.{first, dayTests, shortage, unequal}
 use Rattle.day.specs.Tests.{first-passed, first-one}
-use Rattle.day.specs.Outcome.{Memory, sizesOf, Path, Roomy, refusal, Runs}
+use Rattle.day.specs.Outcome.{Memory, sizesOf, Path, Roomy, refusal, roomy-refusal, Runs}
 use Rattle.day.specs.Paths.{full, equal}
 use Rattle.checks.specs.Passed.{FirstShort, DayLimits, day-passes, equal-passed, admitted}
 use Rattle.theory.specs.Model.{Model, OptimalTo}
@@ -27,7 +27,6 @@ use Rattle.theory.specs.Exchange.{Fractional, Regeneration, interval-one
 use Rattle.theory.specs.Problem.{modelOf, model-rising, model-unlimited}
 use Rattle.theory.specs.Base.{problemOf, optimal-iff}
 use Rattle.theory.specs.Demands.{plan-first, shortage-iff, shortage-names}
-use Rattle.theory.specs.Agreement.{refusal-is}
 
 -- the answer is a plan
 abbrev pub IsPlan : Answer → Type 0
@@ -37,7 +36,7 @@ IsPlan (Planned t) = Unit {0}
 -- A day within the limits (1 to 4) and of the path's kind, with memory that is long enough: only 7 can be refused.
 module _ (P : Path) (d : Day) (m : Memory) (limits : DayLimits d) (room : Roomy P d (sizesOf m)) (kind : first (P .own d) ≡ none) where
   only-shortage : refusal P d (sizesOf m) ≡ shortage d
-  only-shortage = refusal-is P d m room kind ∙ (first-passed (dayTests d) (shortage d ∷ []) (day-passes d limits) ∙ first-one (shortage d))
+  only-shortage = roomy-refusal P d (sizesOf m) room kind ∙ (first-passed (dayTests d) (shortage d ∷ []) (day-passes d limits) ∙ first-one (shortage d))
 
   -- Demand 2: the answer is a plan exactly if some amounts keep conditions (2) to (4).
   pub planned-iff : (r : Answer) (after : Memory) → Runs P d m r after → IsPlan r ↔ ((x : ℕ → ℕ) × Feasible d x)
