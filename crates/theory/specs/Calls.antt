@@ -5,7 +5,7 @@ use mathlib.Core.Path.{_≡_, refl, sym, _∙_}
 use mathlib.Core.List.{[], _∷_}
 use mathlib.Core.Logic.{_⊎_, inl, inr, ⊎-elim, _↔_}
 use mathlib.Core.Option.{none, some, Option·none-ne-some}
-use Prim.Native.Nat.{ℕ, suc, _≤_, _<_}
+use Prim.Native.Nat.{ℕ, _≤_, _<_}
 use native.Mathlib.Nat.{eq-or-lt-of-le, eq-zero-or-pos}
 use native.Mathlib.Omega.{arith}
 use Rattle.day.specs.declared.Refusal.{Refusal}
@@ -16,14 +16,14 @@ use Rattle.day.specs.Sums.{at}
 use Rattle.day.specs.Day.{Day, periods, total}
 use Rattle.day.specs.Plan.{Feasible, Run, PartLoaded, cost}
 use Rattle.day.specs.Refusals.{first, dayTests, shortage, unequal}
-use Rattle.day.specs.Tests.{first-passed, first-one}
+use Rattle.day.specs.Tests.{gives-is, first-passed, first-one}
 use Rattle.day.specs.Outcome.{Memory, sizesOf, Path, Roomy, refusal, roomy-refusal, Runs}
 use Rattle.day.specs.Paths.{full, equal}
 use Rattle.checks.specs.Passed.{FirstShort, DayLimits, day-passes, equal-passed, admitted}
 use Rattle.theory.specs.Model.{Model, OptimalTo}
 use Rattle.theory.specs.Order.{LastSmaller}
 use Rattle.theory.specs.Cut.{floor-below}
-use Rattle.theory.specs.Exchange.{Fractional, Regeneration, interval-one}
+use Rattle.theory.specs.Exchange.{Regeneration, interval-one}
 use Rattle.theory.specs.Problem.{modelOf, model-rising, model-unlimited}
 use Rattle.theory.specs.Base.{problemOf, optimal-iff}
 use Rattle.theory.specs.Demands.{plan-first, shortage-iff, shortage-names}
@@ -41,12 +41,12 @@ module _ (P : Path) (d : Day) (m : Memory) (limits : DayLimits d) (room : Roomy 
   -- Demand 2: the answer is a plan exactly if some amounts keep conditions (2) to (4).
   pub planned-iff : (r : Answer) (after : Memory) → Runs P d m r after → IsPlan r ↔ ((x : ℕ → ℕ) × Feasible d x)
   planned-iff (Refused q) after runs =
-      (λ none. absurd none, λ w. Option·none-ne-some q (sym (shortage-iff d .1 w) ∙ (sym only-shortage ∙ runs .0)))
+      (λ none. absurd none, λ w. Option·none-ne-some q (sym (shortage-iff d .1 w) ∙ (sym only-shortage ∙ gives-is (refusal P d (sizesOf m)) q (runs .0))))
   planned-iff (Planned t) after runs = (λ _. (at (after .slots), runs .1 .plan .feasible), λ _. tt)
 
   -- Demand 2: otherwise it is refusal 7 with the first period whose summed need exceeds the summed capacity.
   pub refused-first : (q : Refusal) (after : Memory) → Runs P d m (Refused q) after → FirstShort d q
-  refused-first q after runs = shortage-names d q (sym only-shortage ∙ runs .0)
+  refused-first q after runs = shortage-names d q (sym only-shortage ∙ gives-is (refusal P d (sizesOf m)) q (runs .0))
 
 -- Demand 3, in its words, with the answer's own cost: every other plan that keeps the rules costs at least as much,
 -- and one that costs the same has the larger amount in the last period where the two differ.
