@@ -72,7 +72,7 @@ fn read(words: &[u8], file: &[u8], cells: usize)
     let mut unit = [0u32; 96];
     let mut holding = [0u32; 96];
     text(words);
-    match dayfile::reader::read(
+    match dayfile_reader::read(
         file,
         &mut demand[0..cells],
         &mut capacity,
@@ -118,7 +118,7 @@ fn rewritten(
     ensures { λ r. ⌜ r < 16 ⌝ }
 {
     let mut out = [0u8; 1635];
-    match dayfile::writer::write(demand, capacity, setup, unit, holding, &mut out) {
+    match dayfile_writer::write(demand, capacity, setup, unit, holding, &mut out) {
         WriteAnswer::Refused(_) => 15,
         WriteAnswer::Bytes(m) => {
             if 1635 < m {
@@ -138,7 +138,7 @@ fn fate(file: &[u8]) -> usize
     let mut setup = [0u32; 96];
     let mut unit = [0u32; 96];
     let mut holding = [0u32; 96];
-    match dayfile::reader::read(
+    match dayfile_reader::read(
         file,
         &mut demand,
         &mut capacity,
@@ -217,7 +217,7 @@ fn changes(counts: &mut [u64; 16]) {
 fn marked() {
     let expected = M4;
     let mut file = [9u8; 40];
-    match dayfile::writer::write(&[2, 3], &[5, 5], &[10, 10], &[1, 1], &[1, 1], &mut file) {
+    match dayfile_writer::write(&[2, 3], &[5, 5], &[10, 10], &[1, 1], &[1, 1], &mut file) {
         WriteAnswer::Refused(r) => refusal(r),
         WriteAnswer::Bytes(n) => number(b"M4 written bytes ", n as u64),
     }
@@ -260,7 +260,7 @@ fn refused() {
 
 // Tables of zeros, written.
 fn zeros(numbers: &[u16], costs: &[u32], out: &mut [u8]) {
-    match dayfile::writer::write(numbers, numbers, costs, costs, costs, out) {
+    match dayfile_writer::write(numbers, numbers, costs, costs, costs, out) {
         WriteAnswer::Refused(r) => refusal(r),
         WriteAnswer::Bytes(n) => number(b"longest written bytes ", n as u64),
     }
@@ -295,7 +295,7 @@ fn unwritten(words: &[u8], demand: &[u16], capacity: &[u16], setup: &[u32], room
 {
     let mut out = [0u8; 40];
     text(words);
-    match dayfile::writer::write(demand, capacity, setup, &[1, 1], &[1, 1], &mut out[0..room]) {
+    match dayfile_writer::write(demand, capacity, setup, &[1, 1], &[1, 1], &mut out[0..room]) {
         WriteAnswer::Refused(r) => refusal(r),
         WriteAnswer::Bytes(n) => {
             number(b" bytes ", n as u64);
