@@ -2,11 +2,9 @@
 -- Main statements, demand 3: `uncapped-agrees`, `equal-agrees`. Assumes nothing.
 use mathlib.Core.Path.{_≡_, refl, sym, ap, ap₂, _∙_}
 use mathlib.Core.List.{[], _∷_, _++_}
-use mathlib.Core.Option.{Option, none}
-use Prim.Native.Nat.{ℕ, _≤_, _<_}
-use native.Mathlib.Omega.{arith}
+use mathlib.Core.Option.{Option, none, Option·none-ne-some, Option·some-ne-none, Option·some-injective}
+use Prim.Native.Nat.{ℕ, _<_}
 use borrow.Author.Tests.{le-ltb}
-use lib.ListN.{length}
 use Rattle.day.specs.declared.Refusal.{Refusal}
 use Rattle.day.specs.declared.Totals.{Totals}
 use Rattle.day.specs.declared.Answer.{Answer}
@@ -43,39 +41,26 @@ same-totals d x y t u same c e =
     (c .setups ∙ sum-ext (λ k. setupAt (x k)) (λ k. setupAt (y k)) (periods d) (λ k l. ap setupAt (same k l)) ∙ sym (e .setups))
 
 -- Two paths, on a day of both their kinds and with room for both, accept together, and then give one plan, cost and setups.
-pub paths-agree : (P Q : Path) (d : Day) (m m′ : Memory) (r : Answer) (after : Memory) (q : Answer) (after′ : Memory)
-    → Roomy P d (sizesOf m) → Roomy Q d (sizesOf m′) → first (P .own d) ≡ none → first (Q .own d) ≡ none
-    → Runs P d m r after → Runs Q d m′ q after′ → Agree d r after q after′
-paths-agree P Q d m m′ (Refused r) after (Refused q) after′ room room′ kind kind′ a b =
-    let e = refusal-is P d m room kind in
-    let f = refusal-is Q d m′ room′ kind′ in
-    let g = a .0 in
-    let h = b .0 in
-    cc
-paths-agree P Q d m m′ (Refused r) after (Planned u) after′ room room′ kind kind′ a b =
-    let e = refusal-is P d m room kind in
-    let f = refusal-is Q d m′ room′ kind′ in
-    let g = a .0 in
-    let h = b .0 in
-    let z : _≡_ {A = ℕ} 0 1 = cc in
-    omega arith
-paths-agree P Q d m m′ (Planned t) after (Refused q) after′ room room′ kind kind′ a b =
-    let e = refusal-is P d m room kind in
-    let f = refusal-is Q d m′ room′ kind′ in
-    let g = a .0 in
-    let h = b .0 in
-    let z : _≡_ {A = ℕ} 0 1 = cc in
-    omega arith
-paths-agree P Q d m m′ (Planned t) after (Planned u) after′ room room′ kind kind′ a b =
-    let same = plan-unique d (at (after .slots)) (at (after′ .slots)) (a .1 .plan) (b .1 .plan) in
-    (same, same-totals d (at (after .slots)) (at (after′ .slots)) t u same (a .1 .counts) (b .1 .counts))
+module _ (P Q : Path) (d : Day) (m m′ : Memory) (room : Roomy P d (sizesOf m)) (room′ : Roomy Q d (sizesOf m′))
+    (kind : first (P .own d) ≡ none) (kind′ : first (Q .own d) ≡ none) where
+  alike : refusal P d (sizesOf m) ≡ refusal Q d (sizesOf m′)
+  alike = refusal-is P d m room kind ∙ sym (refusal-is Q d m′ room′ kind′)
+
+  pub paths-agree : (r : Answer) (after : Memory) (q : Answer) (after′ : Memory)
+      → Runs P d m r after → Runs Q d m′ q after′ → Agree d r after q after′
+  paths-agree (Refused r) after (Refused q) after′ a b = Option·some-injective _ _ (sym (a .0) ∙ alike ∙ b .0)
+  paths-agree (Refused r) after (Planned u) after′ a b = Option·some-ne-none _ (sym (a .0) ∙ alike ∙ b .0)
+  paths-agree (Planned t) after (Refused q) after′ a b = Option·none-ne-some _ (sym (a .0) ∙ alike ∙ b .0)
+  paths-agree (Planned t) after (Planned u) after′ a b =
+      let same = plan-unique d (at (after .slots)) (at (after′ .slots)) (a .1 .plan) (b .1 .plan) in
+      (same, same-totals d (at (after .slots)) (at (after′ .slots)) t u same (a .1 .counts) (b .1 .counts))
 
 module _ (d : Day) (m m′ : Memory) (r : Answer) (after : Memory) (q : Answer) (after′ : Memory)
     (room′ : Roomy full d (sizesOf m′)) (b : Runs full d m′ q after′) where
   -- Demand 3: where capacities can't bind, the uncapped path accepts exactly when the full path does, with the same plan, cost and setups.
   pub uncapped-agrees : Roomy uncapped d (sizesOf m) → binding d ≡ none → Runs uncapped d m r after → Agree d r after q after′
-  uncapped-agrees room kind a = paths-agree uncapped full d m m′ r after q after′ room room′ (rw kind refl) refl a b
+  uncapped-agrees room kind a = paths-agree uncapped full d m m′ room room′ (rw kind refl) refl r after q after′ a b
 
   -- Demand 3: and so does the equal path where capacities are equal.
   pub equal-agrees : Roomy equal d (sizesOf m) → unequal d ≡ none → Runs equal d m r after → Agree d r after q after′
-  equal-agrees room kind a = paths-agree equal full d m m′ r after q after′ room room′ (rw kind refl) refl a b
+  equal-agrees room kind a = paths-agree equal full d m m′ room room′ (rw kind refl) refl r after q after′ a b
