@@ -122,7 +122,7 @@ fn plan_file(file: &[u8]) {
     let mut setup = [0u32; 96];
     let mut unit = [0u32; 96];
     let mut holding = [0u32; 96];
-    let answer = dayfile::reader::read(
+    let answer = dayfile_reader::read(
         file,
         &mut demand,
         &mut capacity,

@@ -201,7 +201,7 @@ pub extern "C" fn yakkurem_read(
 ) -> u64
     ensures { λ r. ⌜ ReadShows (now (file .entry)) (dayOf (now (demand .entry)) (now (capacity .entry)) (now (setup .entry)) (now (unit .entry)) (now (holding .entry))) (dayOf (now (demand .exit)) (now (capacity .exit)) (now (setup .exit)) (now (unit .exit)) (now (holding .exit))) (now (periods .entry)) (seen r (now (periods .exit))) ⌝ }
 {
-    match dayfile::reader::read(file, demand, capacity, setup, unit, holding) {
+    match dayfile_reader::read(file, demand, capacity, setup, unit, holding) {
         ReadAnswer::Refused(r) => refused(r),
         ReadAnswer::Periods(n) => {
             *periods = [n as u64];
@@ -249,7 +249,7 @@ pub extern "C" fn yakkurem_write(
 ) -> u64
     ensures { λ r. ⌜ WriteShows (dayOf (now (demand .entry)) (now (capacity .entry)) (now (setup .entry)) (now (unit .entry)) (now (holding .entry))) (now (out .entry)) (now (out .exit)) (now (count .entry)) (seen r (now (count .exit))) ⌝ }
 {
-    match dayfile::writer::write(demand, capacity, setup, unit, holding, out) {
+    match dayfile_writer::write(demand, capacity, setup, unit, holding, out) {
         WriteAnswer::Refused(r) => refused(r),
         WriteAnswer::Bytes(n) => {
             *count = [n as u64];

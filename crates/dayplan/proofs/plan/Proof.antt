@@ -24,16 +24,6 @@ print-amounts-requires c κs =
 pub plan-spec : {M : Type 1} → statement M
 plan-spec =
     tie.close
-    (tie.spec
-    (λ c. search needs)
-    (λ c. search needs)
-    (λ c. search needs)
-    (λ c κs. search needs)
-    (λ c. search needs)
-    (λ c κs. search needs)
-    (λ c. search needs)
-    (λ c κs. search needs)
-    (λ c. search needs)
-    print-amounts-requires
-    (λ c. search needs)
-    (λ c. search needs))
+    (tie.spec (λ c. search needs) (λ c. search needs) (λ c. search needs) (λ c κs. search needs) (λ c. search needs)
+    (λ c κs. search needs) (λ c. search needs) (λ c κs. search needs) (λ c. search needs) print-amounts-requires
+    (λ c. search needs) (λ c. search needs))

@@ -27,34 +27,9 @@ part-plan-end-5 c = omega (arith, few (c .before .before .before .before .before
 pub plan-file-spec : {M : Type 1} → statement M
 plan-file-spec =
     tie.close
-    (tie.spec
-    (λ c. search needs)
-    (λ c. search needs)
-    (λ c. search needs)
-    (λ c. search needs)
-    (λ c. search needs)
-    (λ c κs. search needs)
-    (λ c. search needs)
-    (λ c. search needs)
-    (λ c. search needs)
-    (λ c κs. search needs)
-    (λ c. search needs)
-    (λ c. search needs)
-    (λ c. search needs)
-    (λ c. search needs)
-    (λ c. search needs)
-    part-plan-end
-    (λ c. search needs)
-    (λ c. search needs)
-    part-plan-end-2
-    (λ c. search needs)
-    (λ c. search needs)
-    part-plan-end-3
-    (λ c. search needs)
-    (λ c. search needs)
-    part-plan-end-4
-    (λ c. search needs)
-    (λ c. search needs)
-    part-plan-end-5
-    (λ c κs. search needs)
+    (tie.spec (λ c. search needs) (λ c. search needs) (λ c. search needs) (λ c. search needs) (λ c. search needs)
+    (λ c κs. search needs) (λ c. search needs) (λ c. search needs) (λ c. search needs) (λ c κs. search needs) (λ c. search needs)
+    (λ c. search needs) (λ c. search needs) (λ c. search needs) (λ c. search needs) part-plan-end (λ c. search needs)
+    (λ c. search needs) part-plan-end-2 (λ c. search needs) (λ c. search needs) part-plan-end-3 (λ c. search needs)
+    (λ c. search needs) part-plan-end-4 (λ c. search needs) (λ c. search needs) part-plan-end-5 (λ c κs. search needs)
     (λ c. search needs))

@@ -19,12 +19,5 @@ returns c =
 pub amount-line-spec : {M : Type 1} → statement M
 amount-line-spec =
     tie.close
-    (tie.spec
-    (λ c. search needs)
-    (λ c κs. search needs)
-    (λ c. search needs)
-    (λ c. search needs)
-    (λ c. search needs)
-    cast-period-line
-    (λ c κs. search needs)
-    returns)
+    (tie.spec (λ c. search needs) (λ c κs. search needs) (λ c. search needs) (λ c. search needs) (λ c. search needs)
+    cast-period-line (λ c κs. search needs) returns)
