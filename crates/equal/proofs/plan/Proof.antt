@@ -39,15 +39,6 @@ returns-2 : tie.Need-returns-2
 returns-2 c = let w = c .before .before .before .before .before .before in (accepted (w .before .before .before .before), w .work .ensures)
 
 pub plan-spec : {M : Type 1} → statement M
-plan-spec =
-    tie.close
-    (tie.spec
-    (λ c κs. search needs)
-    (λ c. search needs)
-    returns
-    (λ c. search needs)
-    work-requires
-    (λ c. search needs)
-    (λ c. search needs)
-    (λ c. search needs)
-    returns-2)
+plan-spec = tie.close (tie.spec
+    (λ c κs. search needs) (λ c. search needs) returns (λ c. search needs) work-requires (λ c. search needs) (λ c. search needs)
+    (λ c. search needs) returns-2)

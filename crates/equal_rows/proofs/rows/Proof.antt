@@ -69,9 +69,6 @@ found c = c .before .before .before .before .before .before
 abbrev known : tie.After-row-arg3 Inv-loop μ-loop → tie.After-shared-slice-known5 Inv-loop μ-loop
 known c = c .before .before .before
 
-slice-write-costs : tie.Need-slice-write-costs Inv-loop μ-loop
-slice-write-costs c = omega (arith, entry c .pre .sized .costs)
-
 loop-holds : tie.Need-loop-holds Inv-loop μ-loop
 loop-holds c =
     let s = entry c in
@@ -144,33 +141,11 @@ loop-again c =
 same-length : tie.Need-same-length Inv-loop μ-loop
 same-length c = c .before .loop .inv .costs-size ∙ length-set (entry (c .before .before) .args .costs .now) 0 0
 
-same-length-2 : tie.Need-same-length-2 Inv-loop μ-loop
-same-length-2 c = c .before .loop .inv .choices-size
-
-same-length-3 : tie.Need-same-length-3 Inv-loop μ-loop
-same-length-3 c = c .before .loop .inv .slots-size
-
 returns : tie.Need-returns Inv-loop μ-loop
 returns c = c .before .loop .inv .rows _ (omega (arith, c .before .loop .inv .inside))
 
 pub rows-spec : {M : Type 1} → statement M
 rows-spec = tie.close (tie.spec
-    Inv-loop
-    μ-loop
-    slice-write-costs
-    loop-holds
-    (λ c. search needs)
-    (λ c. search needs)
-    cast-need
-    add-need
-    (λ c. search needs)
-    (λ c. search needs)
-    (λ c. search needs)
-    (λ c. search needs)
-    row-requires
-    (λ c. search needs)
-    loop-again
-    same-length
-    same-length-2
-    same-length-3
-    returns)
+    Inv-loop μ-loop (λ c. omega (arith, entry c .pre .sized .costs)) loop-holds (λ c. search needs) (λ c. search needs) cast-need add-need
+    (λ c. search needs) (λ c. search needs) (λ c. search needs) (λ c. search needs) row-requires (λ c. search needs) loop-again same-length
+    (λ c. c .before .loop .inv .choices-size) (λ c. c .before .loop .inv .slots-size) returns)
