@@ -11,8 +11,8 @@ use native.Mathlib.Omega.{arith}
 use lib.ListN.{length, length-set}
 use lib.Seq.{getD-set-same}
 use Rattle.day.specs.Sums.{at, below}
-use Rattle.theory.specs.Problem.{Problem, periods, demandTo, modelOf, model-rising, model-unlimited}
-use Rattle.theory.specs.FlorianKlein.{florianKlein-right, florianKlein-zero}
+use Rattle.theory.specs.Problem.{Problem, periods, demandTo, modelOf}
+use Rattle.theory.specs.Recursion.{plan-none}
 use Rattle.equal_runs.specs.Run.{constantWith}
 use Rattle.equal_rows.specs.Rows.{Areas, areas, sized-as}
 use Rattle.equal_rows.specs.Best.{PlanRow, row-kept}
@@ -22,10 +22,7 @@ use Rattle.equal_rows.proofs.rows.Tie as tie
 
 -- no period, and no cost
 row-zero : (p : Problem) (a : Areas) → at (a .costs) 0 ≡ 0 → PlanRow p 0 a
-row-zero p a e =
-    let r = florianKlein-right (modelOf p) (model-rising p) (model-unlimited p) 0 0 (λ k h. absurd (omega arith)) 0 (omega arith) in
-    let z = florianKlein-zero (modelOf p) (model-rising p) (model-unlimited p) 0 in
-    record { plan = rw e (rw z at r); low = omega arith }
+row-zero p a e = record { plan = rw e (plan-none (modelOf p) 0 0 refl refl); low = omega arith }
 
 part-length : (k : ℕ) (xs : List ℕ) → k ≤ length xs → length (midOf 0 (k - 0) xs) ≡ k
 part-length k xs h = mid-len 0 k xs h ∙ omega arith
