@@ -5,23 +5,23 @@
 --     binding-passed                        9
 --     admitted                              all tests of a path: what its work relies on
 -- Assumes nothing.
-use mathlib.Core.Path.{_≡_, refl, sym}
-use mathlib.Core.Bool.{Bool, true, false, not, _||_}
-use mathlib.Core.List.{List, [], _∷_, _++_}
+use mathlib.Core.Path.{_≡_, refl, sym, ap}
+use mathlib.Core.Bool.{Bool, false, not, _||_}
+use mathlib.Core.List.{List, [], _∷_}
 use mathlib.Core.Option.{Option, none, some, Option·none-ne-some, Option·some-ne-none, Option·some-injective}
 use Prim.Native.Nat.{ℕ, zero, suc, _+_, _-_, _≤_, _<_}
 use native.Mathlib.Omega.{arith}
 use lib.Dec.{ltb, eqb}
 use lib.ListN.{length}
-use borrow.Author.Tests.{ltb-true, ltb-false, eqb-true, eqb-false, not-false}
+use borrow.Author.Tests.{ltb-true, ltb-false, le-ltb, eqb-true, eqb-false, eq-eqb, ne-eqb, not-false}
 use Rattle.day.specs.declared.Refusal.{Refusal}
 use Rattle.day.specs.declared.Refusal.the-variants.{PeriodCount, TableLength, AboveLimit, TotalDemand, ShortArea, FewSlots}
 use Rattle.day.specs.declared.Refusal.the-variants.{Shortage, UnequalCapacities, BindingCapacity}
 use Rattle.day.specs.Sums.{at}
-use Rattle.day.specs.Find.{find, none-found, some-found}
+use Rattle.day.specs.Find.{find, none-found, nothing-found, some-found}
 use Rattle.day.specs.Day.{Day, periods, maxPeriods, maxDemand, maxCapacity, maxSetup, maxRate, maxTotal}
 use Rattle.day.specs.Day.{demandTo, capacityTo, total}
-use Rattle.day.specs.Refusals.{refuseAt, anywhere, first, badCount, badLengths, aboveLimit, badValue, tableTests, badTotal, dayTests}
+use Rattle.day.specs.Refusals.{numberOf, periodOf, refuseAt, anywhere, first, badCount, badLengths, aboveLimit, badValue, tableTests, badTotal, dayTests}
 use Rattle.day.specs.Refusals.{badAreas, badSlots, short, shortage, differs, unequal, binds, binding}
 use Rattle.day.specs.Tests.{first-split, first-one, not-refused, nowhere, neither}
 use Rattle.day.specs.Outcome.{Path, Sizes, Roomy, memoryTests, pathTests, refusal}
@@ -54,10 +54,11 @@ pub record Limits (d : Day) : Type 0 where
   pub lengths : SameLengths d
   pub within : (k : ℕ) → k < periods d → Within d k
 
--- what test 7 refuses: the first period k + 1 with R above C
+-- what test 7 refuses, by document 01's numbers: the first period k + 1 with R above C
 pub record FirstShort (d : Day) (r : Refusal) : Type 0 where
   pub k : ℕ
-  pub is : r ≡ Shortage (suc k)
+  pub number : numberOf r ≡ 7
+  pub period : periodOf r ≡ suc k
   pub inside : k < periods d
   pub above : capacityTo d (suc k) < demandTo d (suc k)
   pub earlier : (j : ℕ) → j < k → demandTo d (suc j) ≤ capacityTo d (suc j)
@@ -172,7 +173,8 @@ shortage-refused d r e = go (find (short d) (periods d)) refl e
         let f = some-found (short d) (periods d) k found in
         record {
           k = k;
-          is = sym (Option·some-injective _ _ s);
+          number = sym (ap numberOf (Option·some-injective _ _ s));
+          period = sym (ap periodOf (Option·some-injective _ _ s));
           inside = f .inside;
           above = ltb-true _ _ (f .passes);
           earlier = λ j l. ltb-false _ _ (f .first j l);
@@ -210,3 +212,23 @@ admitted P d s e =
       supplied = shortage-passed d (rw first-one at (three .0));
       own = three .1;
     }
+
+-- and the other way round: a day within the limits passes tests 1 to 4
+pub lengths-pass : (d : Day) → SameLengths d → badLengths d ≡ none
+lengths-pass d s = simp (eq-eqb _ _ (s .capacity), eq-eqb _ _ (s .setup), eq-eqb _ _ (s .unit), eq-eqb _ _ (s .holding))
+
+pub day-passes : (d : Day) → DayLimits d → first (dayTests d) ≡ none
+day-passes d g = rw (count, lengths-pass d (l .lengths), value, le-ltb _ _ (g .total)) refl
+  where
+    l : Limits d
+    l = g .limits
+
+    count : badCount (periods d) ≡ none
+    count = rw (ne-eqb (periods d) 0 (λ e. omega (arith, l .nonempty)), le-ltb maxPeriods (periods d) (l .few)) refl
+
+    inside : (k : ℕ) → Within d k → aboveLimit d k ≡ false
+    inside k w =
+        simp (le-ltb _ _ (w .demand), le-ltb _ _ (w .capacity), le-ltb _ _ (w .setup), le-ltb _ _ (w .unit), le-ltb _ _ (w .holding))
+
+    value : badValue d ≡ none
+    value = ap (refuseAt AboveLimit) (nothing-found (aboveLimit d) (periods d) (λ k h. inside k (l .within k h)))

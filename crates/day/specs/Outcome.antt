@@ -1,10 +1,11 @@
 -- What a caller lends to a path, what the path needs of it and refuses, and what it leaves in it (document 01, "Three paths, one plan").
 -- Main definitions: `refusal`; `Runs`, the contract of every path (demands 1 to 3). Assumes nothing.
-use mathlib.Core.Path.{_≡_}
+use mathlib.Core.Path.{_≡_, refl}
 use mathlib.Core.List.{List, [], _∷_, _++_}
-use mathlib.Core.Option.{Option, none, some}
+use mathlib.Core.Option.{Option, none}
 use Prim.Native.Nat.{ℕ, _≤_}
 use lib.ListN.{length, drop, replicate}
+use borrow.Author.Tests.{le-ltb}
 use Rattle.day.specs.declared.Refusal.{Refusal}
 use Rattle.day.specs.declared.Totals.{Totals}
 use Rattle.day.specs.declared.Answer.{Answer}
@@ -12,7 +13,7 @@ use Rattle.day.specs.declared.Answer.the-variants.{Refused, Planned}
 use Rattle.day.specs.Sums.{at}
 use Rattle.day.specs.Day.{Day, periods, total}
 use Rattle.day.specs.Plan.{Optimal, cost, setups}
-use Rattle.day.specs.Refusals.{first, dayTests, badAreas, badSlots, shortage}
+use Rattle.day.specs.Refusals.{Gives, first, dayTests, badAreas, badSlots, shortage}
 
 -- what a caller lends: cost area, choice area, answer slots
 pub record Memory : Type 0 where
@@ -62,6 +63,14 @@ pathTests P d s = memoryTests P d s ++ (shortage d ∷ P .own d)
 abbrev pub refusal : Path → Day → Sizes → Option Refusal
 refusal P d s = first (dayTests d ++ pathTests P d s)
 
+-- what the day brings by itself: 1 to 4, 7
+abbrev pub dayRefusal : Day → Option Refusal
+dayRefusal d = first (dayTests d ++ (shortage d ∷ []))
+
+-- with room for it, a path refuses a day of its kind for what the day is, alone
+pub roomy-refusal : (P : Path) (d : Day) (s : Sizes) → Roomy P d s → first (P .own d) ≡ none → refusal P d s ≡ dayRefusal d
+roomy-refusal P d s room kind = rw (kind, le-ltb _ _ (room .costs), le-ltb _ _ (room .choices), le-ltb _ _ (room .slots)) refl
+
 -- a plan's cost and setups
 pub record Counts (d : Day) (x : ℕ → ℕ) (t : Totals) : Type 0 where
   pub cost : t .cost ≡ cost d x
@@ -80,7 +89,7 @@ pub record Accepted (P : Path) (d : Day) (t : Totals) (before after : Memory) : 
   pub costs : Cleared (P .costCells (periods d) (total d)) (before .costs) (after .costs)
   pub choices : Cleared (P .choiceCells (periods d) (total d)) (before .choices) (after .choices)
 
--- the contract of a path: where there is a refusal it is the answer, and no cell changes
+-- the contract of a path: where there is a refusal it is the answer, by its number and period, and no cell changes
 abbrev pub Runs : Path → Day → Memory → Answer → Memory → Type 0
-Runs P d before (Refused r) after = (refusal P d (sizesOf before) ≡ some r) × (after ≡ before)
+Runs P d before (Refused r) after = Gives (refusal P d (sizesOf before)) r × (after ≡ before)
 Runs P d before (Planned t) after = (refusal P d (sizesOf before) ≡ none) × Accepted P d t before after

@@ -1,6 +1,7 @@
 -- What is refused, and when: document 01's conditions 1 to 9, each as a definition, and the number and period of each refusal.
 -- A call's first refusal in order is `first` of a list of these; laws of such lists are in `Tests`. Conditions 10 to 13 are in `File`.
 -- Assumes nothing.
+use mathlib.Core.Path.{_≡_}
 use mathlib.Core.Bool.{Bool, true, false, not, _||_}
 use mathlib.Core.List.{List, [], _∷_, _++_}
 use mathlib.Core.Option.{Option, none, some}
@@ -67,6 +68,11 @@ orNext (some r) o = some r
 abbrev pub first : List (Option Refusal) → Option Refusal
 first [] = none
 first (o ∷ rest) = orNext o (first rest)
+
+-- r is given where o is a call's first refusal in order: it has document 01's number and period of that one, which fix it (`gives-is`)
+abbrev pub Gives : Option Refusal → Refusal → Type 0
+Gives none r = ⊥
+Gives (some q) r = (numberOf r ≡ numberOf q) × (periodOf r ≡ periodOf q)
 
 -- what a call's tests answer
 abbrev pub checked : Option Refusal → Check

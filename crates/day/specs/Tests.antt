@@ -1,15 +1,18 @@
 -- Laws of lists of tests: what an answer says of the conditions that were tested, and how the answers of several calls join.
 -- Main statements: `passed`, `refused`; `group-refused`, `group-passed`, `group-decides`. Assumes nothing.
-use mathlib.Core.Path.{_≡_, refl, sym, ap, _∙_}
+use mathlib.Core.Path.{_≡_, refl, sym, ap, ap₂, _∙_}
 use mathlib.Core.Bool.{Bool, true, false, _||_, true≢false}
 use mathlib.Core.List.{List, [], _∷_, _++_}
 use mathlib.Core.Option.{Option, none, some, Option·none-ne-some, Option·some-ne-none}
 use Prim.Native.Nat.{ℕ}
 use native.Mathlib.Omega.{arith}
+use lib.ListN.{getD}
 use Rattle.day.specs.declared.Refusal.{Refusal}
+use Rattle.day.specs.declared.Refusal.the-variants.{PeriodCount, TableLength, AboveLimit, TotalDemand, ShortArea, FewSlots, Shortage}
+use Rattle.day.specs.declared.Refusal.the-variants.{UnequalCapacities, BindingCapacity, UnknownKind, TruncatedFile, WrongEnd, NoSuchPeriod}
 use Rattle.day.specs.declared.Check.{Check}
 use Rattle.day.specs.declared.Check.the-variants.{Passed, Refused}
-use Rattle.day.specs.Refusals.{refuse, refuseAt, first, checked}
+use Rattle.day.specs.Refusals.{numberOf, periodOf, Gives, refuse, refuseAt, first, checked}
 
 passed≢refused : {r : Refusal} → Passed ≡ Refused r → ⊥
 passed≢refused e = let z : _≡_ {A = ℕ} 0 1 = cc in omega arith
@@ -22,6 +25,51 @@ passed (some r) is e = absurd (passed≢refused (sym e ∙ is))
 pub refused : (o : Option Refusal) {answer : Check} {r : Refusal} → answer ≡ checked o → answer ≡ Refused r → o ≡ some r
 refused none is e = absurd (passed≢refused (sym is ∙ e))
 refused (some r) is e = cc
+
+-- the refusal of a number and a period: number k stands at place k
+withNumber : (number period : ℕ) → Refusal
+withNumber number i =
+    getD
+    (PeriodCount
+    ∷ PeriodCount
+    ∷ TableLength
+    ∷ AboveLimit i
+    ∷ TotalDemand
+    ∷ ShortArea
+    ∷ FewSlots
+    ∷ Shortage i
+    ∷ UnequalCapacities
+    ∷ BindingCapacity i
+    ∷ UnknownKind
+    ∷ TruncatedFile
+    ∷ WrongEnd
+    ∷ [])
+    number
+    NoSuchPeriod
+
+number-fixes : (r : Refusal) → withNumber (numberOf r) (periodOf r) ≡ r
+unfolding withNumber
+number-fixes PeriodCount = refl
+number-fixes TableLength = refl
+number-fixes (AboveLimit i) = refl
+number-fixes TotalDemand = refl
+number-fixes ShortArea = refl
+number-fixes FewSlots = refl
+number-fixes (Shortage i) = refl
+number-fixes UnequalCapacities = refl
+number-fixes (BindingCapacity i) = refl
+number-fixes UnknownKind = refl
+number-fixes TruncatedFile = refl
+number-fixes WrongEnd = refl
+number-fixes NoSuchPeriod = refl
+
+-- number and period fix a refusal: what is given is the first in order, and the other way round
+pub gives-is : (o : Option Refusal) (r : Refusal) → Gives o r → o ≡ some r
+gives-is none r g = absurd g
+gives-is (some q) r g = ap some (sym (number-fixes q) ∙ (ap₂ withNumber (sym (g .0)) (sym (g .1)) ∙ number-fixes r))
+
+pub is-gives : {o : Option Refusal} {r : Refusal} → o ≡ some r → Gives o r
+is-gives e = rw e (refl, refl)
 
 -- a list whose first part has a refusal, or none
 pub first-refused : (xs ys : List (Option Refusal)) {r : Refusal} → first xs ≡ some r → first (xs ++ ys) ≡ some r

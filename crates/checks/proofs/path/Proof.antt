@@ -1,13 +1,13 @@
 -- `checks::path` meets its contract: the first refusal of the day, or that of the path after it. Assumes nothing.
-use mathlib.Core.Path.{_≡_, refl, ap, _∙_}
+use mathlib.Core.Path.{_≡_, refl}
 use mathlib.Core.List.{List, []}
-use mathlib.Core.Option.{Option, none}
+use mathlib.Core.Option.{none}
 use Prim.Native.Nat.{ℕ}
 use borrow.Author.Needs.{needs}
 use Rattle.day.specs.declared.PathKind.{PathKind}
 use Rattle.day.specs.declared.PathKind.the-variants.{Full, Uncapped, Equal}
 use Rattle.day.specs.Day.{Day, dayOf}
-use Rattle.day.specs.declared.Refusal.{Refusal}
+use Rattle.day.specs.declared.Check.{Check}
 use Rattle.day.specs.Refusals.{checked, first, dayTests}
 use Rattle.day.specs.Tests.{passed, group-refused, group-decides}
 use Rattle.day.specs.Outcome.{Sizes, sizes, pathTests}
@@ -17,11 +17,12 @@ use Rattle.checks.proofs.path.Statement.{statement}
 use Rattle.checks.proofs.path.Tie as tie
 
 -- no path's tests look at costs
-two-tables : (kind : PathKind) (demand capacity setup unit holding : List ℕ) (s : Sizes)
-    → pathTests (pathOf kind) (dayOf demand capacity [] [] []) s ≡ pathTests (pathOf kind) (dayOf demand capacity setup unit holding) s
-two-tables Full demand capacity setup unit holding s = refl
-two-tables Uncapped demand capacity setup unit holding s = refl
-two-tables Equal demand capacity setup unit holding s = refl
+two-tables : (kind : PathKind) (demand capacity setup unit holding : List ℕ) (s : Sizes) {answer : Check}
+    → answer ≡ checked (first (pathTests (pathOf kind) (dayOf demand capacity [] [] []) s))
+    → answer ≡ checked (first (pathTests (pathOf kind) (dayOf demand capacity setup unit holding) s))
+two-tables Full demand capacity setup unit holding s is = is
+two-tables Uncapped demand capacity setup unit holding s is = is
+two-tables Equal demand capacity setup unit holding s is = is
 
 abbrev start : tie.After-day → tie.Start
 start c = c .before .before .before .before .before .before
@@ -53,8 +54,8 @@ returns-2 c =
     let p = c .before .before .before in
     let a = start p .args in
     let tests = pathTests (pathOf (a .kind)) (given p) (lent p) in
-    let same = two-tables (a .kind) (a .demand .now) (a .capacity .now) (a .setup .now) (a .unit .now) (a .holding .now) (lent p) in
-    group-decides (dayTests (given p)) tests (tested (c .before)) (c .room .ensures ∙ ap (λ (l : List (Option Refusal)). checked (first l)) same)
+    let is = two-tables (a .kind) (a .demand .now) (a .capacity .now) (a .setup .now) (a .unit .now) (a .holding .now) (lent p) (c .room .ensures) in
+    group-decides (dayTests (given p)) tests (tested (c .before)) is
 
 pub path-spec : {M : Type 1} → statement M
 path-spec = tie.close (tie.spec (λ c κs. search needs) (λ c. search needs) returns (λ c. search needs) room-requires returns-2)

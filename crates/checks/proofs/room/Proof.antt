@@ -1,9 +1,10 @@
 -- `checks::room` meets its contract: each answer is the first refusal, given those of the tests before it. Assumes nothing.
 use mathlib.Core.Path.{_≡_, refl}
-use mathlib.Core.List.{[], _∷_, _++_}
-use mathlib.Core.Option.{none}
+use mathlib.Core.List.{List, [], _∷_, _++_}
+use mathlib.Core.Option.{Option, none}
 use Prim.Native.Nat.{ℕ}
 use borrow.Author.Needs.{needs}
+use Rattle.day.specs.declared.Refusal.{Refusal}
 use Rattle.day.specs.declared.Check.{Check}
 use Rattle.day.specs.Day.{Day, dayOf, periods, total}
 use Rattle.day.specs.Refusals.{checked, first, badAreas, badSlots, shortage}
@@ -31,39 +32,44 @@ lent c = sizes (c .args .costs) (c .args .choices) (c .args .slots)
 abbrev start : tie.After-memory → tie.Start
 start c = c .before .before .before .before .before
 
--- what the test of the memory says
-answered : (c : tie.After-memory)
-    → c .memory .result ≡ checked (first (memoryTests (pathOf (start c .args .kind)) (tables (start c)) (lent (start c))))
-answered c = memory-is (pathOf (start c .args .kind)) (tables (start c)) (lent (start c)) (c .before .before .total .ensures .is) (c .before .cells .ensures) (c .memory .ensures)
+abbrev path : tie.After-memory → Path
+path c = pathOf (start c .args .kind)
 
--- 5 and 6 passed, and 7
-roomy : (c : tie.After-enum-told) → first (memoryTests (pathOf (start (c .before .before) .args .kind)) (tables (start (c .before .before))) (lent (start (c .before .before)))) ≡ none
+-- 5 and 6, of the path on what is lent
+abbrev memory : tie.After-memory → List (Option Refusal)
+memory c = memoryTests (path c) (tables (start c)) (lent (start c))
+
+answered : (c : tie.After-memory) → c .memory .result ≡ checked (first (memory c))
+answered c =
+    memory-is (path c) (tables (start c)) (lent (start c)) (c .before .before .total .ensures .is) (c .before .cells .ensures) (c .memory .ensures)
+
+roomy : (c : tie.After-enum-told) → first (memory (c .before .before)) ≡ none
 roomy c = passed _ (answered (c .before .before)) (c .enum-told .given .1)
+
+-- 7
+supplied : (c : tie.After-shortage) → c .shortage .result ≡ checked (first (shortage (tables (start (c .before .before .before))) ∷ []))
+supplied c = alone (shortage (tables (start (c .before .before .before)))) (c .shortage .ensures)
 
 returns : tie.Need-returns
 returns c =
     let m = c .before .before .before in
-    let P = pathOf (start m .args .kind) in
     let d = tables (start m) in
-    group-refused [] (memoryTests P d (lent (start m))) refl (answered m) (shortage d ∷ P .own d) (c .before .r .given .1)
+    group-refused [] (memory m) refl (answered m) (shortage d ∷ path m .own d) (c .before .r .given .1)
 
 returns-2 : tie.Need-returns-2
 returns-2 c =
     let s = c .before .before .before in
     let m = s .before .before .before in
-    let P = pathOf (start m .args .kind) in
     let d = tables (start m) in
-    group-refused (memoryTests P d (lent (start m))) (shortage d ∷ []) (roomy (s .before)) (alone (shortage d) (s .shortage .ensures)) (P .own d) (c .before .r2 .given .1)
+    group-refused (memory m) (shortage d ∷ []) (roomy (s .before)) (supplied s) (path m .own d) (c .before .r2 .given .1)
 
 returns-3 : tie.Need-returns-3
 returns-3 c =
     let s = c .before .before .before in
     let m = s .before .before .before in
-    let P = pathOf (start m .args .kind) in
     let d = tables (start m) in
-    let memory = memoryTests P d (lent (start m)) in
-    let ok = group-passed memory (shortage d ∷ []) (roomy (s .before)) (alone (shortage d) (s .shortage .ensures)) (c .before .enum-told2 .given .1) in
-    group-decides (memory ++ (shortage d ∷ [])) (P .own d) ok (c .own .ensures)
+    let ok = group-passed (memory m) (shortage d ∷ []) (roomy (s .before)) (supplied s) (c .before .enum-told2 .given .1) in
+    group-decides (memory m ++ (shortage d ∷ [])) (path m .own d) ok (c .own .ensures)
 
 pub room-spec : {M : Type 1} → statement M
 room-spec =

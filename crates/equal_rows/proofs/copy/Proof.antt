@@ -10,7 +10,8 @@ use lib.Seq.{take-suc, take-suc-set, take-all}
 use Rattle.equal_rows.proofs.copy.Statement.{statement}
 use Rattle.equal_rows.proofs.copy.Tie as tie
 
-one-more : (from to : List ℕ) (i : ℕ) → i < length from → i < length to → take i to ≡ take i from → take (i + 1) (set to i (getD from i 0)) ≡ take (i + 1) from
+one-more : (from to : List ℕ) (i : ℕ) → i < length from → i < length to → take i to ≡ take i from
+    → take (i + 1) (set to i (getD from i 0)) ≡ take (i + 1) from
 one-more from to i h g e =
     rw (add-one i) (take-suc-set to i (getD from i 0) g ∙ ap (λ (l : List ℕ). l ++ (getD from i 0 ∷ [])) e ∙ sym (take-suc from i 0 h))
 

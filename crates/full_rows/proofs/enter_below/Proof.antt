@@ -37,14 +37,5 @@ pub enter-below-spec : {M : Type 1} → statement M
 enter-below-spec =
     tie.close
     (tie.spec
-    Inv-loop
-    μ-loop
-    (λ c. search needs)
-    (λ c κs. search needs)
-    loop-holds
-    enter-requires
-    (λ c. search needs)
-    (λ c. search needs)
-    loop-again
-    same-length
-    returns)
+    Inv-loop μ-loop (λ c. search needs) (λ c κs. search needs) loop-holds enter-requires (λ c. search needs)
+    (λ c. search needs) loop-again same-length returns)
