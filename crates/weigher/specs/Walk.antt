@@ -12,7 +12,6 @@ use Rattle.day.specs.Day.{Day, periods, demandTo, maxPeriods}
 use Rattle.day.specs.Plan.{making, costTo, Feasible, setupAt, setups}
 use Rattle.checks.specs.Passed.{SameLengths}
 use Rattle.weigher.specs.declared.Rule.{Rule}
-use Rattle.weigher.specs.declared.Verdict.{Verdict}
 use Rattle.weigher.specs.declared.Verdict.the-variants.{Holds, Broken}
 use Rattle.weigher.specs.declared.Weighed.{Weighed}
 use Rattle.weigher.specs.declared.Weighed.the-variants.{Refused, Judged}

@@ -1,12 +1,12 @@
 -- `full::plan` meets its contract: a refusal of the tests, or the work. Assumes nothing.
 use mathlib.Core.Path.{refl}
-use Rattle.day.specs.Tests.{passed, refused}
+use Rattle.day.specs.Tests.{is-gives, passed, refused}
 use borrow.Author.Needs.{needs}
 use Rattle.full.proofs.plan.Statement.{statement}
 use Rattle.full.proofs.plan.Tie as tie
 
 returns : tie.Need-returns
-returns c = (refused _ (c .before .before .before .path .ensures) (c .before .r .given .1), refl)
+returns c = (is-gives (refused _ (c .before .before .before .path .ensures) (c .before .r .given .1)), refl)
 
 work-requires : tie.Need-work-requires
 work-requires c κs =

@@ -1,25 +1,13 @@
 -- `uncapped::plan` meets its contract: the tests decide between the refusal and the work. Assumes nothing.
 use mathlib.Core.Path.{refl}
-use mathlib.Core.Option.{Option}
 use borrow.Author.Needs.{needs}
-use Rattle.day.specs.declared.Refusal.{Refusal}
-use Rattle.day.specs.Day.{dayOf}
-use Rattle.day.specs.Outcome.{memoryOf, sizesOf, refusal}
-use Rattle.day.specs.Paths.{uncapped}
-use Rattle.day.specs.Tests.{passed, refused, is-gives}
+use Rattle.day.specs.Tests.{is-gives, passed, refused}
 use Rattle.checks.specs.Passed.{admitted}
 use Rattle.uncapped.proofs.plan.Statement.{statement}
 use Rattle.uncapped.proofs.plan.Tie as tie
 
--- the call's first refusal, from the place after the tests
-abbrev tested : tie.After-path → Option Refusal
-tested c =
-    let a = c .before .before .before .before .before .before .before .before .before .args in
-    refusal uncapped (dayOf (a .demand .now) (a .capacity .now) (a .setup .now) (a .unit .now) (a .holding .now))
-    (sizesOf (memoryOf (a .costs .now) (a .choices .now) (a .slots .now)))
-
 returns : tie.Need-returns
-returns c = let p = c .before .before .before in (is-gives (refused (tested p) (p .path .ensures) (c .before .r .given .1)), refl)
+returns c = (is-gives (refused _ (c .before .before .before .path .ensures) (c .before .r .given .1)), refl)
 
 work-requires : tie.Need-work-requires
 work-requires c κs =

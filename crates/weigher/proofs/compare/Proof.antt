@@ -1,5 +1,4 @@
 -- `weigher::compare` meets its contract: the costs of both answers fit by the widths of the tables. Assumes nothing.
-use mathlib.Core.Path.{_∙_}
 use mathlib.Core.List.{List}
 use Prim.Native.Nat.{ℕ}
 use mir.Syntax.{w16}
@@ -40,8 +39,5 @@ comparison-requires c κs =
       rw (c .weigh2 .ensures) (signed known (a .other .now) (known .shared-slice-known7 .given)),
     )
 
-returns : tie.Need-returns
-returns c = cc
-
 pub compare-spec : {M : Type 1} → statement M
-compare-spec = tie.close (tie.spec (λ c κs. search needs) (λ c κs. search needs) comparison-requires returns)
+compare-spec = tie.close (tie.spec (λ c κs. search needs) (λ c κs. search needs) comparison-requires (λ c. cc))
