@@ -1,5 +1,5 @@
 -- `station::weighed` meets its contract, case by case. Assumes nothing.
-use mathlib.Core.Path.{_≡_, refl, ap, _∙_}
+use mathlib.Core.Path.{refl}
 use borrow.Author.Needs.{needs}
 use Rattle.station.proofs.weighed.Statement.{statement}
 use Rattle.station.proofs.weighed.Tie as tie
