@@ -47,11 +47,5 @@ pub yakkurem-lookup-spec : {M : Type 1} → statement M
 yakkurem-lookup-spec =
     tie.close
     (tie.spec
-    (λ c κs. search needs)
-    (λ c. search needs)
-    (λ c κs. search needs)
-    returns
-    (λ c. search needs)
-    (λ c κs. search needs)
-    array-requires
+    (λ c κs. search needs) (λ c. search needs) (λ c κs. search needs) returns (λ c. search needs) (λ c κs. search needs) array-requires
     returns-2)
