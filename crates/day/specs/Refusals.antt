@@ -70,9 +70,11 @@ first [] = none
 first (o ∷ rest) = orNext o (first rest)
 
 -- r is given where o is a call's first refusal in order: it has document 01's number and period of that one, which fix it (`gives-is`)
-abbrev pub Gives : Option Refusal → Refusal → Type 0
-Gives none r = ⊥
-Gives (some q) r = (numberOf r ≡ numberOf q) × (periodOf r ≡ periodOf q)
+pub record Gives (o : Option Refusal) (r : Refusal) : Type 0 where
+  pub first : Refusal
+  pub is : o ≡ some first
+  pub number : numberOf r ≡ numberOf first
+  pub period : periodOf r ≡ periodOf first
 
 -- what a call's tests answer
 abbrev pub checked : Option Refusal → Check

@@ -64,12 +64,12 @@ number-fixes WrongEnd = refl
 number-fixes NoSuchPeriod = refl
 
 -- number and period fix a refusal: what is given is the first in order, and the other way round
-pub gives-is : (o : Option Refusal) (r : Refusal) → Gives o r → o ≡ some r
-gives-is none r g = absurd g
-gives-is (some q) r g = ap some (sym (number-fixes q) ∙ (ap₂ withNumber (sym (g .0)) (sym (g .1)) ∙ number-fixes r))
+pub gives-is : {o : Option Refusal} {r : Refusal} → Gives o r → o ≡ some r
+gives-is {o} {r} g =
+    g .is ∙ ap some (sym (number-fixes (g .first)) ∙ (ap₂ withNumber (sym (g .number)) (sym (g .period)) ∙ number-fixes r))
 
 pub is-gives : {o : Option Refusal} {r : Refusal} → o ≡ some r → Gives o r
-is-gives e = rw e (refl, refl)
+is-gives {o} {r} e = record { first = r; is = e; number = refl; period = refl }
 
 -- a list whose first part has a refusal, or none
 pub first-refused : (xs ys : List (Option Refusal)) {r : Refusal} → first xs ≡ some r → first (xs ++ ys) ≡ some r

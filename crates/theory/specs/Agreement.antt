@@ -38,7 +38,7 @@ given (Planned t) = none
 
 given-is : (P : Path) (d : Day) (m : Memory) (r : Answer) (after : Memory) → Roomy P d (sizesOf m) → first (P .own d) ≡ none → Runs P d m r after
     → dayRefusal d ≡ given r
-given-is P d m (Refused r) after room kind a = sym (roomy-refusal P d (sizesOf m) room kind) ∙ gives-is (refusal P d (sizesOf m)) r (a .0)
+given-is P d m (Refused r) after room kind a = sym (roomy-refusal P d (sizesOf m) room kind) ∙ gives-is (a .0)
 given-is P d m (Planned t) after room kind a = sym (roomy-refusal P d (sizesOf m) room kind) ∙ a .0
 
 -- Two paths, on a day of both their kinds and with room for both, accept together, and then give one plan, cost and setups.

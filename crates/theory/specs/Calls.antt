@@ -41,12 +41,12 @@ module _ (P : Path) (d : Day) (m : Memory) (limits : DayLimits d) (room : Roomy 
   -- Demand 2: the answer is a plan exactly if some amounts keep conditions (2) to (4).
   pub planned-iff : (r : Answer) (after : Memory) → Runs P d m r after → IsPlan r ↔ ((x : ℕ → ℕ) × Feasible d x)
   planned-iff (Refused q) after runs =
-      (λ none. absurd none, λ w. Option·none-ne-some q (sym (shortage-iff d .1 w) ∙ (sym only-shortage ∙ gives-is (refusal P d (sizesOf m)) q (runs .0))))
+      (λ none. absurd none, λ w. Option·none-ne-some q (sym (shortage-iff d .1 w) ∙ (sym only-shortage ∙ gives-is (runs .0))))
   planned-iff (Planned t) after runs = (λ _. (at (after .slots), runs .1 .plan .feasible), λ _. tt)
 
   -- Demand 2: otherwise it is refusal 7 with the first period whose summed need exceeds the summed capacity.
   pub refused-first : (q : Refusal) (after : Memory) → Runs P d m (Refused q) after → FirstShort d q
-  refused-first q after runs = shortage-names d q (sym only-shortage ∙ gives-is (refusal P d (sizesOf m)) q (runs .0))
+  refused-first q after runs = shortage-names d q (sym only-shortage ∙ gives-is (runs .0))
 
 -- Demand 3, in its words, with the answer's own cost: every other plan that keeps the rules costs at least as much,
 -- and one that costs the same has the larger amount in the last period where the two differ.

@@ -6,7 +6,7 @@ use Rattle.day.specs.declared.Refusal.{Refusal}
 use Rattle.day.specs.Day.{Day, dayOf}
 use Rattle.day.specs.Outcome.{Memory, memoryOf, sizesOf, refusal}
 use Rattle.day.specs.Paths.{uncapped}
-use Rattle.day.specs.Tests.{passed, refused}
+use Rattle.day.specs.Tests.{is-gives, passed, refused}
 use Rattle.checks.specs.Passed.{admitted}
 use Rattle.uncapped.proofs.plan.Statement.{statement}
 use Rattle.uncapped.proofs.plan.Tie as tie
@@ -28,7 +28,7 @@ accepted : (c : tie.After-enum-told) → tested (c .before .before) ≡ none
 accepted c = passed (tested (c .before .before)) (c .before .before .path .ensures) (c .enum-told .given .1)
 
 returns : tie.Need-returns
-returns c = let p = c .before .before .before in (refused (tested p) (p .path .ensures) (c .before .r .given .1), refl)
+returns c = let p = c .before .before .before in (is-gives (refused (tested p) (p .path .ensures) (c .before .r .given .1)), refl)
 
 work-requires : tie.Need-work-requires
 work-requires c κs =
