@@ -148,14 +148,8 @@ fn judge(
 ) -> Fate {
     let n = text::least(periods(answer), demand.len());
     let kept = tables_kept(n, demand, capacity, setup, unit, holding);
-    if n == 0 || capacity.len() < n {
-        return Fate {
-            answer,
-            alike: n == 0,
-            kept,
-        };
-    }
-    if setup.len() < n || unit.len() < n || holding.len() < n {
+    let rates = text::least(setup.len(), text::least(unit.len(), holding.len()));
+    if text::least(capacity.len(), rates) < n {
         return Fate {
             answer,
             alike: false,
@@ -172,7 +166,7 @@ fn judge(
     );
     Fate {
         answer,
-        alike,
+        alike: alike || n == 0,
         kept,
     }
 }
@@ -233,18 +227,10 @@ fn look(name: &[u8], file: &[u8], period: usize) {
     print::end();
 }
 
-fn wide(x: u16) -> usize {
-    x as usize
-}
-
-fn size(x: u32) -> usize {
-    x as usize
-}
-
 fn look_all(name: &[u8], file: &[u8], periods: &[u16]) {
     let mut i = 0;
     while i < periods.len() {
-        look(name, file, wide(periods[i]));
+        look(name, file, text::wide(periods[i]));
         i += 1;
     }
 }
@@ -258,7 +244,7 @@ pub fn file(name: &[u8], line: &[u8]) {
     let k = text::amounts(text::field(line, 3), &mut asked);
     text::rates(text::field(line, 2), 1, &mut room);
     print::text(name);
-    print_fate(read(&file[0..n], size(room[0])));
+    print_fate(read(&file[0..n], text::size(room[0])));
     look_all(name, &file[0..n], &asked[0..k]);
 }
 
@@ -276,26 +262,8 @@ fn number_of(f: Fate) -> usize
     }
 }
 
-// One more file that fares so.
 fn tally(file: &[u8], counts: &mut [u64; 16]) {
-    let k = number_of(read(file, 96));
-    let n = counts[k];
-    if n < 1000000 {
-        counts[k] = n + 1;
-    }
-}
-
-fn print_tally(name: &[u8], counts: [u64; 16]) {
-    print::text(name);
-    print::number(b" alike ", counts[0]);
-    print::number(b" refused 1: ", counts[1]);
-    print::number(b" 3: ", counts[3]);
-    print::number(b" 6: ", counts[6]);
-    print::number(b" 10: ", counts[10]);
-    print::number(b" 11: ", counts[11]);
-    print::number(b" 12: ", counts[12]);
-    print::number(b" other: ", counts[15]);
-    print::end();
+    cells::count(counts, number_of(read(file, 96)));
 }
 
 fn cuts(file: &[u8], counts: &mut [u64; 16]) {
@@ -312,7 +280,9 @@ pub fn cut(name: &[u8], line: &[u8]) {
     let mut counts = [0u64; 16];
     let n = bytes(text::field(line, 1), &mut file);
     cuts(&file[0..n], &mut counts);
-    print_tally(name, counts);
+    print::text(name);
+    print::counts(counts);
+    print::end();
 }
 
 // With every value at one place, which is then as it was.
@@ -344,7 +314,9 @@ pub fn change(name: &[u8], line: &[u8]) {
     let mut counts = [0u64; 16];
     let n = bytes(text::field(line, 1), &mut file);
     changes(&mut file[0..n], &mut counts);
-    print_tally(name, counts);
+    print::text(name);
+    print::counts(counts);
+    print::end();
 }
 
 fn print_written(answer: WriteAnswer, out: &[u8]) {
@@ -387,7 +359,7 @@ pub fn write(
     let mut out = [FILL; 64];
     let mut asked = [0u32; 1];
     text::rates(text::field(line, 6), 1, &mut asked);
-    let room = text::least(size(asked[0]), 64);
+    let room = text::least(text::size(asked[0]), 64);
     print::text(name);
     write_into(demand, capacity, setup, unit, holding, &mut out[0..room]);
 }

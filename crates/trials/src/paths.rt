@@ -57,16 +57,6 @@ fn cells_of(path: Path, n: usize, total: usize) -> Cells
     }
 }
 
-fn wide(x: u16) -> usize
-    ensures { λ r. ⌜ r ≤ 65535 ⌝ }
-{
-    x as usize
-}
-
-fn size(x: u32) -> usize {
-    x as usize
-}
-
 // The day's whole demand; 4,097 where it is more than 4,096.
 pub fn total(demand: &[u16]) -> usize
     ensures { λ r. ⌜ r ≤ 4097 ⌝ }
@@ -74,7 +64,7 @@ pub fn total(demand: &[u16]) -> usize
     let mut sum = 0;
     let mut i = 0;
     while i < demand.len() {
-        sum = text::least(sum + wide(demand[i]), 4097);
+        sum = text::least(sum + text::wide(demand[i]), 4097);
         i += 1;
     }
     sum
@@ -327,8 +317,8 @@ pub fn lent(
         setup,
         unit,
         holding,
-        size(memory[0]),
-        size(memory[1]),
-        size(memory[2]),
+        text::size(memory[0]),
+        text::size(memory[1]),
+        text::size(memory[2]),
     );
 }
