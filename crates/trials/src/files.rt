@@ -215,9 +215,9 @@ fn print_fate(f: Fate) {
 }
 
 // The part that a lookup hands out, and what its companion says.
-fn look(name: &[u8], file: &[u8], period: usize) {
+fn look(line: &[u8], file: &[u8], period: usize) {
     let body = dayfile::lookup::body(file, period);
-    print::text(name);
+    print::text(text::name(line));
     print::number(b" lookup ", period as u64);
     match dayfile::lookup::check(file, period) {
         Check::Refused(r) => print::refusal(r),
@@ -227,25 +227,25 @@ fn look(name: &[u8], file: &[u8], period: usize) {
     print::end();
 }
 
-fn look_all(name: &[u8], file: &[u8], periods: &[u16]) {
+fn look_all(line: &[u8], file: &[u8], periods: &[u16]) {
     let mut i = 0;
     while i < periods.len() {
-        look(name, file, text::wide(periods[i]));
+        look(line, file, text::wide(periods[i]));
         i += 1;
     }
 }
 
 // The file of field 1: read with as many cells as field 2 says, and the periods of field 3 looked up.
-pub fn file(name: &[u8], line: &[u8]) {
+pub fn file(line: &[u8]) {
     let mut file = [0u8; 1700];
     let mut asked = [0u16; 8];
     let mut room = [0u32; 1];
     let n = bytes(text::field(line, 1), &mut file);
     let k = text::amounts(text::field(line, 3), &mut asked);
     text::rates(text::field(line, 2), 1, &mut room);
-    print::text(name);
+    print::text(text::name(line));
     print_fate(read(&file[0..n], text::size(room[0])));
-    look_all(name, &file[0..n], &asked[0..k]);
+    look_all(line, &file[0..n], &asked[0..k]);
 }
 
 // How a file fares: the number of its refusal, 0 where it is read and written to the same bytes, 15 for anything else.
@@ -275,12 +275,12 @@ fn cuts(file: &[u8], counts: &mut [u64; 16]) {
 }
 
 // The file of field 1, cut at every length.
-pub fn cut(name: &[u8], line: &[u8]) {
+pub fn cut(line: &[u8]) {
     let mut file = [0u8; 1700];
     let mut counts = [0u64; 16];
     let n = bytes(text::field(line, 1), &mut file);
     cuts(&file[0..n], &mut counts);
-    print::text(name);
+    print::text(text::name(line));
     print::counts(counts);
     print::end();
 }
@@ -309,12 +309,12 @@ fn changes(file: &mut [u8], counts: &mut [u64; 16]) {
 }
 
 // The file of field 1, with every value at every place.
-pub fn change(name: &[u8], line: &[u8]) {
+pub fn change(line: &[u8]) {
     let mut file = [0u8; 1700];
     let mut counts = [0u64; 16];
     let n = bytes(text::field(line, 1), &mut file);
     changes(&mut file[0..n], &mut counts);
-    print::text(name);
+    print::text(text::name(line));
     print::counts(counts);
     print::end();
 }
@@ -348,7 +348,6 @@ fn write_into(
 
 // The writer, with as many bytes of room as field 6 says, at most 64.
 pub fn write(
-    name: &[u8],
     line: &[u8],
     demand: &[u16],
     capacity: &[u16],
@@ -360,13 +359,13 @@ pub fn write(
     let mut asked = [0u32; 1];
     text::rates(text::field(line, 6), 1, &mut asked);
     let room = text::least(text::size(asked[0]), 64);
-    print::text(name);
+    print::text(text::name(line));
     write_into(demand, capacity, setup, unit, holding, &mut out[0..room]);
 }
 
 // A day's file: how long it is, and what the reader says of it.
 pub fn round(
-    name: &[u8],
+    line: &[u8],
     demand: &[u16],
     capacity: &[u16],
     setup: &[u32],
@@ -374,7 +373,7 @@ pub fn round(
     holding: &[u32],
 ) {
     let mut out = [FILL; 1637];
-    print::text(name);
+    print::text(text::name(line));
     print::text(b" file");
     match dayfile::writer::write(demand, capacity, setup, unit, holding, &mut out) {
         WriteAnswer::Refused(r) => {

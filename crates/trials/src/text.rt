@@ -65,6 +65,23 @@ pub fn field(line: &[u8], k: usize) -> &[u8] {
     &line[from..to]
 }
 
+// The kind of a trial: a line's first word.
+pub fn kind(line: &[u8]) -> &[u8] {
+    let to = find(line, 0, b' ', true);
+    &line[0..to]
+}
+
+// Its name: from there to the first ';'.
+pub fn name(line: &[u8]) -> &[u8] {
+    let to = find(line, 0, b';', true);
+    let space = find(line, 0, b' ', true);
+    if to <= space {
+        return &line[to..to];
+    }
+    let from = space + 1;
+    &line[from..to]
+}
+
 // A digit's value, decimal or hexadecimal.
 pub fn digit(b: u8) -> u64
     ensures { λ r. ⌜ r < 16 ⌝ }

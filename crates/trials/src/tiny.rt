@@ -24,7 +24,7 @@ fn print_best(best: Best, n: usize) {
 
 // What the plain search finds, where the day is tiny.
 pub fn searched(
-    name: &[u8],
+    line: &[u8],
     demand: &[u16],
     capacity: &[u16],
     setup: &[u32],
@@ -34,7 +34,7 @@ pub fn searched(
     if 4 < demand.len() || 8 < paths::total(demand) {
         return;
     }
-    print::text(name);
+    print::text(text::name(line));
     print::text(b" search");
     print_best(
         plain::search(demand, capacity, setup, unit, holding),
@@ -170,13 +170,13 @@ fn named(name: &[u8]) -> Capacities {
 }
 
 // Made-up days with the capacities that the trial is named after: from the seed, and as many, as field 1 says.
-pub fn made_up(name: &[u8], line: &[u8]) {
+pub fn made_up(line: &[u8]) {
     let mut numbers = [0u32; 2];
     let mut counts = [0u64; 16];
     text::rates(text::field(line, 1), 1, &mut numbers);
-    days(named(name), numbers[0], numbers[1], &mut counts);
+    days(named(text::name(line)), numbers[0], numbers[1], &mut counts);
     print::text(b"made-up ");
-    print::text(name);
+    print::text(text::name(line));
     print::text(text::field(line, 1));
     print::number(b" planned ", counts[0]);
     print::number(b" full ", counts[1]);
