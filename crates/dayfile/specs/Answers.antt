@@ -1,44 +1,55 @@
 -- What the calls on day files answer, and what they leave in lent memory; document 01's order of their tests.
--- Main definitions: `Reading`, `Lookup` and `Writing`, the contracts of the calls. Assumes nothing.
+-- Main definitions: `Lookup`, `Reading` and `Writing`, the contracts of the calls. Assumes nothing.
 use mathlib.Core.Path.{_≡_}
 use mathlib.Core.Option.{Option, none, some}
 use mathlib.Core.List.{List, [], _∷_, _++_}
-use Prim.Native.Nat.{ℕ, _+_, _-_, _<_, min}
+use Prim.Native.Nat.{ℕ, _+_, _-_, _≤_, min}
 use lib.ListN.{length, drop}
 use denote.Ref.{RefT, now}
+use denote.Triple.Both.{Both}
 use Rattle.day.specs.Sums.{listOf}
 use Rattle.day.specs.Day.{Day, dayOf}
 use Rattle.day.specs.File.{body, recordAt, number2, number4, periodsIn, walk, noSuchPeriod, field, dayIn, fileOf}
-use Rattle.day.specs.Refusals.{first, badCount, badSlots, badValue, badTables}
+use Rattle.day.specs.Refusals.{first, badCount, badSlots, badValue, tableTests}
 use Rattle.day.specs.declared.Refusal.{Refusal}
 use Rattle.dayfile.specs.declared.ReadAnswer.{ReadAnswer}
 use Rattle.dayfile.specs.declared.ReadAnswer.the-variants.{Refused, Periods}
 use Rattle.dayfile.specs.declared.WriteAnswer.{WriteAnswer}
 use Rattle.dayfile.specs.declared.WriteAnswer.the-variants as Write
 
--- a number and a bound that it keeps
-pub record Below (top v r : ℕ) : Type 0 where
-  pub is : r ≡ v
-  pub low : r < top
+-- a lent table at both moments of a call; five of them as a day, when the call begins and when it ends
+abbrev pub Lent : Type 0
+Lent = Both (RefT (List ℕ)) (RefT (List ℕ))
+
+abbrev pub dayBefore : (demand capacity setup unit holding : Lent) → Day
+dayBefore demand capacity setup unit holding =
+    dayOf (now (demand .entry)) (now (capacity .entry)) (now (setup .entry)) (now (unit .entry)) (now (holding .entry))
+
+abbrev pub dayAfter : (demand capacity setup unit holding : Lent) → Day
+dayAfter demand capacity setup unit holding =
+    dayOf (now (demand .exit)) (now (capacity .exit)) (now (setup .exit)) (now (unit .exit)) (now (holding .exit))
+
+-- each table has at least n cells
+pub record Cells (n : ℕ) (tables : Day) : Type 0 where
+  pub demand : n ≤ length (tables .demand)
+  pub capacity : n ≤ length (tables .capacity)
+  pub setup : n ≤ length (tables .setup)
+  pub unit : n ≤ length (tables .unit)
+  pub holding : n ≤ length (tables .holding)
+
+-- what opens every call on a file: the walk (10, 11, 12), then 1
+abbrev pub fileTests : List ℕ → List (Option Refusal)
+fileTests s = walk s ∷ badCount (periodsIn s) ∷ []
+
+-- a lookup: these, then 13
+abbrev pub badLookup : List ℕ → ℕ → Option Refusal
+badLookup s i = first (fileTests s ++ (noSuchPeriod (periodsIn s) i ∷ []))
 
 -- the body of the record at byte p, as that very part of the file: the same block of memory, so many bytes on
 pub record BodyAt (file : RefT (List ℕ)) (p : ℕ) (r : RefT (List ℕ)) : Type 0 where
   pub bytes : now r ≡ body (now file) p
   pub block : r .ptr .0 ≡ file .ptr .0
   pub offset : r .ptr .1 ≡ file .ptr .1 + (p + 1)
-
--- the first refusal, or the count of periods
-abbrev pub answered : Option Refusal → ℕ → ReadAnswer
-answered none n = Periods n
-answered (some r) n = Refused r
-
--- what opens every call on a file: the walk, 1
-abbrev pub badFile : List ℕ → List (Option Refusal) → List (Option Refusal)
-badFile s rest = walk s ∷ badCount (periodsIn s) ∷ rest
-
--- a lookup: the walk, 1, 13
-abbrev pub badLookup : List ℕ → ℕ → Option Refusal
-badLookup s i = first (badFile s (noSuchPeriod (periodsIn s) i ∷ []))
 
 -- the part handed out for period i, counted from 1: the body of its record, or an empty part where the lookup is refused
 abbrev pub Part : Option Refusal → RefT (List ℕ) → ℕ → RefT (List ℕ) → Type 0
@@ -48,41 +59,42 @@ Part (some refusal) file i r = now r ≡ []
 abbrev pub Lookup : RefT (List ℕ) → ℕ → RefT (List ℕ) → Type 0
 Lookup file i r = Part (badLookup (now file) i) file i r
 
--- a table whose first k cells take f 0, .. f (k - 1), and whose later cells stay
-abbrev pub written : (ℕ → ℕ) → ℕ → List ℕ → List ℕ
-written f k l = listOf f k ++ drop k l
-
--- tables whose first k cells take the numbers of the file's first k periods
-abbrev pub filledTo : List ℕ → ℕ → Day → Day
-filledTo s k tables =
-    dayOf
-    (written (field number2 0 s) k (tables .demand))
-    (written (field number2 2 s) k (tables .capacity))
-    (written (field number4 4 s) k (tables .setup))
-    (written (field number4 8 s) k (tables .unit))
-    (written (field number4 12 s) k (tables .holding))
-
--- and of all its periods
-abbrev pub filled : List ℕ → Day → Day
-filled s tables = filledTo s (periodsIn s) tables
+-- a reading: the file's tests, then 6, 3
+abbrev pub badRead : List ℕ → ℕ → Option Refusal
+badRead s cells = first (fileTests s ++ (badSlots cells (periodsIn s) ∷ badValue (dayIn s) ∷ []))
 
 -- how many cells each table has at least
 abbrev pub shortest : Day → ℕ
 shortest tables =
-    min (length (tables .demand)) (min (length (tables .capacity)) (min (length (tables .setup)) (min (length (tables .unit)) (length (tables .holding)))))
+    min (length (tables .demand))
+    (min (length (tables .capacity)) (min (length (tables .setup)) (min (length (tables .unit)) (length (tables .holding)))))
 
--- a reading: the walk, 1, 6, 3
-abbrev pub badRead : List ℕ → ℕ → Option Refusal
-badRead s cells = first (badFile s (badSlots cells (periodsIn s) ∷ badValue (dayIn s) ∷ []))
+-- a table whose first k cells take f 0, .. f (k - 1), and whose later cells stay
+abbrev pub withFirst : (ℕ → ℕ) → ℕ → List ℕ → List ℕ
+withFirst f k l = listOf f k ++ drop k l
+
+-- tables whose first k cells take the numbers of the file's first k periods
+abbrev pub withPeriods : List ℕ → ℕ → Day → Day
+withPeriods s k tables =
+    dayOf
+    (withFirst (field number2 0 s) k (tables .demand))
+    (withFirst (field number2 2 s) k (tables .capacity))
+    (withFirst (field number4 4 s) k (tables .setup))
+    (withFirst (field number4 8 s) k (tables .unit))
+    (withFirst (field number4 12 s) k (tables .holding))
+
+-- and of all its periods: the file's day at the tables' front
+abbrev pub withDay : List ℕ → Day → Day
+withDay s tables = withPeriods s (periodsIn s) tables
 
 -- refused, no cell changes; accepted, the count of periods is given and their numbers fill the tables' first cells
 abbrev pub Reading : List ℕ → Day → ReadAnswer → Day → Type 0
 Reading s before (Refused r) after = (badRead s (shortest before) ≡ some r) × (after ≡ before)
-Reading s before (Periods n) after = (badRead s (shortest before) ≡ none) × (n ≡ periodsIn s) × (after ≡ filled s before)
+Reading s before (Periods n) after = (badRead s (shortest before) ≡ none) × (n ≡ periodsIn s) × (after ≡ withDay s before)
 
 -- a writing: 1, 2, 3, and 6 where the slice is shorter than the file
 abbrev pub badWrite : Day → ℕ → Option Refusal
-badWrite d room = first (badTables d (badSlots room (length (fileOf d)) ∷ []))
+badWrite d room = first (tableTests d ++ (badSlots room (length (fileOf d)) ∷ []))
 
 -- the file stands at the slice's front, and later bytes stay
 abbrev pub withFile : Day → List ℕ → List ℕ

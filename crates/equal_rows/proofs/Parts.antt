@@ -7,7 +7,7 @@ use native.Mathlib.Omega.{arith}
 use lib.ListN.{length, take, drop, length-drop, length-append, drop-of-length-le}
 use lib.Seq.{length-take-le, drop-at, take-at, take-all}
 use borrow.Rule.Slice.PartMut.{midOf, postOf, putMid}
-use Rattle.equal_rows.specs.Rows.{Sized, rowOf}
+use Rattle.equal_rows.specs.Rows.{Areas, AreasSized, rowOf}
 
 -- the part that came back
 pub put-mid : (a k : ℕ) (xs ys : List ℕ) → a ≤ length xs → length ys ≡ k → midOf a k (putMid a k xs ys) ≡ ys
@@ -27,25 +27,24 @@ mid-end a xs = take-all (length xs - a) (drop a xs) (omega (arith, length-drop a
 pub end-length : (a : ℕ) (xs : List ℕ) → length (midOf a (length xs - a) xs) ≡ length xs - a
 end-length a xs = ap length (mid-end a xs) ∙ length-drop a xs
 
--- few periods, so their square is small
-pub square-small : (n : ℕ) → n ≤ 96 → n * n ≤ 9216
-square-small n h = omega (arith, mul-le-mul {n₁ = n} {m₁ = n} {n₂ = 96} {m₂ = 96} h h)
+module _ (n : ℕ) (a : Areas) (sized : AreasSized n a) where
+  -- the work on the intervals of up to n periods fits past the rows
+  pub states-inside : 2 * n + 1 ≤ length (midOf (n + 1) (length (a .costs) - (n + 1)) (a .costs))
+  states-inside = omega (arith, sized .costs, end-length (n + 1) (a .costs))
 
--- the work on the intervals of up to n periods fits past the rows
-pub past-rows : (n count : ℕ) (costs choices : List ℕ) → Sized n costs choices → count ≤ n
-    → (2 * n + 1 ≤ length (midOf (n + 1) (length costs - (n + 1)) costs)) × (count * (2 * n + 2) ≤ length (midOf (n * n + n) (length choices - (n * n + n)) choices))
-past-rows n count costs choices s h = (
-  omega (arith, s .costs′, end-length (n + 1) costs),
-  omega (arith, s .choices′, end-length (n * n + n) choices, mul-le-mul-right (2 * n + 2) h),
-)
+  pub amounts-inside : (count : ℕ) → count ≤ n → count * (2 * n + 2) ≤ length (midOf (n * n + n) (length (a .choices) - (n * n + n)) (a .choices))
+  amounts-inside count h = omega (arith, sized .choices, end-length (n * n + n) (a .choices), mul-le-mul-right (2 * n + 2) h)
 
--- a row stands in front of the work
-pub row-low : (n l : ℕ) → l ≤ n → l * n + l ≤ n * n + n
-row-low n l h = omega (arith, mul-le-mul-right n h)
+  -- row l is in front of the work, and has as many amounts as periods
+  pub row-inside : (l : ℕ) → l ≤ n → l * n + l ≤ length (a .choices)
+  row-inside l h = omega (arith, mul-le-mul-right n h, sized .choices)
 
--- as many amounts as the row has
-pub row-length : (n l : ℕ) (costs choices : List ℕ) → Sized n costs choices → l ≤ n → length (rowOf n choices l) ≡ l
-row-length n l costs choices s h = length-take-le l (drop (l * n) choices) (omega (arith, length-drop (l * n) choices, s .choices′, row-low n l h))
+  pub row-length : (l : ℕ) → l ≤ n → length (rowOf n a l) ≡ l
+  row-length l h = length-take-le l (drop (l * n) (a .choices)) (omega (arith, length-drop (l * n) (a .choices), row-inside l h))
+
+-- few periods, so the place of a row is a small number
+pub row-low : (n l : ℕ) → n ≤ 96 → l ≤ n → l * n + l ≤ 9312
+row-low n l few h = omega (arith, mul-le-mul {n₁ = l} {m₁ = n} {n₂ = 96} {m₂ = 96} (omega arith) few)
 
 -- a list filled in front, and then from there to its end
 pub front-length : (l : ℕ) (xs ys : List ℕ) → length ys ≡ l → l ≤ length xs → length (putMid 0 (l - 0) xs ys) ≡ length xs

@@ -2,4 +2,4 @@
 pub mod Order
 pub mod Rows
 pub mod Best
-pub mod Problem
+pub mod Consider

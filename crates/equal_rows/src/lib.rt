@@ -1,19 +1,18 @@
 //! The rows of the equal path. Row m is the plan of the first m periods that leaves the inventory empty, with its cost: the first of
 //! row l and an interval from l to m, over l below m. Row m stands in the choice area from m × n on, its cost in cell m of the cost area.
+//! Past the rows stands the work on an interval; what is left there, and in the slots, is free.
 ghost use mathlib.Core.Path.{_≡_};
-ghost use Prim.Native.Nat.{ℕ, _+_, _-_, _*_, _≤_, _<_, _/_, _%_, min};
+ghost use Prim.Native.Nat.{ℕ, _+_, _-_, _*_, _≤_, _<_, min};
 ghost use lib.ListN.{length};
 ghost use Rattle.day.specs.Sums.{at};
-ghost use Rattle.day.specs.Day.{dayOf, demandTo};
-ghost use Rattle.checks.specs.Passed.{Limits};
-ghost use Rattle.theory.specs.Base.{modelOf};
-ghost use Rattle.equal_runs.specs.Bounds.{stageMost};
-ghost use Rattle.equal_runs.specs.Cells.{indexOf};
+ghost use Rattle.equal_runs.specs.States.{indexOf};
+ghost use Rattle.equal_runs.specs.Run.{constantWith};
 ghost use Rattle.equal_rows.specs.Order.{Ordered, Decided};
-ghost use Rattle.equal_rows.specs.Rows.{Split, Sized, Laid, Trial, Candidate};
-ghost use Rattle.equal_rows.specs.Best.{Best, Row};
-ghost use Rattle.equal_rows.specs.Problem.{Problem, Stored, Settled, Considered, Found};
-use equal_runs::Loads;
+ghost use Rattle.equal_rows.specs.Rows.{areas, loadSizes, LoadsSplit, Layable, Laid, Tryable, IntervalTold, CandidateTold};
+ghost use Rattle.equal_rows.specs.Best.{PlanRow};
+ghost use Rattle.equal_rows.specs.Consider.{Keepable, RowStored, RowSettled, Considerable, Considered};
+ghost use Rattle.equal_rows.specs.Consider.{RowsBefore, RowFound, RowsWanted};
+use equal_runs::LoadSizes;
 use equal_runs::NONE;
 use equal_runs::read_back;
 use equal_runs::run;
@@ -62,9 +61,9 @@ fn goes_first(v: u64, x: &[u16], w: u64, y: &[u16]) -> bool
     smaller(x, y)
 }
 
-// The loads of an interval, and the state that it ends in.
-struct Lots {
-    loads: Loads,
+// The fractional load of an interval, and the state that it ends in.
+struct Ending {
+    part: u16,
     top: usize,
 }
 
@@ -80,18 +79,14 @@ fn state_of(j: u64, part: u64) -> usize
 }
 
 // The loads that make `left` in all: as many full ones as it holds, and a fractional load where they leave something.
-fn split(left: u64, full: u16) -> Lots
+fn split(left: u64, full: u16) -> Ending
     requires { ⌜ (0 < full) × (left ≤ full * 96) ⌝ }
-    ensures { λ r. ⌜ Split left full (r .loads) (r .top) ⌝ }
+    ensures { λ r. ⌜ LoadsSplit left full r ⌝ }
 {
     let c = full as u64;
     let rest = left % c;
-    let loads = Loads {
-        full,
+    Ending {
         part: rest as u16,
-    };
-    Lots {
-        loads,
         top: state_of(left / c, rest),
     }
 }
@@ -99,34 +94,44 @@ fn split(left: u64, full: u16) -> Lots
 // The intervals of `count` periods from l on, past the rows.
 fn lay(
     demand: &[u16],
-    capacity: &[u16],
     setup: &[u32],
     unit: &[u32],
     holding: &[u32],
+    full: u16,
+    ending: Ending,
     l: usize,
     count: usize,
-    lots: Lots,
     costs: &mut [u64],
     choices: &mut [u16],
 )
-    requires { ⌜ Limits (dayOf (now demand) (now capacity) (now setup) (now unit) (now holding)) × (l + count ≤ length (now demand)) × (lots .top ≤ 2 * length (now demand) + 1) × Sized (length (now demand)) (now costs) (now choices) ⌝ }
-    ensures { λ _. ⌜ Laid (modelOf (dayOf (now (demand .entry)) (now (capacity .entry)) (now (setup .entry)) (now (unit .entry)) (now (holding .entry)))) (length (now (demand .entry))) l (lots .loads) count (lots .top) (now (costs .entry)) (now (choices .entry)) (now (costs .exit)) (now (choices .exit)) ⌝ }
+    requires { ⌜
+        Layable (constantWith (now demand) full (now setup) (now unit) (now holding))
+        l count (ending .top) (areas (now costs) (now choices))
+        ⌝ }
+    ensures { λ _. ⌜
+        Laid (constantWith (now (demand .entry)) full (now (setup .entry)) (now (unit .entry)) (now (holding .entry)))
+        (loadSizes full (ending .part)) l count (ending .top)
+        (areas (now (costs .entry)) (now (choices .entry)))
+        (areas (now (costs .exit)) (now (choices .exit)))
+        ⌝ }
 {
     let n = demand.len();
-    let loads = lots.loads;
-    let top = lots.top;
+    let sizes = LoadSizes {
+        full,
+        part: ending.part,
+    };
+    let top = ending.top;
     let width = 2 * n + 2;
     let from = n + 1;
     let past = n * n + n;
     run(
         demand,
-        capacity,
         setup,
         unit,
         holding,
         l,
         count,
-        loads,
+        sizes,
         top,
         width,
         &mut costs[from..],
@@ -137,35 +142,42 @@ fn lay(
 // The interval from l that makes `left` in as many periods as there are slots: its amounts, and its cost.
 fn trial(
     demand: &[u16],
-    capacity: &[u16],
     setup: &[u32],
     unit: &[u32],
     holding: &[u32],
+    full: u16,
     l: usize,
     left: u64,
     costs: &mut [u64],
     choices: &mut [u16],
     slots: &mut [u16],
 ) -> u64
-    requires { ⌜ Limits (dayOf (now demand) (now capacity) (now setup) (now unit) (now holding)) × (l + length (now slots) ≤ length (now demand)) × (0 < at (now capacity) 0) × (left ≤ at (now capacity) 0 * length (now demand)) × Sized (length (now demand)) (now costs) (now choices) ⌝ }
-    ensures { λ r. ⌜ Trial (modelOf (dayOf (now (demand .entry)) (now (capacity .entry)) (now (setup .entry)) (now (unit .entry)) (now (holding .entry)))) (length (now (demand .entry))) l (at (now (capacity .entry)) 0) left (now (costs .entry)) (now (choices .entry)) r (now (costs .exit)) (now (choices .exit)) (now (slots .exit)) ⌝ }
+    requires { ⌜
+        Tryable (constantWith (now demand) full (now setup) (now unit) (now holding))
+        full l left (length (now slots)) (areas (now costs) (now choices))
+        ⌝ }
+    ensures { λ r. ⌜
+        IntervalTold (constantWith (now (demand .entry)) full (now (setup .entry)) (now (unit .entry)) (now (holding .entry)))
+        full l left
+        (areas (now (costs .entry)) (now (choices .entry)))
+        r (areas (now (costs .exit)) (now (choices .exit))) (now (slots .exit))
+        ⌝ }
 {
     let n = demand.len();
-    let full = capacity[0];
-    let lots = split(left, full);
+    let ending = split(left, full);
     lay(
         demand,
-        capacity,
         setup,
         unit,
         holding,
+        full,
+        ending,
         l,
         slots.len(),
-        lots,
         costs,
         choices,
     );
-    let top = lots.top;
+    let top = ending.top;
     let past = n * n + n;
     read_back(full, 2 * n + 2, &choices[past..], top, slots);
     costs[n + 1 + top]
@@ -174,28 +186,36 @@ fn trial(
 // Row l, and after it the interval from l that makes `left`: as many periods as there are slots. Its amounts, and its cost.
 fn candidate(
     demand: &[u16],
-    capacity: &[u16],
     setup: &[u32],
     unit: &[u32],
     holding: &[u32],
+    full: u16,
     l: usize,
     left: u64,
     costs: &mut [u64],
     choices: &mut [u16],
     slots: &mut [u16],
 ) -> u64
-    requires { ⌜ Limits (dayOf (now demand) (now capacity) (now setup) (now unit) (now holding)) × (l ≤ length (now slots)) × (length (now slots) ≤ length (now demand)) × (0 < at (now capacity) 0) × (left ≤ at (now capacity) 0 * length (now demand)) × Sized (length (now demand)) (now costs) (now choices) × (at (now costs) l ≤ l * stageMost) ⌝ }
-    ensures { λ r. ⌜ Candidate (modelOf (dayOf (now (demand .entry)) (now (capacity .entry)) (now (setup .entry)) (now (unit .entry)) (now (holding .entry)))) (length (now (demand .entry))) l (at (now (capacity .entry)) 0) left (length (now (slots .entry)) - l) (now (costs .entry)) (now (choices .entry)) r (now (costs .exit)) (now (choices .exit)) (now (slots .exit)) ⌝ }
+    requires { ⌜
+        Considerable (constantWith (now demand) full (now setup) (now unit) (now holding))
+        full l (length (now slots)) left (areas (now costs) (now choices))
+        ⌝ }
+    ensures { λ r. ⌜
+        CandidateTold (constantWith (now (demand .entry)) full (now (setup .entry)) (now (unit .entry)) (now (holding .entry)))
+        full l left (length (now (slots .entry)) - l)
+        (areas (now (costs .entry)) (now (choices .entry)))
+        r (areas (now (costs .exit)) (now (choices .exit))) (now (slots .exit))
+        ⌝ }
 {
     let from = l * demand.len();
     copy(&choices[from..from + l], &mut slots[0..l]);
     let before = costs[l];
     let run = trial(
         demand,
-        capacity,
         setup,
         unit,
         holding,
+        full,
         l,
         left,
         costs,
@@ -207,8 +227,12 @@ fn candidate(
 
 // The amounts in the slots become the row of as many periods, at the cost v.
 fn keep(v: u64, n: usize, slots: &[u16], costs: &mut [u64], choices: &mut [u16])
-    requires { ⌜ (n ≤ 96) × (length (now slots) ≤ n) × Sized n (now costs) (now choices) ⌝ }
-    ensures { λ _. ⌜ Stored n (length (now (slots .entry))) v (now (slots .entry)) (now (costs .entry)) (now (choices .entry)) (now (costs .exit)) (now (choices .exit)) ⌝ }
+    requires { ⌜ Keepable n (length (now slots)) (areas (now costs) (now choices)) ⌝ }
+    ensures { λ _. ⌜
+        RowStored n (length (now (slots .entry))) v (now (slots .entry))
+        (areas (now (costs .entry)) (now (choices .entry)))
+        (areas (now (costs .exit)) (now (choices .exit)))
+        ⌝ }
 {
     let m = slots.len();
     let from = m * n;
@@ -218,8 +242,12 @@ fn keep(v: u64, n: usize, slots: &[u16], costs: &mut [u64], choices: &mut [u16])
 
 // They become it only where they go before what stands there.
 fn settle(v: u64, n: usize, slots: &[u16], costs: &mut [u64], choices: &mut [u16])
-    requires { ⌜ (n ≤ 96) × (length (now slots) ≤ n) × Sized n (now costs) (now choices) ⌝ }
-    ensures { λ _. ⌜ Settled n (length (now (slots .entry))) v (now (slots .entry)) (now (costs .entry)) (now (choices .entry)) (now (costs .exit)) (now (choices .exit)) ⌝ }
+    requires { ⌜ Keepable n (length (now slots)) (areas (now costs) (now choices)) ⌝ }
+    ensures { λ _. ⌜
+        RowSettled n (length (now (slots .entry))) v (now (slots .entry))
+        (areas (now (costs .entry)) (now (choices .entry)))
+        (areas (now (costs .exit)) (now (choices .exit)))
+        ⌝ }
 {
     let m = slots.len();
     let from = m * n;
@@ -231,25 +259,33 @@ fn settle(v: u64, n: usize, slots: &[u16], costs: &mut [u64], choices: &mut [u16
 // The candidate that begins with row l is tried for the row of as many periods as there are slots, and kept where it goes first.
 fn consider(
     demand: &[u16],
-    capacity: &[u16],
     setup: &[u32],
     unit: &[u32],
     holding: &[u32],
+    full: u16,
     l: usize,
     left: u64,
     costs: &mut [u64],
     choices: &mut [u16],
     slots: &mut [u16],
 )
-    requires { ⌜ Problem (dayOf (now demand) (now capacity) (now setup) (now unit) (now holding)) × (l < length (now slots)) × (length (now slots) ≤ length (now demand)) × (left ≡ demandTo (dayOf (now demand) (now capacity) (now setup) (now unit) (now holding)) (length (now slots)) - demandTo (dayOf (now demand) (now capacity) (now setup) (now unit) (now holding)) l) × Sized (length (now demand)) (now costs) (now choices) × Row (modelOf (dayOf (now demand) (now capacity) (now setup) (now unit) (now holding))) (length (now demand)) l (now costs) (now choices) × Best (modelOf (dayOf (now demand) (now capacity) (now setup) (now unit) (now holding))) (at (now capacity) 0) (length (now demand)) (length (now slots)) l (now costs) (now choices) ⌝ }
-    ensures { λ _. ⌜ Considered (dayOf (now (demand .entry)) (now (capacity .entry)) (now (setup .entry)) (now (unit .entry)) (now (holding .entry))) (length (now (slots .entry))) (l + 1) (now (costs .entry)) (now (choices .entry)) (now (costs .exit)) (now (choices .exit)) ⌝ }
+    requires { ⌜
+        Considerable (constantWith (now demand) full (now setup) (now unit) (now holding))
+        full l (length (now slots)) left (areas (now costs) (now choices))
+        ⌝ }
+    ensures { λ _. ⌜
+        Considered (constantWith (now (demand .entry)) full (now (setup .entry)) (now (unit .entry)) (now (holding .entry)))
+        full (length (now (slots .entry))) (l + 1)
+        (areas (now (costs .entry)) (now (choices .entry)))
+        (areas (now (costs .exit)) (now (choices .exit)))
+        ⌝ }
 {
     let v = candidate(
         demand,
-        capacity,
         setup,
         unit,
         holding,
+        full,
         l,
         left,
         costs,
@@ -262,17 +298,25 @@ fn consider(
 // The row of as many periods as there are slots, whose demand is `need`, from the rows before it.
 fn row(
     demand: &[u16],
-    capacity: &[u16],
     setup: &[u32],
     unit: &[u32],
     holding: &[u32],
+    full: u16,
     need: u64,
     costs: &mut [u64],
     choices: &mut [u16],
     slots: &mut [u16],
 )
-    requires { ⌜ Problem (dayOf (now demand) (now capacity) (now setup) (now unit) (now holding)) × (0 < length (now slots)) × (length (now slots) ≤ length (now demand)) × (need ≡ demandTo (dayOf (now demand) (now capacity) (now setup) (now unit) (now holding)) (length (now slots))) × Sized (length (now demand)) (now costs) (now choices) × ((k : ℕ) → k < length (now slots) → Row (modelOf (dayOf (now demand) (now capacity) (now setup) (now unit) (now holding))) (length (now demand)) k (now costs) (now choices)) ⌝ }
-    ensures { λ _. ⌜ Found (dayOf (now (demand .entry)) (now (capacity .entry)) (now (setup .entry)) (now (unit .entry)) (now (holding .entry))) (length (now (slots .entry))) (now (costs .entry)) (now (choices .entry)) (now (costs .exit)) (now (choices .exit)) ⌝ }
+    requires { ⌜
+        RowsBefore (constantWith (now demand) full (now setup) (now unit) (now holding))
+        full (length (now slots)) need (areas (now costs) (now choices))
+        ⌝ }
+    ensures { λ _. ⌜
+        RowFound (constantWith (now (demand .entry)) full (now (setup .entry)) (now (unit .entry)) (now (holding .entry)))
+        (length (now (slots .entry)))
+        (areas (now (costs .entry)) (now (choices .entry)))
+        (areas (now (costs .exit)) (now (choices .exit)))
+        ⌝ }
 {
     let m = slots.len();
     costs[m] = NONE;
@@ -281,10 +325,10 @@ fn row(
     while l < m {
         consider(
             demand,
-            capacity,
             setup,
             unit,
             holding,
+            full,
             l,
             left,
             costs,
@@ -296,19 +340,25 @@ fn row(
     }
 }
 
-// Every row; the last is the plan of the day.
+// Every row, where each period can make a full load; the last is the plan.
 pub fn rows(
     demand: &[u16],
-    capacity: &[u16],
     setup: &[u32],
     unit: &[u32],
     holding: &[u32],
+    full: u16,
     costs: &mut [u64],
     choices: &mut [u16],
     slots: &mut [u16],
 )
-    requires { ⌜ Problem (dayOf (now demand) (now capacity) (now setup) (now unit) (now holding)) × Sized (length (now demand)) (now costs) (now choices) × (length (now slots) ≡ length (now demand)) ⌝ }
-    ensures { λ _. ⌜ Row (modelOf (dayOf (now (demand .entry)) (now (capacity .entry)) (now (setup .entry)) (now (unit .entry)) (now (holding .entry)))) (length (now (demand .entry))) (length (now (demand .entry))) (now (costs .exit)) (now (choices .exit)) ⌝ }
+    requires { ⌜
+        RowsWanted (constantWith (now demand) full (now setup) (now unit) (now holding))
+        full (areas (now costs) (now choices)) (now slots)
+        ⌝ }
+    ensures { λ _. ⌜
+        PlanRow (constantWith (now (demand .entry)) full (now (setup .entry)) (now (unit .entry)) (now (holding .entry)))
+        (length (now (demand .entry))) (areas (now (costs .exit)) (now (choices .exit)))
+        ⌝ }
 {
     costs[0] = 0;
     let mut need: u64 = 0;
@@ -318,10 +368,10 @@ pub fn rows(
         m += 1;
         row(
             demand,
-            capacity,
             setup,
             unit,
             holding,
+            full,
             need,
             costs,
             choices,

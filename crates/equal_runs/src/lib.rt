@@ -2,81 +2,60 @@
 //! load (document 01: the part load) is:
 //! j and d stand at index 2 × j + d of a row of costs.
 ghost use mathlib.Core.Path.{_≡_};
-ghost use Prim.Native.Nat.{ℕ, _+_, _-_, _*_, _≤_, _<_, _/_, _%_};
+ghost use Prim.Native.Nat.{ℕ, _+_, _-_, _*_, _^_, _≤_, _<_, _/_, _%_};
 ghost use lib.ListN.{length};
-ghost use Rattle.day.specs.Sums.{at};
-ghost use Rattle.day.specs.Plan.{making};
+ghost use Rattle.day.specs.Sums.{at, Term};
+ghost use Rattle.theory.specs.Problem.{modelOf};
 ghost use Rattle.theory.specs.Loads.{made};
-ghost use Rattle.equal_runs.specs.Cells.{offerOf, cheaperOf, loadOf, cellOf};
-ghost use Rattle.day.specs.Day.{dayOf};
-ghost use Rattle.checks.specs.Passed.{Limits};
-ghost use Rattle.theory.specs.Base.{modelOf};
-ghost use Rattle.equal_runs.specs.Fill.{Filled, Advanced};
-ghost use Rattle.equal_runs.specs.Run.{Read, Ran, startOf, stepOf, backOf};
-ghost use Rattle.equal_runs.specs.Bounds.{productMost, stockMost, rowMost};
+ghost use Rattle.equal_runs.specs.Bounds.{stockMost, rowMost};
+ghost use Rattle.equal_runs.specs.States.{offerOf, cheaperOf, loadOf, stateBy, periodOf};
+ghost use Rattle.equal_runs.specs.Fill.{RowFilled, RowLow, Advanced};
+ghost use Rattle.equal_runs.specs.Run.{Runnable, Ran, constantWith, startOf, stepOf, backOf};
 
 // A number above every cost: what can't be reached costs this or more.
-pub const NONE: u64 = 6000000000000000000;
+pub const NONE: u64 = 7000000000000000000;
 
 // What an interval's periods make: nothing, a full load, or the fractional load, which is less.
-pub struct Loads {
+pub struct LoadSizes {
     pub full: u16,
     pub part: u16,
 }
 
 // A period of an interval: its costs, and what the interval must have made by its end.
-pub struct Period {
+pub struct RunPeriod {
     pub setup: u32,
     pub unit: u32,
     pub holding: u32,
     pub due: u64,
 }
 
-// The cost of a state after some periods, and what the last of them makes.
-pub struct Cell {
+// What a state costs after some periods, and what the last of them makes.
+pub struct RunState {
     pub cost: u64,
     pub amount: u16,
 }
 
-// A cost for each of some units.
-fn times(rate: u32, units: u64) -> u64
-    requires { ⌜ units ≤ stockMost ⌝ }
-    ensures { λ r. ⌜ (r ≡ rate * units) × (r ≤ productMost) ⌝ }
-{
-    rate as u64 * units
-}
-
 // What j full loads and d fractional loads make.
-fn made_by(loads: Loads, j: u64, d: u64) -> u64
+fn made_by(sizes: LoadSizes, j: u64, d: u64) -> u64
     requires { ⌜ (j ≤ 96) × (d ≤ 1) ⌝ }
-    ensures { λ r. ⌜ (r ≡ made (loads .full) (loads .part) j d) × (r ≤ stockMost) ⌝ }
+    ensures { λ r. ⌜ Term (made (sizes .full) (sizes .part) j d) stockMost r ⌝ }
 {
-    j * loads.full as u64 + d * loads.part as u64
-}
-
-// The cost of making x.
-fn production(p: Period, x: u16) -> u64
-    ensures { λ r. ⌜ (r ≡ making (p .setup) (p .unit) x) × (r ≤ p .setup + productMost) ⌝ }
-{
-    if x == 0 {
-        return 0;
-    }
-    p.setup as u64 + times(p.unit, x as u64)
+    j * sizes.full as u64 + d * sizes.part as u64
 }
 
 // To make x after a state that cost `before`, where it costs `hold` to hold what is then in inventory.
-fn offer(p: Period, before: u64, x: u16, hold: u64) -> Cell
-    requires { ⌜ (before ≤ rowMost) × (hold ≤ productMost) ⌝ }
+fn offer(p: RunPeriod, before: u64, x: u16, hold: u64) -> RunState
+    requires { ⌜ (before ≤ rowMost) × (hold ≤ 2 ^ 56) ⌝ }
     ensures { λ r. ⌜ r ≡ offerOf p before x hold ⌝ }
 {
-    Cell {
-        cost: before + (production(p, x) + hold),
+    RunState {
+        cost: before + (terms::making_cost(p.setup, p.unit, x as u64) + hold),
         amount: x,
     }
 }
 
 // The second only if it is cheaper.
-fn cheaper(a: Cell, b: Cell) -> Cell
+fn cheaper(a: RunState, b: RunState) -> RunState
     ensures { λ r. ⌜ r ≡ cheaperOf a b ⌝ }
 {
     if b.cost < a.cost { b } else { a }
@@ -84,16 +63,16 @@ fn cheaper(a: Cell, b: Cell) -> Cell
 
 // A load is tried where the state at s has n of it; the state without one stands `step` before s.
 fn with_load(
-    p: Period,
+    p: RunPeriod,
     row: &[u64],
     s: usize,
     step: usize,
     n: usize,
     load: u16,
     hold: u64,
-    best: Cell,
-) -> Cell
-    requires { ⌜ (s < length (now row)) × (0 < n → step ≤ s) × (at (now row) (s - step) ≤ rowMost) × (hold ≤ productMost) ⌝ }
+    best: RunState,
+) -> RunState
+    requires { ⌜ RowLow (now row) s × (0 < n → step ≤ s) × (hold ≤ 2 ^ 56) ⌝ }
     ensures { λ r. ⌜ r ≡ loadOf p (at (now (row .entry))) s step n load hold best ⌝ }
 {
     if 0 < n {
@@ -103,42 +82,53 @@ fn with_load(
 }
 
 // State j and d after a period, from the row before it.
-fn state_after(p: Period, loads: Loads, row: &[u64], j: usize, d: usize) -> Cell
-    requires { ⌜ (2 * j + d < length (now row)) × (j ≤ 96) × (d ≤ 1) × ((s : ℕ) → s ≤ 2 * j + d → at (now row) s ≤ rowMost) ⌝ }
-    ensures { λ r. ⌜ r ≡ cellOf p loads (at (now (row .entry))) j d ⌝ }
+fn state_after(p: RunPeriod, sizes: LoadSizes, row: &[u64], j: usize, d: usize) -> RunState
+    requires { ⌜ RowLow (now row) (2 * j + d) × (j ≤ 96) × (d ≤ 1) ⌝ }
+    ensures { λ r. ⌜ r ≡ stateBy p sizes (at (now (row .entry))) j d ⌝ }
 {
-    let sum = made_by(loads, j as u64, d as u64);
+    let sum = made_by(sizes, j as u64, d as u64);
     if sum < p.due {
-        return Cell {
+        return RunState {
             cost: NONE,
             amount: 0,
         };
     }
-    let hold = times(p.holding, sum - p.due);
+    let hold = terms::holding_cost(p.holding, sum - p.due);
     let s = 2 * j + d;
     let stay = offer(p, row[s], 0, hold);
-    let best = with_load(p, row, s, 1, d, loads.part, hold, stay);
-    with_load(p, row, s, 2, j, loads.full, hold, best)
+    let best = with_load(p, row, s, 1, d, sizes.part, hold, stay);
+    with_load(p, row, s, 2, j, sizes.full, hold, best)
 }
 
 // One period more: the row after it, over the row before it, from its end; what the period makes goes to `picks`, from `base` on.
-fn advance(p: Period, loads: Loads, top: usize, row: &mut [u64], base: usize, picks: &mut [u16])
-    requires { ⌜ (top < length (now row)) × (top ≤ 193) × (base + top < length (now picks)) × ((s : ℕ) → s ≤ top → at (now row) s ≤ rowMost) ⌝ }
-    ensures { λ _. ⌜ Advanced p loads 0 top (now (row .entry)) (now (row .exit)) base (now (picks .entry)) (now (picks .exit)) ⌝ }
+fn advance(
+    p: RunPeriod,
+    sizes: LoadSizes,
+    top: usize,
+    row: &mut [u64],
+    base: usize,
+    picks: &mut [u16],
+)
+    requires { ⌜ RowLow (now row) top × (top ≤ 193) × (base + top < length (now picks)) ⌝ }
+    ensures { λ _.
+        ⌜
+        Advanced p sizes 0 top (now (row .entry)) (now (row .exit)) base (now (picks .entry))
+        (now (picks .exit))
+        ⌝ }
 {
     let mut s = top + 1;
     while 0 < s {
         s -= 1;
-        let cell = state_after(p, loads, row, s / 2, s % 2);
-        row[s] = cell.cost;
-        picks[base + s] = cell.amount;
+        let state = state_after(p, sizes, row, s / 2, s % 2);
+        row[s] = state.cost;
+        picks[base + s] = state.amount;
     }
 }
 
 // The row before the first period.
 fn start(top: usize, row: &mut [u64])
     requires { ⌜ top < length (now row) ⌝ }
-    ensures { λ _. ⌜ Filled (now (row .entry)) (now (row .exit)) 0 startOf 0 top ⌝ }
+    ensures { λ _. ⌜ RowFilled (now (row .entry)) (now (row .exit)) 0 startOf 0 top ⌝ }
 {
     let mut s = top + 1;
     while 1 < s {
@@ -149,11 +139,11 @@ fn start(top: usize, row: &mut [u64])
 }
 
 // Period i, in an interval that must have made `due` by its end.
-fn period_at(setup: &[u32], unit: &[u32], holding: &[u32], i: usize, due: u64) -> Period
+fn period_at(setup: &[u32], unit: &[u32], holding: &[u32], i: usize, due: u64) -> RunPeriod
     requires { ⌜ (i < length (now setup)) × (i < length (now unit)) × (i < length (now holding)) ⌝ }
-    ensures { λ r. ⌜ Read (now (setup .entry)) (now (unit .entry)) (now (holding .entry)) i due r ⌝ }
+    ensures { λ r. ⌜ r ≡ periodOf (now (setup .entry)) (now (unit .entry)) (now (holding .entry)) i due ⌝ }
 {
-    Period {
+    RunPeriod {
         setup: setup[i],
         unit: unit[i],
         holding: holding[i],
@@ -161,23 +151,32 @@ fn period_at(setup: &[u32], unit: &[u32], holding: &[u32], i: usize, due: u64) -
     }
 }
 
-// The intervals of `count` periods from l on: their costs by the states up to `top`, and what each period makes, from its number times `width` on.
+// The intervals of `count` periods from l on, where a full load is what each period can make: their costs by the states up to `top`, and what each
+// period makes, from its number times `width` on.
+// Cells past these are left as they come: free.
 pub fn run(
     demand: &[u16],
-    capacity: &[u16],
     setup: &[u32],
     unit: &[u32],
     holding: &[u32],
     l: usize,
     count: usize,
-    loads: Loads,
+    sizes: LoadSizes,
     top: usize,
     width: usize,
     row: &mut [u64],
     picks: &mut [u16],
 )
-    requires { ⌜ Limits (dayOf (now demand) (now capacity) (now setup) (now unit) (now holding)) × (l + count ≤ length (now demand)) × (top ≤ 193) × (top < width) × (top < length (now row)) × (count * width ≤ length (now picks)) ⌝ }
-    ensures { λ _. ⌜ Ran (modelOf (dayOf (now (demand .entry)) (now (capacity .entry)) (now (setup .entry)) (now (unit .entry)) (now (holding .entry)))) l loads count top width (now (row .exit)) (now (picks .exit)) ⌝ }
+    requires { ⌜
+        Runnable (now demand) (now setup) (now unit) (now holding) l count top width
+        (now row) (now picks)
+        ⌝ }
+    ensures { λ _.
+        ⌜
+        Ran
+        (modelOf (constantWith (now (demand .entry)) (sizes .full) (now (setup .entry)) (now (unit .entry)) (now (holding .entry))))
+        l sizes count top width (now (row .exit)) (now (picks .exit))
+        ⌝ }
 {
     start(top, row);
     let mut k: usize = 0;
@@ -187,7 +186,7 @@ pub fn run(
         let i = l + k;
         due += demand[i] as u64;
         let p = period_at(setup, unit, holding, i, due);
-        advance(p, loads, top, row, base, picks);
+        advance(p, sizes, top, row, base, picks);
         base += width;
         k += 1;
     }
@@ -216,7 +215,8 @@ fn before(full: u16, x: u16, s: usize) -> usize
 // The interval that leads to the state at s, as many periods as there are slots.
 pub fn read_back(full: u16, width: usize, picks: &[u16], s: usize, slots: &mut [u16])
     requires { ⌜ (s < width) × (length (now slots) * width ≤ length (now picks)) ⌝ }
-    ensures { λ _. ⌜ now (slots .exit) ≡ backOf full width (now (picks .entry)) (length (now (slots .entry))) s ⌝ }
+    ensures { λ _.
+        ⌜ now (slots .exit) ≡ backOf full width (now (picks .entry)) (length (now (slots .entry))) s ⌝ }
 {
     let mut k = slots.len();
     let mut base = k * width;

@@ -12,7 +12,7 @@ fn save(
     holding: &[u32],
 ) {
     let mut file = [0u8; 1635];
-    let answer = dayfile::writer::write(demand, capacity, setup, unit, holding, &mut file);
+    let answer = dayfile_writer::write(demand, capacity, setup, unit, holding, &mut file);
     let WriteAnswer::Bytes(n) = answer else {
         io::write_all(STDOUT_FILENO, b"refused ");
         io::write_all(STDOUT_FILENO, name);

@@ -1,51 +1,35 @@
 -- What the row step's functions compute, in plain variables.
 -- Assumes nothing.
-use mathlib.Core.Path.{_≡_, refl, sym, ap, _∙_}
+use mathlib.Core.Path.{_≡_, refl, ap, _∙_}
 use mathlib.Core.List.{List}
-use Prim.Native.Nat.{ℕ, zero, suc, _+_, _-_, _*_, _≤_, _<_}
+use Prim.Native.Nat.{ℕ, suc, _+_, _-_, _≤_, _<_}
 use native.Mathlib.Decide.{decLt}
 use native.Mathlib.Numerals.{add-one}
 use native.Mathlib.Omega.{arith}
 use lib.ListN.{length, set, length-set}
 use lib.Seq.{getD-set-same, getD-set-other}
 use Rattle.day.specs.Sums.{at, below}
-use Rattle.day.specs.Day.{maxSetup}
-use Rattle.day.specs.Plan.{making}
-use Rattle.theory.specs.Basics.{pick, pick-yes, pick-no}
+use Rattle.theory.specs.Basics.{pick}
 use Rattle.theory.specs.Cheapest.{cheapest}
 use Rattle.theory.specs.Full.{lowest, highest, rowPrice, rowAmount, rowCost}
-use Rattle.full_rows.specs.Row.{Worth, maxProduct, maxMaking, maxCost, stageIn, rowAt, choiceOf, bestOf, cellOf, Small, Open, After, Ready, Stepped}
-use Rattle.full_rows.specs.Laws.{Reached, Limited, amount-between, amount-ext, cost-ext, price-small}
+use Rattle.full_rows.specs.Row.{maxCost, stageIn, rowAt, choiceOf, bestOf, cellOf, Small, Open, After, RowReady, Stepped}
+use Rattle.full_rows.specs.Laws.{InReach, Limited, amount-between, amount-ext, cost-ext, price-small}
 use Rattle.full_rows.specs.declared.Stage.{Stage}
 use Rattle.full_rows.specs.declared.Choice.{Choice}
 use Rattle.full_rows.specs.declared.Cell.{Cell}
 
-pub is-cheaper : (a b : Choice) → b .price < a .price → b ≡ pick (decLt (b .price) (a .price)) b a
-is-cheaper a b h = sym (pick-yes (decLt (b .price) (a .price)) b a h)
-
-pub not-cheaper : (a b : Choice) → a .price ≤ b .price → a ≡ pick (decLt (b .price) (a .price)) b a
-not-cheaper a b h = sym (pick-no (decLt (b .price) (a .price)) b a (λ l. omega arith))
-
-pub making-some : (b p x r : ℕ) → (x ≡ 0 → ⊥) → b ≤ maxSetup → Worth (p * x) maxProduct r → Worth (making b p x) maxMaking (b + r)
-making-some b p zero r h l w = absurd (h refl)
-making-some b p (suc x) r h l w = record { is = omega (arith, w .is); small = omega (arith, w .small) }
-
-pub choice-is : (s : Stage) (row : ℕ → ℕ) (X v r : ℕ) → r ≡ making (s .setup) (s .unit) v
-    → _≡_ {A = Choice} (record { amount = v; price = row (X - v) + r }) (choiceOf s row X v)
-choice-is s row X v r e = rw e refl
-
 -- the scan after j amounts more than the lowest
-pub record Scanned (s : Stage) (row : ℕ → ℕ) (X lo count j : ℕ) (best : Choice) : Type 0 where
-  pub inside : j ≤ count
+pub record Scanned (s : Stage) (row : ℕ → ℕ) (X lo more j : ℕ) (best : Choice) : Type 0 where
+  pub inside : j ≤ more
   pub is : best ≡ choiceOf s row X (lo + cheapest (λ k. rowPrice (stageIn s) row X (lo + k)) j)
 
 module _ {s : Stage} {row : ℕ → ℕ} {X lo : ℕ} where
-  pub scanned-none : (count : ℕ) (best : Choice) → best ≡ choiceOf s row X lo → Scanned s row X lo count 0 best
-  scanned-none count best e = record { inside = omega arith; is = e ∙ ap (choiceOf s row X) (omega arith) }
+  pub scanned-none : (more : ℕ) (best : Choice) → best ≡ choiceOf s row X lo → Scanned s row X lo more 0 best
+  scanned-none more best e = record { inside = omega arith; is = e ∙ ap (choiceOf s row X) (omega arith) }
 
-  pub scanned-more : {count j : ℕ} {best : Choice} (next r : Choice) → Scanned s row X lo count j best → j < count
-      → next ≡ choiceOf s row X (lo + (j + 1)) → r ≡ pick (decLt (next .price) (best .price)) next best → Scanned s row X lo count (j + 1) r
-  scanned-more {count} {j} next r c l f g =
+  pub scanned-more : {more j : ℕ} {best : Choice} (next r : Choice) → Scanned s row X lo more j best → j < more
+      → next ≡ choiceOf s row X (lo + (j + 1)) → r ≡ pick (decLt (next .price) (best .price)) next best → Scanned s row X lo more (j + 1) r
+  scanned-more {more} {j} next r c l f g =
       let e = c .is in
       record { inside = omega arith; is = g ∙ rw (e, f, add-one) (go (decLt (price (suc j)) (price (cheapest price j)))) }
     where
@@ -53,22 +37,19 @@ module _ {s : Stage} {row : ℕ → ℕ} {X lo : ℕ} where
       price k = rowPrice (stageIn s) row X (lo + k)
 
       go : (d : Dec (price (suc j) < price (cheapest price j)))
-          → pick d (choiceOf s row X (lo + suc j)) (choiceOf s row X (lo + cheapest price j)) ≡ choiceOf s row X (lo + pick d (suc j) (cheapest price j))
+          → pick d (choiceOf s row X (lo + suc j)) (choiceOf s row X (lo + cheapest price j))
+          ≡ choiceOf s row X (lo + pick d (suc j) (cheapest price j))
       go (yes _) = refl
       go (no _) = refl
 
-  pub scanned-all : {count j : ℕ} {best : Choice} → Scanned s row X lo count j best → count ≤ j
-      → lo ≡ lowest (stageIn s) X → count ≡ highest (stageIn s) X - lo → best ≡ bestOf s row X
-  scanned-all {count} {j} c l e f =
+  pub scanned-all : {more j : ℕ} {best : Choice} → Scanned s row X lo more j best → more ≤ j
+      → lo ≡ lowest (stageIn s) X → more ≡ highest (stageIn s) X - lo → best ≡ bestOf s row X
+  scanned-all {more} {j} c l e f =
       let q : j ≡ highest (stageIn s) X - lowest (stageIn s) X = omega (arith, c .inside) in
       rw (q, e) at (c .is)
 
-pub cell-is : (s : Stage) (b : Choice) (X : ℕ) {r : ℕ} → Worth (s .holding * (X - s .floor)) maxProduct r
-    → _≡_ {A = Cell} (record { cost = b .price + r; amount = b .amount }) (cellOf s b X)
-cell-is s b X w = let f = w .is in rw f refl
-
 module _ {s : Stage} {costs : List ℕ} {from X : ℕ} (o : Open s costs from) (a : After s X) where
-  reached : Reached (stageIn s) X
+  reached : InReach (stageIn s) X
   reached =
       let b = o .bounded in
       record { some = b .some; rises = omega (arith, b .rises, a .0); near = omega (arith, b .reached, a .1) }
@@ -84,7 +65,6 @@ module _ {s : Stage} {costs : List ℕ} {from X : ℕ} (o : Open s costs from) (
       (record {
         price = price-small (stageIn s) X reached (rowAt costs from) maxCost (λ Y h. o .cheap Y (h .0) (h .1)) limited;
         amount = omega (arith, amount-between (stageIn s) X reached (rowAt costs from) .1, limited .total);
-        holding = limited .holding;
         begun = a .0;
         total = limited .total;
       })
@@ -112,7 +92,7 @@ stepping-none e =
       kept = λ k l. refl;
     }
 
-module _ {s : Stage} {costs : List ℕ} {from to : ℕ} {choices : List ℕ} {base : ℕ} (r : Ready s costs from to choices base) where
+module _ {s : Stage} {costs : List ℕ} {from to : ℕ} {choices : List ℕ} {base : ℕ} (r : RowReady s costs from to choices base) where
   pub stepping-open : {costs′ choices′ : List ℕ} {X : ℕ} → Stepping s costs from to costs′ choices base choices′ X → Open s costs′ from
   stepping-open c =
       let o = r .opened in
@@ -124,7 +104,8 @@ module _ {s : Stage} {costs : List ℕ} {from to : ℕ} {choices : List ℕ} {ba
 
   -- cells past the row of choices are free
   pub stepping-free : {costs′ choices′ choices″ : List ℕ} {X : ℕ} → Stepping s costs from to costs′ choices base choices′ X
-      → length choices″ ≡ length choices′ → ((k : ℕ) → k ≤ base + s .top → at choices″ k ≡ at choices′ k) → Stepping s costs from to costs′ choices base choices″ X
+      → length choices″ ≡ length choices′ → ((k : ℕ) → k ≤ base + s .top → at choices″ k ≡ at choices′ k)
+      → Stepping s costs from to costs′ choices base choices″ X
   stepping-free c e f =
       record {
         begun = c .begun;
@@ -147,10 +128,16 @@ module _ {s : Stage} {costs : List ℕ} {from to : ℕ} {choices : List ℕ} {ba
         row = λ Y h. getD-set-other costs′ (to + X) (from + Y) (cell .cost) 0 (r .apart Y X h l) ∙ c .row Y h;
         cost = rw add-one (below (λ (Y : ℕ). After s Y → rowAt next to Y ≡ rowCost (stageIn s) (rowAt costs from) Y) X
             (λ Y h a. getD-set-other costs′ (to + X) (to + Y) (cell .cost) 0 (λ q. omega arith) ∙ c .cost Y h a)
-            (λ a. getD-set-same costs′ (to + X) (cell .cost) 0 (omega (arith, c .costCells, r .costCells)) ∙ ap (λ (k : Cell). k .cost) e ∙ cost-ext (stageIn s) X here (rowAt costs′ from) (rowAt costs from) same));
+            (λ a.
+            getD-set-same costs′ (to + X) (cell .cost) 0 (omega (arith, c .costCells, r .costCells))
+            ∙ ap (λ (k : Cell). k .cost) e
+            ∙ cost-ext (stageIn s) X here (rowAt costs′ from) (rowAt costs from) same));
         amount = rw add-one (below (λ (Y : ℕ). After s Y → at next′ (base + Y) ≡ rowAmount (stageIn s) (rowAt costs from) Y) X
             (λ Y h a. getD-set-other choices′ (base + X) (base + Y) (cell .amount) 0 (λ q. omega arith) ∙ c .amount Y h a)
-            (λ a. getD-set-same choices′ (base + X) (cell .amount) 0 (omega (arith, c .choiceCells, r .choiceCells)) ∙ ap (λ (k : Cell). k .amount) e ∙ amount-ext (stageIn s) X here (rowAt costs′ from) (rowAt costs from) same));
+            (λ a.
+            getD-set-same choices′ (base + X) (cell .amount) 0 (omega (arith, c .choiceCells, r .choiceCells))
+            ∙ ap (λ (k : Cell). k .amount) e
+            ∙ amount-ext (stageIn s) X here (rowAt costs′ from) (rowAt costs from) same));
         kept = λ k h. getD-set-other choices′ (base + X) k (cell .amount) 0 (λ q. omega arith) ∙ c .kept k h;
       }
     where
@@ -160,7 +147,7 @@ module _ {s : Stage} {costs : List ℕ} {from to : ℕ} {choices : List ℕ} {ba
       next′ : List ℕ
       next′ = set choices′ (base + X) (cell .amount)
 
-      here : Reached (stageIn s) X
+      here : InReach (stageIn s) X
       here = reached (r .opened) (c .begun, l)
 
       same : (Y : ℕ) → (s .low ≤ Y) × (Y ≤ s .high) → rowAt costs′ from Y ≡ rowAt costs from Y

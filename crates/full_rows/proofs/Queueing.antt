@@ -16,18 +16,19 @@ use Rattle.full_rows.specs.declared.Stage.{Stage}
 use Rattle.full_rows.specs.declared.Choice.{Choice}
 use Rattle.full_rows.specs.declared.Cell.{Cell}
 use Rattle.full_rows.specs.declared.Next.{Next}
-use Rattle.full_rows.specs.Row.{rowAt, choiceOf, bestOf, cellOf, Bounded, Open, After, Leads, Ready, Stepped}
-use Rattle.full_rows.specs.Queue.{keyOf, Entry, Queue, Window, Found, Below, Trimmed, Dearer, Outdone, Room, Entered, Scratch, Queued}
+use Rattle.full_rows.specs.Row.{rowAt, choiceOf, bestOf, cellOf, StageBounded, Open, After, LeadsTo, RowReady, Stepped}
+use Rattle.full_rows.specs.Queue.{keyOf, Entry, Queue, Window, CellFound, Dropped, Trimmed, Dearer, Outdone}
+use Rattle.full_rows.specs.Queue.{QueueRoom, Entered, Scratch, Queued}
 use Rattle.full_rows.specs.Moves.{queue-none, queue-later, queue-ext, queue-enter, queue-trim}
 use Rattle.full_rows.specs.Head.{best-either}
 use Rattle.full_rows.proofs.Laws.{Stepping, stepping-none, stepping-open, stepping-free, stepping-more, stepping-all}
 
 -- what leaves at the head
 module _ {cells : List ℕ} {least head tail first : ℕ} where
-  pub below-none : head ≤ tail → first ≡ head → Below cells least head tail first
+  pub below-none : head ≤ tail → first ≡ head → Dropped cells least head tail first
   below-none l e = record { from = omega arith; to = omega arith; gone = λ i a b. absurd (omega arith) }
 
-  pub below-more : Below cells least head tail first → first < tail → at cells first < least → Below cells least head tail (first + 1)
+  pub below-more : Dropped cells least head tail first → first < tail → at cells first < least → Dropped cells least head tail (first + 1)
   below-more t l h =
       record {
         from = omega (arith, t .from);
@@ -35,10 +36,10 @@ module _ {cells : List ℕ} {least head tail first : ℕ} where
         gone = rw add-one (below (λ (i : ℕ). head ≤ i → at cells i < least) first (t .gone) (λ _. h));
       }
 
-  pub trimmed-found : Below cells least head tail first → least ≤ at cells first → Trimmed cells least head tail first
+  pub trimmed-found : Dropped cells least head tail first → least ≤ at cells first → Trimmed cells least head tail first
   trimmed-found t h = record { passed = t; stays = λ _. h }
 
-  pub trimmed-all : Below cells least head tail first → tail ≤ first → Trimmed cells least head tail first
+  pub trimmed-all : Dropped cells least head tail first → tail ≤ first → Trimmed cells least head tail first
   trimmed-all t h = record { passed = t; stays = λ l. absurd (omega arith) }
 
 -- what leaves at the back, where Y enters
@@ -46,7 +47,8 @@ module _ {s : Stage} {row : ℕ → ℕ} {cells : List ℕ} {Y head tail end : �
   pub dearer-none : head ≤ tail → end ≡ tail → Dearer s row cells Y head tail end
   dearer-none l e = record { from = omega arith; to = omega arith; gone = λ i a b. absurd (omega arith) }
 
-  module _ {limit k : ℕ} (o : Dearer s row cells Y head tail end) (l : head < end) (f : limit ≡ keyOf s row Y) (g : k ≡ keyOf s row (at cells (end - 1))) where
+  module _ {limit k : ℕ} (o : Dearer s row cells Y head tail end) (l : head < end)
+      (f : limit ≡ keyOf s row Y) (g : k ≡ keyOf s row (at cells (end - 1))) where
     pub dearer-more : limit ≤ k → Dearer s row cells Y head tail (end - 1)
     dearer-more h =
         record {
@@ -70,14 +72,14 @@ module _ {s : Stage} {row : ℕ → ℕ} {cells : List ℕ} {Y head tail end : �
   outdone-all o h = record { passed = o; stays = λ i a b. absurd (omega arith) }
 
 -- how a total enters
-pub room-entry : {s : Stage} {cells : List ℕ} {X tail : ℕ} (Z : ℕ) → Room s cells tail X → X ≤ s .high → X < Z → Entry s Z X
+pub room-entry : {s : Stage} {cells : List ℕ} {X tail : ℕ} (Z : ℕ) → QueueRoom s cells tail X → X ≤ s .high → X < Z → Entry s Z X
 room-entry Z r h l = record { low = r .low; high = h; below = l }
 
 module _ {s : Stage} {row : ℕ → ℕ} {cells : List ℕ} {X head tail : ℕ} where
   pub entered-not : Queue s row cells X head tail → s .high < X → Entered s row cells X head tail cells tail
   entered-not q h = record { queue = queue-later (X + 1) (omega arith) (omega arith) q; few = omega arith; kept = λ k l. refl }
 
-  pub entered : {r : ℕ} → Queue s row cells X head tail → Room s cells tail X → X ≤ s .high → Outdone s row cells X head tail r
+  pub entered : {r : ℕ} → Queue s row cells X head tail → QueueRoom s cells tail X → X ≤ s .high → Outdone s row cells X head tail r
       → Entered s row cells X head tail (set cells r X) (r + 1)
   entered {r} q m h o =
       let p = o .passed in
@@ -95,7 +97,7 @@ pub record Queuing (s : Stage) (row : ℕ → ℕ) (cells : List ℕ) (start unt
   pub inside : X ≤ until
 
 module _ {s : Stage} {row : ℕ → ℕ} {cells : List ℕ} {start until : ℕ} where
-  pub queuing-none : Bounded s → until ≡ min (s .floor) (s .high + 1) → Queuing s row cells start until (s .low) cells start
+  pub queuing-none : StageBounded s → until ≡ min (s .floor) (s .high + 1) → Queuing s row cells start until (s .low) cells start
   queuing-none b e =
       record {
         queued = record { queue = queue-none cells start; few = omega arith; kept = λ k l. refl };
@@ -106,7 +108,7 @@ module _ {s : Stage} {row : ℕ → ℕ} {cells : List ℕ} {start until : ℕ} 
 
   module _ {X : ℕ} {cells′ : List ℕ} {tail : ℕ} where
     pub queuing-room : Scratch s cells start → until ≡ min (s .floor) (s .high + 1) → Queuing s row cells start until X cells′ tail → X < until
-        → Room s cells′ tail X
+        → QueueRoom s cells′ tail X
     queuing-room h e o l =
         record {
           low = o .begun;
@@ -140,15 +142,16 @@ module _ {s : Stage} {row : ℕ → ℕ} {cells : List ℕ} {start until : ℕ} 
 
 -- the amounts that the queue proposes for X lead to it
 module _ {s : Stage} {X : ℕ} where
-  pub leads-none : Bounded s → After s X → X ≤ s .high → Leads s X 0
+  pub leads-none : StageBounded s → After s X → X ≤ s .high → LeadsTo s X 0
   leads-none b a h = record { rest = omega (arith, b .rises, a .0); enough = omega arith; under = a .1 }
 
-  pub leads-head : {row : ℕ → ℕ} {cells : List ℕ} {head tail : ℕ} → After s X → Window s row cells X head tail → head < tail → Leads s X (X - at cells head)
+  pub leads-head : {row : ℕ → ℕ} {cells : List ℕ} {head tail : ℕ} → After s X → Window s row cells X head tail → head < tail
+      → LeadsTo s X (X - at cells head)
   leads-head {row} {cells} {head} a w l =
       let i = w .queue .entries head (omega arith) l in
       record { rest = omega (arith, i .low, i .below); enough = omega (arith, i .high); under = a .1 }
 
-  pub best-of : {row : ℕ → ℕ} {cells : List ℕ} {head tail : ℕ} {none some r : Choice} → Bounded s → After s X → Window s row cells X head tail
+  pub best-of : {row : ℕ → ℕ} {cells : List ℕ} {head tail : ℕ} {none some r : Choice} → StageBounded s → After s X → Window s row cells X head tail
       → head < tail → X ≤ s .high → none ≡ choiceOf s row X 0 → some ≡ choiceOf s row X (X - at cells head)
       → r ≡ pick (decLt (some .price) (none .price)) some none → r ≡ bestOf s row X
   best-of b a w l h e f g = g ∙ rw (e, f) (best-either b a w l h)
@@ -156,13 +159,13 @@ module _ {s : Stage} {X : ℕ} where
 -- one turn of the row's loop
 pub found : {s : Stage} {row : ℕ → ℕ} {cells : List ℕ} {X least head tail h : ℕ} {best : Choice} {cell : Cell} → Queue s row cells X head tail
     → least ≡ X - s .capacity → Trimmed cells least head tail h → best ≡ bestOf s row X → cell ≡ cellOf s best X
-    → Found s row cells X head tail (record { head = h; cell = cell })
+    → CellFound s row cells X head tail (record { head = h; cell = cell })
 found {s} {row} {cells} {X} q e t b c =
     record { from = t .passed .from; queue = queue-trim q e t .queue; cell = c ∙ ap (λ (d : Choice). cellOf s d X) b }
 
 -- the row's loop before it comes to the total X: the queue stands behind the row's choices
-pub record Filling (s : Stage) (costs : List ℕ) (from to : ℕ) (costs′ choices : List ℕ) (base : ℕ) (choices′ : List ℕ) (head tail X : ℕ) : Type 0 where
-  pub ready : Ready s costs from to choices base
+pub record RowFilling (s : Stage) (costs : List ℕ) (from to : ℕ) (costs′ choices : List ℕ) (base : ℕ) (choices′ : List ℕ) (head tail X : ℕ) : Type 0 where
+  pub ready : RowReady s costs from to choices base
   pub more : s .floor < s .top
   pub stepping : Stepping s costs from to costs′ choices base choices′ X
   pub queue : Queue s (rowAt costs′ from) choices′ X head tail
@@ -170,12 +173,12 @@ pub record Filling (s : Stage) (costs : List ℕ) (from to : ℕ) (costs′ choi
   pub few : tail + s .low ≤ base + (s .top + 1) + X
 
 module _ {s : Stage} {costs : List ℕ} {from to : ℕ} {choices : List ℕ} {base : ℕ} where
-  pub scratch : Ready s costs from to choices base → s .floor < s .top → Scratch s choices (base + (s .top + 1))
+  pub scratch : RowReady s costs from to choices base → s .floor < s .top → Scratch s choices (base + (s .top + 1))
   scratch r more = record { more = more; room = omega (arith, r .scratch more) }
 
-  pub filling-none : {choices′ : List ℕ} {tail : ℕ} → Ready s costs from to choices base → s .floor < s .top
+  pub filling-none : {choices′ : List ℕ} {tail : ℕ} → RowReady s costs from to choices base → s .floor < s .top
       → Queued s (rowAt costs from) choices (base + (s .top + 1)) (s .floor) choices′ tail → length choices′ ≡ length choices
-      → Filling s costs from to costs choices′ base choices′ (base + (s .top + 1)) tail (s .floor)
+      → RowFilling s costs from to costs choices′ base choices′ (base + (s .top + 1)) tail (s .floor)
   filling-none {choices′} r more o e =
       record {
         ready = record {
@@ -192,14 +195,14 @@ module _ {s : Stage} {costs : List ℕ} {from to : ℕ} {choices : List ℕ} {ba
         few = o .few;
       }
 
-  module _ {costs′ choices′ : List ℕ} {head tail X : ℕ} (f : Filling s costs from to costs′ choices base choices′ head tail X) (l : X ≤ s .top) where
+  module _ {costs′ choices′ : List ℕ} {head tail X : ℕ} (f : RowFilling s costs from to costs′ choices base choices′ head tail X) (l : X ≤ s .top) where
     pub filling-open : Open s costs′ from
     filling-open = stepping-open (f .ready) (f .stepping)
 
     pub filling-after : After s X
     filling-after = (f .stepping .begun, l)
 
-    pub filling-room : Room s choices′ tail X
+    pub filling-room : QueueRoom s choices′ tail X
     filling-room =
         record {
           low = omega (arith, f .ready .opened .bounded .rises, f .stepping .begun);
@@ -207,9 +210,10 @@ module _ {s : Stage} {costs : List ℕ} {from to : ℕ} {choices : List ℕ} {ba
           cell = omega (arith, f .ready .scratch (f .more), f .few, f .stepping .choiceCells);
         }
 
-    pub filling-more : {next : Next} {r : ℕ} {choices″ : List ℕ} → Found s (rowAt costs′ from) choices′ X head tail next
+    pub filling-more : {next : Next} {r : ℕ} {choices″ : List ℕ} → CellFound s (rowAt costs′ from) choices′ X head tail next
         → Entered s (rowAt costs′ from) choices′ X (next .head) tail choices″ r → length choices″ ≡ length choices′
-        → Filling s costs from to (set costs′ (to + X) (next .cell .cost)) choices base (set choices″ (base + X) (next .cell .amount)) (next .head) r (X + 1)
+        → let costs″ = set costs′ (to + X) (next .cell .cost) in
+        RowFilling s costs from to costs″ choices base (set choices″ (base + X) (next .cell .amount)) (next .head) r (X + 1)
     filling-more {next} {r} {choices″} t n e =
         record {
           ready = f .ready;
@@ -231,13 +235,13 @@ module _ {s : Stage} {costs : List ℕ} {from to : ℕ} {choices : List ℕ} {ba
 
 pub stepped-more : {s : Stage} {costs : List ℕ} {from to : ℕ} {costs′ choices choices₀ : List ℕ} {base : ℕ} {choices′ : List ℕ} {head tail tail₀ X : ℕ}
     → Queued s (rowAt costs from) choices (base + (s .top + 1)) (s .floor) choices₀ tail₀
-    → Filling s costs from to costs′ choices₀ base choices′ head tail X → s .top < X → Stepped s costs from to costs′ choices base choices′
+    → RowFilling s costs from to costs′ choices₀ base choices′ head tail X → s .top < X → Stepped s costs from to costs′ choices base choices′
 stepped-more o f l =
     let t = stepping-all (f .stepping) l in
     record { cost = t .cost; amount = t .amount; kept = λ k h. t .kept k h ∙ o .kept k (omega arith) }
 
 module _ {s : Stage} {costs : List ℕ} {from to : ℕ} {choices : List ℕ} {base : ℕ} where
-  pub stepped-one : {best : Choice} {cell : Cell} → Ready s costs from to choices base
+  pub stepped-one : {best : Choice} {cell : Cell} → RowReady s costs from to choices base
       → s .floor ≡ s .top → best ≡ bestOf s (rowAt costs from) (s .top) → cell ≡ cellOf s best (s .top)
       → Stepped s costs from to (set costs (to + s .top) (cell .cost)) choices base (set choices (base + s .top) (cell .amount))
   stepped-one r e b c =

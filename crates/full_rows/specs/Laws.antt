@@ -15,7 +15,7 @@ abbrev pub Before : Stage → ℕ → Type 0
 Before S Y = (S .low ≤ Y) × (Y ≤ S .high)
 
 -- some amount leads to X from one of them
-pub record Reached (S : Stage) (X : ℕ) : Type 0 where
+pub record InReach (S : Stage) (X : ℕ) : Type 0 where
   pub some : S .low ≤ S .high
   pub rises : S .low ≤ X
   pub near : X ≤ S .high + S .capacity
@@ -31,7 +31,7 @@ pub making-small : (b p v : ℕ) → b ≤ maxSetup → p ≤ maxRate → v ≤ 
 making-small b p zero l m h = omega arith
 making-small b p (suc v) l m h = omega (arith, mul-le-mul m h)
 
-module _ (S : Stage) (X : ℕ) (r : Reached S X) where
+module _ (S : Stage) (X : ℕ) (r : InReach S X) where
   pub amount-between : (row : ℕ → ℕ) → (lowest S X ≤ rowAmount S row X) × (rowAmount S row X ≤ highest S X)
   amount-between row =
       let c = cheapest-right (λ j. rowPrice S row X (lowest S X + j)) (highest S X - lowest S X) in

@@ -2,15 +2,16 @@
 -- Main statements: `queue-enter` and `queue-trim`. Assumes nothing.
 use mathlib.Core.Path.{_≡_, refl, ap}
 use mathlib.Core.List.{List}
-use Prim.Native.Nat.{ℕ, _+_, _-_, _*_, _≤_, _<_, min}
+use Prim.Native.Nat.{ℕ, _+_, _-_, _≤_, _<_, min}
 use native.Mathlib.Nat.{le-trans}
 use native.Mathlib.Decide.{decLt}
 use native.Mathlib.Omega.{arith}
 use lib.ListN.{length, set}
 use lib.Seq.{getD-set-same, getD-set-other}
 use Rattle.day.specs.Sums.{at}
+use Rattle.day.specs.Plan.{making}
 use Rattle.full_rows.specs.declared.Stage.{Stage}
-use Rattle.full_rows.specs.Queue.{keyOf, Entry, Candidate, Answer, Queue, Window, Trimmed, Outdone}
+use Rattle.full_rows.specs.Queue.{keyOf, Entry, Candidate, Substitute, Queue, Window, Trimmed, Outdone}
 
 pub entry-later : {s : Stage} {X Y : ℕ} (Z : ℕ) → X ≤ Z → Entry s X Y → Entry s Z Y
 entry-later Z l e = record { low = e .low; high = e .high; below = omega (arith, e .below) }
@@ -22,19 +23,21 @@ module _ {s : Stage} {row : ℕ → ℕ} where
         ordered = omega arith;
         entries = λ i a b. absurd (omega arith);
         rising = λ i j a l b. absurd (omega arith);
-        answers = λ Y c. absurd (omega (arith, c .entry .low, c .entry .below));
+        substitutes = λ Y c. absurd (omega (arith, c .entry .low, c .entry .below));
       }
 
   -- totals that cannot be reached before the stage need not enter
-  pub queue-later : {cells : List ℕ} {X head tail : ℕ} (Z : ℕ) → X ≤ Z → min Z (s .high + 1) ≤ X → Queue s row cells X head tail → Queue s row cells Z head tail
-  queue-later Z l m q =
+  pub queue-later : {cells : List ℕ} {X head tail : ℕ} (Z : ℕ) → X ≤ Z → min Z (s .high + 1) ≤ X → Queue s row cells X head tail
+      → Queue s row cells Z head tail
+  queue-later {cells} {X} Z l m q =
       record {
         ordered = q .ordered;
         entries = λ i a b. entry-later Z l (q .entries i a b);
         rising = q .rising;
-        answers = λ Y c.
+        substitutes = λ Y c.
             let e = c .entry in
-            q .answers Y (record { entry = record { low = e .low; high = e .high; below = omega (arith, e .high, e .below) }; near = omega (arith, c .near) });
+            let entry : Entry s X Y = record { low = e .low; high = e .high; below = omega (arith, e .high, e .below) } in
+            q .substitutes Y (record { entry = entry; near = omega (arith, c .near) });
       }
 
   -- it reads the row up to `high`, and the cells from its head on
@@ -45,8 +48,8 @@ module _ {s : Stage} {row : ℕ → ℕ} where
         ordered = q .ordered;
         entries = λ i a b. let g = f i a in rw g (q .entries i a b);
         rising = λ i j a l b. let g = key-at i a (omega arith) in let h = key-at j (omega arith) b in rw (g, h) (q .rising i j a l b);
-        answers = λ Y c.
-            let w = q .answers Y c in
+        substitutes = λ Y c.
+            let w = q .substitutes Y c in
             let g = key-at (w .place) (w .from) (w .to) in
             let h = key-is Y (c .entry .high) in
             let m = f (w .place) (w .from) in
@@ -54,7 +57,7 @@ module _ {s : Stage} {row : ℕ → ℕ} where
       }
     where
       key-is : (Y : ℕ) → Y ≤ s .high → keyOf s row′ Y ≡ keyOf s row Y
-      key-is Y h = ap (λ (d : ℕ). d + s .unit * (s .top - Y)) (e Y h)
+      key-is Y h = ap (λ (d : ℕ). d + making (s .setup) (s .unit) (s .top - Y)) (e (s .top - (s .top - Y)) (omega arith))
 
       key-at : (i : ℕ) → head ≤ i → i < tail → keyOf s row′ (at cells′ i) ≡ keyOf s row (at cells i)
       key-at i a b = let g = f i a in rw g (key-is (at cells i) (q .entries i a b .high))
@@ -68,7 +71,7 @@ module _ {s : Stage} {row : ℕ → ℕ} where
         ordered = omega (arith, p .from);
         entries = λ i a b. entries i a b (decLt i r);
         rising = λ i j a h b. rising i j a h b (decLt j r);
-        answers = λ Y c. answers Y c (decLt Y X);
+        substitutes = λ Y c. answers Y c (decLt Y X);
       }
     where
       next : List ℕ
@@ -88,23 +91,26 @@ module _ {s : Stage} {row : ℕ → ℕ} where
       rising i j a h b (yes k) = let f = old i (omega arith) in let g = old j k in rw (f, g) (q .rising i j a h (omega (arith, o .passed .to)))
       rising i j a h b (no k) = let f = old i (omega arith) in let g = new j (omega arith) in rw (f, g) (o .stays i a (omega arith))
 
-      newest : (Y : ℕ) → Y ≤ X → keyOf s row X ≤ keyOf s row Y → Answer (keyOf s row) next head (r + 1) Y
+      newest : (Y : ℕ) → Y ≤ X → keyOf s row X ≤ keyOf s row Y → Substitute (keyOf s row) next head (r + 1) Y
       newest Y h k = let g = new r refl in record { place = r; from = o .passed .from; to = omega arith; later = rw g h; cheap = rw g k }
 
-      still : (Y : ℕ) → Y < X → (w : Answer (keyOf s row) cells head tail Y) → Dec (w .place < r) → Answer (keyOf s row) next head (r + 1) Y
-      still Y h w (yes k) = let g = old (w .place) k in record { place = w .place; from = w .from; to = omega arith; later = rw g (w .later); cheap = rw g (w .cheap) }
+      still : (Y : ℕ) → Y < X → (w : Substitute (keyOf s row) cells head tail Y) → Dec (w .place < r)
+          → Substitute (keyOf s row) next head (r + 1) Y
+      still Y h w (yes k) =
+          let g = old (w .place) k in
+          record { place = w .place; from = w .from; to = omega arith; later = rw g (w .later); cheap = rw g (w .cheap) }
       still Y h w (no k) = newest Y (omega arith) (le-trans (o .passed .gone (w .place) (omega arith) (w .to)) (w .cheap))
 
-      answers : (Y : ℕ) → Candidate s (X + 1) Y → Dec (Y < X) → Answer (keyOf s row) next head (r + 1) Y
+      answers : (Y : ℕ) → Candidate s (X + 1) Y → Dec (Y < X) → Substitute (keyOf s row) next head (r + 1) Y
       answers Y c (yes h) =
           let a = c .entry in
-          let w = q .answers Y (record { entry = record { low = a .low; high = a .high; below = h }; near = omega (arith, c .near) }) in
+          let w = q .substitutes Y (record { entry = record { low = a .low; high = a .high; below = h }; near = omega (arith, c .near) }) in
           still Y h w (decLt (w .place) r)
       answers Y c (no h) = let f : Y ≡ X = omega (arith, c .entry .below) in newest Y (omega arith) (rw f (omega arith))
 
   -- What leaves at the head is no candidate.
-  pub queue-trim : {cells : List ℕ} {X least head tail r : ℕ} → Queue s row cells X head tail → least ≡ X - s .capacity → Trimmed cells least head tail r
-      → Window s row cells X r tail
+  pub queue-trim : {cells : List ℕ} {X least head tail r : ℕ} → Queue s row cells X head tail → least ≡ X - s .capacity
+      → Trimmed cells least head tail r → Window s row cells X r tail
   queue-trim {cells} {X} {least} {head} {tail} {r} q e t =
       let p = t .passed in
       record {
@@ -112,11 +118,12 @@ module _ {s : Stage} {row : ℕ → ℕ} where
           ordered = p .to;
           entries = λ i a b. q .entries i (omega (arith, p .from)) b;
           rising = λ i j a l b. q .rising i j (omega (arith, p .from)) l b;
-          answers = λ Y c. let w = q .answers Y c in still Y c w (decLt (w .place) r);
+          substitutes = λ Y c. let w = q .substitutes Y c in still Y c w (decLt (w .place) r);
         };
         near = λ l. omega (arith, t .stays l);
       }
     where
-      still : (Y : ℕ) → Candidate s X Y → (w : Answer (keyOf s row) cells head tail Y) → Dec (w .place < r) → Answer (keyOf s row) cells r tail Y
+      still : (Y : ℕ) → Candidate s X Y → (w : Substitute (keyOf s row) cells head tail Y) → Dec (w .place < r)
+          → Substitute (keyOf s row) cells r tail Y
       still Y c w (yes h) = absurd (omega (arith, t .passed .gone (w .place) h (w .from), w .later, c .near))
       still Y c w (no h) = record { place = w .place; from = omega arith; to = w .to; later = w .later; cheap = w .cheap }

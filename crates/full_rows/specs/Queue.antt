@@ -5,16 +5,16 @@
 -- Main definitions: `Queue` and `Window`. Assumes nothing.
 use mathlib.Core.Path.{_≡_}
 use mathlib.Core.List.{List}
-use Prim.Native.Nat.{ℕ, _+_, _-_, _*_, _≤_, _<_}
+use Prim.Native.Nat.{ℕ, _+_, _-_, _≤_, _<_}
 use lib.ListN.{length}
 use Rattle.day.specs.Sums.{at}
 use Rattle.full_rows.specs.declared.Stage.{Stage}
 use Rattle.full_rows.specs.declared.Next.{Next}
-use Rattle.full_rows.specs.Row.{bestOf, cellOf}
+use Rattle.full_rows.specs.Row.{priceOf, bestOf, cellOf}
 
--- what the total `top` would cost from Y, without the setup
+-- what the total `top` would cost by one amount from Y, whatever the capacity
 abbrev pub keyOf : Stage → (ℕ → ℕ) → ℕ → ℕ
-keyOf s row Y = row Y + s .unit * (s .top - Y)
+keyOf s row Y = priceOf s row (s .top) (s .top - Y)
 
 -- Y is below X, and can be reached before the stage
 pub record Entry (s : Stage) (X Y : ℕ) : Type 0 where
@@ -28,7 +28,7 @@ pub record Candidate (s : Stage) (X Y : ℕ) : Type 0 where
   pub near : X ≤ Y + s .capacity
 
 -- a cell of the queue that is no dearer than Y, and asks for no larger amount
-pub record Answer (key : ℕ → ℕ) (cells : List ℕ) (head tail Y : ℕ) : Type 0 where
+pub record Substitute (key : ℕ → ℕ) (cells : List ℕ) (head tail Y : ℕ) : Type 0 where
   pub place : ℕ
   pub from : head ≤ place
   pub to : place < tail
@@ -40,7 +40,7 @@ pub record Queue (s : Stage) (row : ℕ → ℕ) (cells : List ℕ) (X head tail
   pub ordered : head ≤ tail
   pub entries : (i : ℕ) → head ≤ i → i < tail → Entry s X (at cells i)
   pub rising : (i j : ℕ) → head ≤ i → i < j → j < tail → keyOf s row (at cells i) < keyOf s row (at cells j)
-  pub answers : (Y : ℕ) → Candidate s X Y → Answer (keyOf s row) cells head tail Y
+  pub substitutes : (Y : ℕ) → Candidate s X Y → Substitute (keyOf s row) cells head tail Y
 
 -- and the head is itself a candidate
 pub record Window (s : Stage) (row : ℕ → ℕ) (cells : List ℕ) (X head tail : ℕ) : Type 0 where
@@ -48,20 +48,20 @@ pub record Window (s : Stage) (row : ℕ → ℕ) (cells : List ℕ) (X head tai
   pub near : head < tail → X ≤ at cells head + s .capacity
 
 -- what recursion (5) says of X, and where the queue begins once its head is a candidate
-pub record Found (s : Stage) (row : ℕ → ℕ) (cells : List ℕ) (X head tail : ℕ) (r : Next) : Type 0 where
+pub record CellFound (s : Stage) (row : ℕ → ℕ) (cells : List ℕ) (X head tail : ℕ) (r : Next) : Type 0 where
   pub from : head ≤ r .head
   pub queue : Queue s row cells X (r .head) tail
   pub cell : r .cell ≡ cellOf s (bestOf s row X) X
 
 -- the cells from head to r lie below `least`
-pub record Below (cells : List ℕ) (least head tail r : ℕ) : Type 0 where
+pub record Dropped (cells : List ℕ) (least head tail r : ℕ) : Type 0 where
   pub from : head ≤ r
   pub to : r ≤ tail
   pub gone : (i : ℕ) → i < r → head ≤ i → at cells i < least
 
 -- r is the first cell that does not
 pub record Trimmed (cells : List ℕ) (least head tail r : ℕ) : Type 0 where
-  pub passed : Below cells least head tail r
+  pub passed : Dropped cells least head tail r
   pub stays : r < tail → least ≤ at cells r
 
 -- the cells from r to tail are no cheaper than Y
@@ -76,7 +76,7 @@ pub record Outdone (s : Stage) (row : ℕ → ℕ) (cells : List ℕ) (Y head ta
   pub stays : (i : ℕ) → head ≤ i → i < r → keyOf s row (at cells i) < keyOf s row Y
 
 -- Y may enter, and the queue has a cell left
-pub record Room (s : Stage) (cells : List ℕ) (tail Y : ℕ) : Type 0 where
+pub record QueueRoom (s : Stage) (cells : List ℕ) (tail Y : ℕ) : Type 0 where
   pub low : s .low ≤ Y
   pub top : Y ≤ s .top
   pub cell : tail < length cells

@@ -1,5 +1,5 @@
 -- What the row step reads and writes, in the terms of recursion (5) (theory's Full).
--- Main definitions: `Ready`, what the step asks, and `Stepped`, what it leaves. Assumes nothing.
+-- Main definitions: `RowReady`, what the step asks, and `Stepped`, what it leaves. Assumes nothing.
 use mathlib.Core.Path.{_≡_}
 use mathlib.Core.List.{List}
 use Prim.Native.Nat.{ℕ, _+_, _-_, _*_, _≤_, _<_}
@@ -38,14 +38,12 @@ maxMaking = maxSetup + maxProduct
 abbrev pub maxCost : ℕ
 maxCost = maxPeriods * (maxMaking + maxProduct)
 
--- r is the value, which is at most `most`
-pub record Worth (value most r : ℕ) : Type 0 where
-  pub is : r ≡ value
-  pub small : r ≤ most
-
 -- what the amount v comes to for the total X
+abbrev pub priceOf : Stage → (ℕ → ℕ) → ℕ → ℕ → ℕ
+priceOf s row X v = rowPrice (stageIn s) row X v
+
 abbrev pub choiceOf : Stage → (ℕ → ℕ) → ℕ → ℕ → Choice
-choiceOf s row X v = record { amount = v; price = rowPrice (stageIn s) row X v }
+choiceOf s row X v = record { amount = v; price = priceOf s row X v }
 
 -- the smallest of the cheapest
 abbrev pub bestOf : Stage → (ℕ → ℕ) → ℕ → Choice
@@ -59,12 +57,11 @@ cellOf s b X = record { cost = b .price + s .holding * (X - s .floor); amount = 
 pub record Small (s : Stage) (b : Choice) (X : ℕ) : Type 0 where
   pub price : b .price ≤ maxCost + maxMaking
   pub amount : b .amount ≤ maxTotal
-  pub holding : s .holding ≤ maxRate
   pub begun : s .floor ≤ X
   pub total : X ≤ maxTotal
 
 -- the stage keeps the limits, and each total after it is reached by some amount from one before it
-pub record Bounded (s : Stage) : Type 0 where
+pub record StageBounded (s : Stage) : Type 0 where
   pub setup : s .setup ≤ maxSetup
   pub unit : s .unit ≤ maxRate
   pub holding : s .holding ≤ maxRate
@@ -75,7 +72,7 @@ pub record Bounded (s : Stage) : Type 0 where
 
 -- the row before it stands in the cost area, and no cell of it is too dear
 pub record Open (s : Stage) (costs : List ℕ) (from : ℕ) : Type 0 where
-  pub bounded : Bounded s
+  pub bounded : StageBounded s
   pub inside : from + s .high < length costs
   pub cheap : (Y : ℕ) → s .low ≤ Y → Y ≤ s .high → rowAt costs from Y ≤ maxCost
 
@@ -84,13 +81,13 @@ abbrev pub After : Stage → ℕ → Type 0
 After s X = (s .floor ≤ X) × (X ≤ s .top)
 
 -- the amount v leads to X from a total that can be reached before it
-pub record Leads (s : Stage) (X v : ℕ) : Type 0 where
+pub record LeadsTo (s : Stage) (X v : ℕ) : Type 0 where
   pub rest : v + s .low ≤ X
   pub enough : X ≤ v + s .high
   pub under : X ≤ s .top
 
 -- the rows before and after lie apart, each in its area; for more than one total there is a second row of choices to work in
-pub record Ready (s : Stage) (costs : List ℕ) (from to : ℕ) (choices : List ℕ) (base : ℕ) : Type 0 where
+pub record RowReady (s : Stage) (costs : List ℕ) (from to : ℕ) (choices : List ℕ) (base : ℕ) : Type 0 where
   pub opened : Open s costs from
   pub costCells : to + s .top < length costs
   pub choiceCells : base + s .top < length choices

@@ -1,20 +1,19 @@
 //! The row step of recursion (5) over lent areas: costs and last amounts for each total that one more period can reach.
 ghost use mathlib.Core.Path.{_≡_};
-ghost use Prim.Native.Nat.{_+_, _-_, _*_, _≤_, _<_, min};
+ghost use Prim.Native.Nat.{_+_, _-_, _≤_, _<_, min};
 ghost use native.Mathlib.Decide.{decLt};
 ghost use lib.ListN.{length};
-ghost use Rattle.day.specs.Day.{maxSetup, maxRate, maxTotal};
-ghost use Rattle.day.specs.Plan.{making};
 ghost use Rattle.theory.specs.Basics.{pick};
-ghost use Rattle.full_rows.specs.Row.{rowAt, maxProduct, maxMaking, Worth, choiceOf, bestOf, cellOf, Small, Open, After, Leads, Ready, Stepped};
-ghost use Rattle.full_rows.specs.Queue.{keyOf, Entry, Queue, Window, Found, Trimmed, Outdone, Room, Entered, Scratch, Queued};
+ghost use Rattle.full_rows.specs.Row.{rowAt, choiceOf, bestOf, cellOf, Small, Open, After, LeadsTo, RowReady, Stepped};
+ghost use Rattle.full_rows.specs.Queue.{keyOf, Entry, Queue, Window, CellFound, Trimmed, Outdone};
+ghost use Rattle.full_rows.specs.Queue.{QueueRoom, Entered, Scratch, Queued};
 
 // One period, as the row step sees it: c, b, p and H, the totals that can be reached before it and after it.
 pub struct Stage {
     pub capacity: usize,
-    pub setup: u64,
-    pub unit: u64,
-    pub holding: u64,
+    pub setup: u32,
+    pub unit: u32,
+    pub holding: u32,
     pub low: usize,
     pub high: usize,
     pub floor: usize,
@@ -52,35 +51,16 @@ pub fn smaller(a: usize, b: usize) -> usize
     if a < b { a } else { b }
 }
 
-// A rate on a number of units.
-fn product(rate: u64, units: usize) -> u64
-    requires { ⌜ (rate ≤ maxRate) × (units ≤ maxTotal) ⌝ }
-    ensures { λ r. ⌜ Worth (rate * units) maxProduct r ⌝ }
-{
-    rate * (units as u64)
-}
-
-// p_i(x): nothing for 0, else b + p × x.
-fn making_cost(s: Stage, amount: usize) -> u64
-    requires { ⌜ (s .setup ≤ maxSetup) × ((s .unit ≤ maxRate) × (amount ≤ maxTotal)) ⌝ }
-    ensures { λ r. ⌜ Worth (making (s .setup) (s .unit) amount) maxMaking r ⌝ }
-{
-    if amount == 0 {
-        return 0;
-    }
-    s.setup + product(s.unit, amount)
-}
-
 // What an amount comes to for a total.
 fn choice_for(s: Stage, costs: &[u64], from: usize, total: usize, amount: usize) -> Choice
     requires { ⌜ Open s (now costs) from ⌝ }
-    requires { ⌜ Leads s total amount ⌝ }
+    requires { ⌜ LeadsTo s total amount ⌝ }
     ensures { λ r. ⌜ r ≡ choiceOf s (rowAt (now (costs .entry)) from) total amount ⌝ }
 {
     let before = from + (total - amount);
     Choice {
         amount,
-        price: costs[before] + making_cost(s, amount),
+        price: costs[before] + terms::making_cost(s.setup, s.unit, amount as u64),
     }
 }
 
@@ -99,9 +79,9 @@ fn best_for(s: Stage, costs: &[u64], from: usize, total: usize) -> Choice
 {
     let lowest = less(total, s.high);
     let highest = smaller(s.capacity, total - s.low);
-    let count = highest - lowest;
+    let more = highest - lowest;
     let mut best = choice_for(s, costs, from, total, lowest);
-    for j in 0..count {
+    for j in 0..more {
         let next = choice_for(s, costs, from, total, lowest + (j + 1));
         best = cheaper(best, next);
     }
@@ -114,7 +94,7 @@ fn cell_for(s: Stage, best: Choice, total: usize) -> Cell
     ensures { λ r. ⌜ r ≡ cellOf s best total ⌝ }
 {
     Cell {
-        cost: best.price + product(s.holding, total - s.floor),
+        cost: best.price + terms::holding_cost(s.holding, (total - s.floor) as u64),
         amount: best.amount as u16,
     }
 }
@@ -125,7 +105,7 @@ fn key(s: Stage, costs: &[u64], from: usize, before: usize) -> u64
     requires { ⌜ Entry s (s .top + 1) before ⌝ }
     ensures { λ r. ⌜ r ≡ keyOf s (rowAt (now (costs .entry)) from) before ⌝ }
 {
-    costs[from + before] + product(s.unit, s.top - before)
+    choice_for(s, costs, from, s.top, s.top - before).price
 }
 
 // Where the queue ends once the entries at its back that the newcomer outdoes have left.
@@ -167,7 +147,7 @@ fn enter(
 ) -> usize
     requires { ⌜ Open s (now costs) from ⌝ }
     requires { ⌜ Queue s (rowAt (now costs) from) (now choices) newcomer head tail ⌝ }
-    requires { ⌜ Room s (now choices) tail newcomer ⌝ }
+    requires { ⌜ QueueRoom s (now choices) tail newcomer ⌝ }
     ensures { λ r. ⌜ Entered s (rowAt (now (costs .entry)) from) (now (choices .entry)) newcomer head tail (now (choices .exit)) r ⌝ }
 {
     if s.high < newcomer {
@@ -245,7 +225,7 @@ fn next_cell(
     requires { ⌜ Open s (now costs) from ⌝ }
     requires { ⌜ Queue s (rowAt (now costs) from) (now choices) total head tail ⌝ }
     requires { ⌜ After s total × (tail ≤ length (now choices)) ⌝ }
-    ensures { λ r. ⌜ Found s (rowAt (now (costs .entry)) from) (now (choices .entry)) total head tail r ⌝ }
+    ensures { λ r. ⌜ CellFound s (rowAt (now (costs .entry)) from) (now (choices .entry)) total head tail r ⌝ }
 {
     let first = drop_head(choices, head, tail, less(total, s.capacity));
     let best = best_queued(s, costs, from, choices, first, tail, total);
@@ -255,7 +235,7 @@ fn next_cell(
 
 // A row of more than one total. The queue stands behind the row's choices; each total before the stage enters once and leaves at most once.
 fn fill(s: Stage, costs: &mut [u64], from: usize, to: usize, choices: &mut [u16], base: usize)
-    requires { ⌜ Ready s (now costs) from to (now choices) base ⌝ }
+    requires { ⌜ RowReady s (now costs) from to (now choices) base ⌝ }
     requires { ⌜ s .floor < s .top ⌝ }
     ensures { λ _. ⌜ Stepped s (now (costs .entry)) from to (now (costs .exit)) (now (choices .entry)) base (now (choices .exit)) ⌝ }
 {
@@ -275,7 +255,7 @@ fn fill(s: Stage, costs: &mut [u64], from: usize, to: usize, choices: &mut [u16]
 
 // A row of one total, by one scan.
 fn fill_one(s: Stage, costs: &mut [u64], from: usize, to: usize, choices: &mut [u16], base: usize)
-    requires { ⌜ Ready s (now costs) from to (now choices) base ⌝ }
+    requires { ⌜ RowReady s (now costs) from to (now choices) base ⌝ }
     requires { ⌜ s .floor ≡ s .top ⌝ }
     ensures { λ _. ⌜ Stepped s (now (costs .entry)) from to (now (costs .exit)) (now (choices .entry)) base (now (choices .exit)) ⌝ }
 {
@@ -285,9 +265,10 @@ fn fill_one(s: Stage, costs: &mut [u64], from: usize, to: usize, choices: &mut [
     choices[base + total] = next.amount;
 }
 
-// The row that begins at `to` and the choices from `base` on, for the row that begins at `from`.
+// The row that begins at `to` and its choices from `base` on, for the row that begins at `from`. Free: the choices behind them, where the
+// queue stood, and every other cost.
 pub fn step(s: Stage, costs: &mut [u64], from: usize, to: usize, choices: &mut [u16], base: usize)
-    requires { ⌜ Ready s (now costs) from to (now choices) base ⌝ }
+    requires { ⌜ RowReady s (now costs) from to (now choices) base ⌝ }
     ensures { λ _. ⌜ Stepped s (now (costs .entry)) from to (now (costs .exit)) (now (choices .entry)) base (now (choices .exit)) ⌝ }
 {
     if s.floor < s.top {

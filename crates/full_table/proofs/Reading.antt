@@ -1,25 +1,15 @@
 -- What the loop that reads the plan back keeps.
 -- Assumes nothing.
 use mathlib.Core.Path.{_≡_, refl, ap, _∙_}
-use mathlib.Core.List.{List, [], _∷_, _++_, append-assoc}
+use mathlib.Core.List.{List, _∷_, _++_, append-assoc}
 use Prim.Native.Nat.{ℕ, suc, _+_, _-_, _*_, _≤_, _<_}
 use native.Mathlib.Nat.{suc-mul, mul-le-mul-right}
 use native.Mathlib.Omega.{arith}
 use lib.ListN.{length, drop, set, length-set}
 use lib.Seq.{drop-cons, drop-set-lt, getD-set-same}
-use Rattle.day.specs.Sums.{at, sum-ext}
-use Rattle.day.specs.Plan.{setupAt, setups}
-use Rattle.theory.specs.Full.{back, snoc-spliced}
-use Rattle.full_rows.specs.Row.{Worth}
-use Rattle.full_table.specs.Right.{back-length}
-use Rattle.full_table.specs.Table.{cellAt, Traced, Readable, ReadBack}
-
-setups-snoc : (k v : ℕ) (p : List ℕ) → length p ≡ k → setups (suc k) (at (p ++ (v ∷ []))) ≡ setups k (at p) + setupAt v
-setups-snoc k v p e =
-    let s = snoc-spliced k v p e in
-    let low = sum-ext (λ j. setupAt (at (p ++ (v ∷ [])) j)) (λ j. setupAt (at p j)) k (λ j h. ap setupAt (s .low j h)) in
-    let high = ap setupAt (s .high k (omega arith) (omega arith)) in
-    omega (arith, low, high)
+use Rattle.day.specs.Sums.{at}
+use Rattle.theory.specs.Full.{back}
+use Rattle.full_table.specs.Table.{cellAt, Traced, Traceable, planRead}
 
 drop-set : (l : List ℕ) (j v : ℕ) → j < length l → drop j (set l j v) ≡ v ∷ drop (suc j) l
 drop-set l j v h =
@@ -27,26 +17,24 @@ drop-set l j v h =
     ∙ (ap (λ (x : ℕ). x ∷ drop (suc j) (set l j v)) (getD-set-same l j v 0 h)
     ∙ ap (λ (t : List ℕ). v ∷ t) (drop-set-lt (suc j) l j v (omega arith)))
 
--- k periods are still to be read, `left` is their total, and s setups are counted
-pub record Reading (choices slots : List ℕ) (n T : ℕ) (slots′ : List ℕ) (base left s k : ℕ) : Type 0 where
+-- k periods are still to be read, and `left` is their total
+pub record Reading (choices slots : List ℕ) (n T : ℕ) (slots′ : List ℕ) (base left k : ℕ) : Type 0 where
   pub inside : k ≤ n
   pub row : base ≡ k * (T + 1)
   pub under : left ≤ T
   pub traced : Traced (cellAt choices T) k left
-  pub plan : back (cellAt choices T) k left ++ drop k slots′ ≡ back (cellAt choices T) n T ++ drop n slots
-  pub counted : setups k (at (back (cellAt choices T) k left)) + s ≡ setups n (at (back (cellAt choices T) n T))
-  pub few : s + k ≤ n
+  pub plan : back (cellAt choices T) k left ++ drop k slots′ ≡ planRead choices n T ++ drop n slots
   pub size : length slots′ ≡ length slots
 
 -- what is known of the cell that is read next
-pub record Turn (choices : List ℕ) (n T base left k : ℕ) : Type 0 where
+pub record Turn (choices : List ℕ) (T base left k : ℕ) : Type 0 where
   pub row : T + 1 ≤ base
   pub inside : base - (T + 1) + left < length choices
   pub is : at choices (base - (T + 1) + left) ≡ cellAt choices T (k - 1) left
   pub fits : at choices (base - (T + 1) + left) ≤ left
 
-module _ {choices slots : List ℕ} {n T : ℕ} (r : Readable choices slots n T) where
-  pub reading-none : Reading choices slots n T slots (n * (T + 1)) T 0 n
+module _ {choices slots : List ℕ} {n T : ℕ} (r : Traceable choices slots n T) where
+  pub reading-none : Reading choices slots n T slots (n * (T + 1)) T n
   reading-none =
       record {
         inside = omega arith;
@@ -54,19 +42,17 @@ module _ {choices slots : List ℕ} {n T : ℕ} (r : Readable choices slots n T)
         under = omega arith;
         traced = r .traced;
         plan = refl;
-        counted = omega arith;
-        few = omega arith;
         size = refl;
       }
 
-  module _ {slots′ : List ℕ} {base left s k : ℕ} (c : Reading choices slots n T slots′ base left s k) where
+  module _ {slots′ : List ℕ} {base left k : ℕ} (c : Reading choices slots n T slots′ base left k) where
     step-down : (j : ℕ) → k ≡ suc j → (base - (T + 1) ≡ j * (T + 1)) × (T + 1 ≤ base) × (base ≤ n * (T + 1))
     step-down j e =
         let m : k * (T + 1) ≡ j * (T + 1) + (T + 1) = rw e (suc-mul j (T + 1)) in
         let b = mul-le-mul-right (T + 1) (c .inside) in
         (omega (arith, c .row), omega (arith, c .row), omega (arith, c .row))
 
-    pub reading-turn : 0 < k → Turn choices n T base left k
+    pub reading-turn : 0 < k → Turn choices T base left k
     reading-turn l =
         let e : k ≡ suc (k - 1) = omega arith in
         let d = step-down (k - 1) e in
@@ -78,17 +64,15 @@ module _ {choices slots : List ℕ} {n T : ℕ} (r : Readable choices slots n T)
           fits = omega (arith, (rw e at (c .traced)) .0);
         }
 
-    pub reading-more : (a w : ℕ) → 0 < k → a ≡ cellAt choices T (k - 1) left → Worth (setupAt a) 1 w
-        → Reading choices slots n T (set slots′ (k - 1) a) (base - (T + 1)) (left - a) (s + w) (k - 1)
-    reading-more a w l is worth = go (k - 1) (omega arith) is
+    pub reading-more : (a : ℕ) → 0 < k → a ≡ cellAt choices T (k - 1) left
+        → Reading choices slots n T (set slots′ (k - 1) a) (base - (T + 1)) (left - a) (k - 1)
+    reading-more a l is = go (k - 1) (omega arith) is
       where
         go : (j : ℕ) → k ≡ suc j → a ≡ cellAt choices T j left
-            → Reading choices slots n T (set slots′ j a) (base - (T + 1)) (left - a) (s + w) j
+            → Reading choices slots n T (set slots′ j a) (base - (T + 1)) (left - a) j
         go j e q =
             let t = rw e at (c .traced) in
             let p = rw e at (c .plan) in
-            let m = rw e at (c .counted) in
-            let h = setups-snoc j (cellAt choices T j left) (back (cellAt choices T) j (left - cellAt choices T j left)) (back-length (cellAt choices T) j (left - cellAt choices T j left)) in
             rw q
             (record {
               inside = omega (arith, c .inside);
@@ -96,12 +80,9 @@ module _ {choices slots : List ℕ} {n T : ℕ} (r : Readable choices slots n T)
               under = omega (arith, c .under);
               traced = t .1;
               plan = rw (drop-set slots′ j (cellAt choices T j left) (omega (arith, c .inside, c .size, r .slotCells))) (rw append-assoc at p);
-              counted = omega (arith, m, h, worth .is, ap setupAt q);
-              few = omega (arith, c .few, worth .small);
               size = length-set slots′ j (cellAt choices T j left) ∙ c .size;
             })
 
-  pub reading-all : {slots′ : List ℕ} {base left s k : ℕ} → Reading choices slots n T slots′ base left s k → k ≤ 0 → ReadBack choices slots n T slots′ s
-  reading-all {slots′} {base} {left} {s} {k} c l =
-      let e : k ≡ 0 = omega arith in
-      record { plan = rw e at (c .plan); setups = omega (arith, rw e at (c .counted)) }
+  pub reading-all : {slots′ : List ℕ} {base left k : ℕ} → Reading choices slots n T slots′ base left k → k ≤ 0
+      → slots′ ≡ planRead choices n T ++ drop n slots
+  reading-all {slots′} {base} {left} {k} c l = let e : k ≡ 0 = omega arith in rw e at (c .plan)

@@ -1,12 +1,12 @@
 //! The table of recursion (5) in lent areas: its rows, one for each period, and the plan read back from it.
 ghost use mathlib.Core.Path.{_≡_};
-ghost use Rattle.day.specs.Day.{dayOf};
-ghost use Rattle.day.specs.Plan.{setupAt};
-ghost use Rattle.full_rows.specs.Row.{Worth};
-ghost use Rattle.full_table.specs.Table.{stageAt, Staged, Fillable, Filled, Readable, ReadBack};
+ghost use mathlib.Core.List.{_++_};
+ghost use lib.ListN.{drop};
+ghost use Rattle.theory.specs.Problem.{problemWith};
+ghost use Rattle.full_table.specs.Table.{stageAt, Staged, Fillable, TableFilled, Traceable, planRead};
 use full_rows::Stage;
 
-// A period as a stage, where the totals from `low` to `high` can be reached before it, and `total` is R over the day.
+// A period as a stage, where the totals from `low` to `high` can be reached before it, and `total` is N over all periods.
 fn stage_at(
     demand: &[u16],
     capacity: &[u16],
@@ -18,15 +18,17 @@ fn stage_at(
     high: usize,
     total: usize,
 ) -> Stage
-    requires { ⌜ Staged (dayOf (now demand) (now capacity) (now setup) (now unit) (now holding)) i low high ⌝ }
-    ensures { λ r. ⌜ r ≡ stageAt (dayOf (now (demand .entry)) (now (capacity .entry)) (now (setup .entry)) (now (unit .entry)) (now (holding .entry))) i low high total ⌝ }
+    requires { ⌜ Staged (problemWith (now demand) (now capacity) (now setup) (now unit) (now holding)) i low high ⌝ }
+    ensures { λ r. ⌜ r ≡ stageAt
+        (problemWith (now (demand .entry)) (now (capacity .entry)) (now (setup .entry)) (now (unit .entry)) (now (holding .entry)))
+        i low high total ⌝ }
 {
     let most = capacity[i] as usize;
     Stage {
         capacity: most,
-        setup: setup[i] as u64,
-        unit: unit[i] as u64,
-        holding: holding[i] as u64,
+        setup: setup[i],
+        unit: unit[i],
+        holding: holding[i],
         low,
         high,
         floor: low + (demand[i] as usize),
@@ -34,7 +36,7 @@ fn stage_at(
     }
 }
 
-// Fills the rows; the cost of the whole day is in the last of them. Two rows of costs take turns.
+// Fills the rows of choices, for the totals that can be reached. Two rows of costs take turns. Free: all costs, and the other choices.
 pub fn fill(
     demand: &[u16],
     capacity: &[u16],
@@ -44,9 +46,13 @@ pub fn fill(
     costs: &mut [u64],
     choices: &mut [u16],
     total: usize,
-) -> u64
-    requires { ⌜ Fillable (dayOf (now demand) (now capacity) (now setup) (now unit) (now holding)) (now costs) (now choices) total ⌝ }
-    ensures { λ r. ⌜ Filled (dayOf (now (demand .entry)) (now (capacity .entry)) (now (setup .entry)) (now (unit .entry)) (now (holding .entry))) (now (choices .exit)) total r ⌝ }
+)
+    requires { ⌜ Fillable
+        (problemWith (now demand) (now capacity) (now setup) (now unit) (now holding))
+        (now costs) (now choices) total ⌝ }
+    ensures { λ _. ⌜ TableFilled
+        (problemWith (now (demand .entry)) (now (capacity .entry)) (now (setup .entry)) (now (unit .entry)) (now (holding .entry)))
+        total (now (choices .exit)) ⌝ }
 {
     let width = total + 1;
     let mut from = 0;
@@ -65,25 +71,16 @@ pub fn fill(
         from = filled;
         base += width;
     }
-    costs[from + total]
 }
 
-// 1 where something is made.
-fn setup_of(amount: u16) -> u64
-    ensures { λ r. ⌜ Worth (setupAt amount) 1 r ⌝ }
-{
-    if amount == 0 { 0 } else { 1 }
-}
-
-// Reads the plan of n periods back into the slots, from its end, and counts its setups.
-pub fn read_back(choices: &[u16], slots: &mut [u16], n: usize, total: usize) -> u64
-    requires { ⌜ Readable (now choices) (now slots) n total ⌝ }
-    ensures { λ r. ⌜ ReadBack (now (choices .entry)) (now (slots .entry)) n total (now (slots .exit)) r ⌝ }
+// Reads the plan of n periods back into the slots, from its end.
+pub fn read_back(choices: &[u16], slots: &mut [u16], n: usize, total: usize)
+    requires { ⌜ Traceable (now choices) (now slots) n total ⌝ }
+    ensures { λ _. ⌜ now (slots .exit) ≡ planRead (now (choices .entry)) n total ++ drop n (now (slots .entry)) ⌝ }
 {
     let width = total + 1;
     let mut base = n * width;
     let mut left = total;
-    let mut setups = 0;
     let mut k = n;
     while 0 < k {
         k -= 1;
@@ -91,7 +88,5 @@ pub fn read_back(choices: &[u16], slots: &mut [u16], n: usize, total: usize) -> 
         let amount = choices[base + left];
         slots[k] = amount;
         left -= amount as usize;
-        setups += setup_of(amount);
     }
-    setups
 }

@@ -3,24 +3,22 @@
 use mathlib.Core.Path.{_≡_, _∙_}
 use mathlib.Core.List.{List, [], _∷_}
 use mathlib.Core.Option.{Option, none, some}
-use Prim.Native.Nat.{ℕ, _+_, _*_, _/_, _%_, _≤_, _<_}
+use Prim.Native.Nat.{ℕ, _+_, _*_, _/_, _%_, _<_}
 use native.Mathlib.Nat.{add-mul-mod-self-left, mod-eq-of-lt, add-mul-div-left, div-eq-of-lt, zero-add}
 use native.Mathlib.Omega.{arith}
 use lib.IntN.{ℤ}
+use denote.Ref.{now}
 use Rattle.day.specs.declared.Refusal.{Refusal}
 use Rattle.day.specs.Refusals.{numberOf, periodOf}
 use Rattle.day.specs.declared.Answer.{Answer}
 use Rattle.day.specs.declared.Answer.the-variants as answer
-use Rattle.day.specs.Day.{Day, maxPeriods}
-use Rattle.day.specs.Outcome.{Memory}
-use Rattle.day.specs.Paths.{Path, Runs}
+use Rattle.day.specs.Outcome.{memoryOf, Path, Runs}
 use Rattle.dayfile.specs.declared.ReadAnswer.{ReadAnswer}
 use Rattle.dayfile.specs.declared.ReadAnswer.the-variants as reader
 use Rattle.dayfile.specs.declared.WriteAnswer.{WriteAnswer}
 use Rattle.dayfile.specs.declared.WriteAnswer.the-variants as writer
-use Rattle.dayfile.specs.Answers.{Reading, Writing}
+use Rattle.dayfile.specs.Answers.{Lent, dayBefore, dayAfter, Reading, Writing}
 use Rattle.weigher.specs.declared.Rule.{Rule}
-use Rattle.weigher.specs.declared.Verdict.{Verdict}
 use Rattle.weigher.specs.declared.Verdict.the-variants.{Holds, Broken}
 use Rattle.weigher.specs.declared.Weighed.{Weighed}
 use Rattle.weigher.specs.declared.Weighed.the-variants.{Refused, Judged}
@@ -57,14 +55,11 @@ refused before r = seen (codeOf (numberOf r) (periodOf r)) before
 abbrev pub broken : {A : Type 0} → List A → Rule → ℕ → Seen A
 broken before r i = seen (codeOf (ruleNumber r) i) before
 
--- a verdict: cost and setups of a plan that holds
-abbrev pub seenVerdict : List ℕ → Verdict → Seen ℕ
-seenVerdict before (Holds t) = accepted (t .cost ∷ t .setups ∷ [])
-seenVerdict before (Broken r i) = broken before r i
-
+-- a weighing: cost and setups of a plan that holds
 abbrev pub seenWeighed : List ℕ → Weighed → Seen ℕ
 seenWeighed before (Refused r) = refused before r
-seenWeighed before (Judged v) = seenVerdict before v
+seenWeighed before (Judged (Broken r i)) = broken before r i
+seenWeighed before (Judged (Holds t)) = accepted (t .cost ∷ t .setups ∷ [])
 
 -- a comparison: the difference
 abbrev pub seenCompared : List ℤ → Compared → Seen ℤ
@@ -72,42 +67,56 @@ seenCompared before (compared.Refused r) = refused before r
 seenCompared before (compared.Broken r i) = broken before r i
 seenCompared before (compared.Difference v) = accepted (v ∷ [])
 
--- some answer that the call may give, and what is seen of it
-pub record Shows {A B : Type 0} (Given : A → Type 0) (show : A → Seen B) (s : Seen B) : Type 0 where
-  pub answer : A
-  pub given : Given answer
-  pub shown : s ≡ show answer
+-- a lookup: the body's bytes
+abbrev pub seenLookup : List ℕ → Option Refusal → List ℕ → Seen ℕ
+seenLookup before none bytes = accepted bytes
+seenLookup before (some r) bytes = refused before r
 
 -- a path: cost and setups of the plan
 abbrev pub seenAnswer : List ℕ → Answer → Seen ℕ
 seenAnswer before (answer.Refused r) = refused before r
 seenAnswer before (answer.Planned t) = accepted (t .cost ∷ t .setups ∷ [])
 
--- the period that it names, where it names one, is at most 96
-abbrev pub LowAnswer : Answer → Type 0
-LowAnswer (answer.Refused r) = periodOf r ≤ maxPeriods
-LowAnswer (answer.Planned t) = Unit {0}
-
-abbrev pub PathShows : Path → Day → (m m′ : Memory) → List ℕ → Seen ℕ → Type 0
-PathShows P d m m′ before s = Shows (λ a. Runs P d m a m′) (seenAnswer before) s
-
 -- a reading: the count of periods
 abbrev pub seenReading : List ℕ → ReadAnswer → Seen ℕ
 seenReading before (reader.Refused r) = refused before r
 seenReading before (reader.Periods n) = accepted (n ∷ [])
-
-abbrev pub ReadShows : List ℕ → (tables tables′ : Day) → List ℕ → Seen ℕ → Type 0
-ReadShows file tables tables′ before s = Shows (λ a. Reading file tables a tables′) (seenReading before) s
-
--- a lookup: the body's bytes
-abbrev pub seenLookup : List ℕ → Option Refusal → List ℕ → Seen ℕ
-seenLookup before none bytes = accepted bytes
-seenLookup before (some r) bytes = refused before r
 
 -- a writing: the count of bytes
 abbrev pub seenWriting : List ℕ → WriteAnswer → Seen ℕ
 seenWriting before (writer.Refused r) = refused before r
 seenWriting before (writer.Bytes n) = accepted (n ∷ [])
 
-abbrev pub WriteShows : Day → (bytes bytes′ : List ℕ) → List ℕ → Seen ℕ → Type 0
-WriteShows d bytes bytes′ before s = Shows (λ a. Writing d bytes a bytes′) (seenWriting before) s
+-- some answer that the call may give, and what is seen of it: code r, and the out-array as the call finds and leaves it
+pub record Shows {A : Type 0} (Given : A → Type 0) (show : List ℕ → A → Seen ℕ) (out : Lent) (r : ℕ) : Type 0 where
+  pub answer : A
+  pub given : Given answer
+  pub shown : seen r (now (out .exit)) ≡ show (now (out .entry)) answer
+
+abbrev pub PathShows : Path → (demand capacity setup unit holding costs choices slots answer : Lent) → ℕ → Type 0
+PathShows P demand capacity setup unit holding costs choices slots answer r =
+    Shows
+    (λ a.
+    Runs P (dayBefore demand capacity setup unit holding)
+    (memoryOf (now (costs .entry)) (now (choices .entry)) (now (slots .entry)))
+    a
+    (memoryOf (now (costs .exit)) (now (choices .exit)) (now (slots .exit))))
+    seenAnswer
+    answer
+    r
+
+abbrev pub ReadShows : (file demand capacity setup unit holding periods : Lent) → ℕ → Type 0
+ReadShows file demand capacity setup unit holding periods r =
+    Shows
+    (λ a. Reading (now (file .entry)) (dayBefore demand capacity setup unit holding) a (dayAfter demand capacity setup unit holding))
+    seenReading
+    periods
+    r
+
+abbrev pub WriteShows : (demand capacity setup unit holding out count : Lent) → ℕ → Type 0
+WriteShows demand capacity setup unit holding out count r =
+    Shows
+    (λ a. Writing (dayBefore demand capacity setup unit holding) (now (out .entry)) a (now (out .exit)))
+    seenWriting
+    count
+    r

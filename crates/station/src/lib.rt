@@ -1,14 +1,14 @@
 //! The library's calls as a C program has them: the answer as one code, its numbers in an out-array (include/yakkurem.h).
 ghost use mathlib.Core.Path.{_≡_};
-ghost use Prim.Native.Nat.{_-_, _≤_, _<_};
+ghost use Prim.Native.Nat.{_-_};
 ghost use lib.ListN.{length};
-ghost use Rattle.day.specs.Day.{dayOf, maxPeriods};
 ghost use Rattle.day.specs.Refusals.{numberOf, periodOf};
 ghost use Rattle.day.specs.File as File;
 ghost use Rattle.day.specs.Paths.{full, uncapped, equal};
-ghost use Rattle.dayfile.specs.Answers.{badLookup};
+ghost use Rattle.dayfile.specs.Answers.{dayBefore, badLookup};
 ghost use Rattle.weigher.specs.Answers.{weighedOf, comparedOf, ruleNumber};
-ghost use Rattle.station.specs.Codes.{codeOf, seen, seenWeighed, seenCompared, LowAnswer, seenAnswer, PathShows, ReadShows, seenLookup, WriteShows};
+ghost use Rattle.station.specs.Codes.{codeOf, seen, seenAnswer, seenWeighed, seenCompared, seenReading, seenLookup, seenWriting};
+ghost use Rattle.station.specs.Codes.{PathShows, ReadShows, WriteShows};
 use day::Answer;
 use day::Check;
 use day::Refusal;
@@ -20,30 +20,26 @@ use weigher::Verdict;
 use weigher::Weighed;
 
 // A number and a period as one code.
-fn code(number: u64, period: usize) -> u64
-    requires { ⌜ (number < 256) × (period ≤ maxPeriods) ⌝ }
+fn code(number: u8, period: u16) -> u64
     ensures { λ r. ⌜ r ≡ codeOf number period ⌝ }
 {
-    number + 256 * (period as u64)
+    (number as u64) + 256 * (period as u64)
 }
 
 fn refused(r: Refusal) -> u64
-    requires { ⌜ periodOf r ≤ maxPeriods ⌝ }
     ensures { λ c. ⌜ c ≡ codeOf (numberOf r) (periodOf r) ⌝ }
 {
     code(r.number(), r.period())
 }
 
-fn broken(rule: Rule, period: usize) -> u64
-    requires { ⌜ period ≤ maxPeriods ⌝ }
+fn broken(rule: Rule, period: u16) -> u64
     ensures { λ c. ⌜ c ≡ codeOf (ruleNumber rule) period ⌝ }
 {
     code(rule.number(), period)
 }
 
-// A path's answer: the cost and setups of its plan go to the out-array.
-fn answered(a: Answer, answer: &mut [u64; 2]) -> u64
-    requires { ⌜ LowAnswer a ⌝ }
+// What is shown of a path's answer: the cost and setups of its plan.
+fn planned(a: Answer, answer: &mut [u64; 2]) -> u64
     ensures { λ r. ⌜ seen r (now (answer .exit)) ≡ seenAnswer (now (answer .entry)) a ⌝ }
 {
     match a {
@@ -55,104 +51,11 @@ fn answered(a: Answer, answer: &mut [u64; 2]) -> u64
     }
 }
 
-// The plan of any day, by recursion (5); the answer is its cost and setups.
-#[no_mangle]
-pub extern "C" fn yakkurem_full(
-    demand: &[u16],
-    capacity: &[u16],
-    setup: &[u32],
-    unit: &[u32],
-    holding: &[u32],
-    costs: &mut [u64],
-    choices: &mut [u16],
-    slots: &mut [u16],
-    answer: &mut [u64; 2],
-) -> u64
-    ensures { λ r. ⌜ PathShows full (dayOf (now (demand .entry)) (now (capacity .entry)) (now (setup .entry)) (now (unit .entry)) (now (holding .entry))) (record { costs = now (costs .entry); choices = now (choices .entry); slots = now (slots .entry) }) (record { costs = now (costs .exit); choices = now (choices .exit); slots = now (slots .exit) }) (now (answer .entry)) (seen r (now (answer .exit))) ⌝ }
+// Of a weighing: the cost and setups of a plan that holds.
+fn weighed(w: Weighed, answer: &mut [u64; 2]) -> u64
+    ensures { λ r. ⌜ seen r (now (answer .exit)) ≡ seenWeighed (now (answer .entry)) w ⌝ }
 {
-    let a = full::plan(
-        demand,
-        capacity,
-        setup,
-        unit,
-        holding,
-        costs,
-        choices,
-        slots,
-    );
-    answered(a, answer)
-}
-
-// The plan of a day whose capacities can't bind; the answer is its cost and setups.
-#[no_mangle]
-pub extern "C" fn yakkurem_uncapped(
-    demand: &[u16],
-    capacity: &[u16],
-    setup: &[u32],
-    unit: &[u32],
-    holding: &[u32],
-    costs: &mut [u64],
-    choices: &mut [u16],
-    slots: &mut [u16],
-    answer: &mut [u64; 2],
-) -> u64
-    ensures { λ r. ⌜ PathShows uncapped (dayOf (now (demand .entry)) (now (capacity .entry)) (now (setup .entry)) (now (unit .entry)) (now (holding .entry))) (record { costs = now (costs .entry); choices = now (choices .entry); slots = now (slots .entry) }) (record { costs = now (costs .exit); choices = now (choices .exit); slots = now (slots .exit) }) (now (answer .entry)) (seen r (now (answer .exit))) ⌝ }
-{
-    let a = uncapped::plan(
-        demand,
-        capacity,
-        setup,
-        unit,
-        holding,
-        costs,
-        choices,
-        slots,
-    );
-    answered(a, answer)
-}
-
-// The plan of a day with one capacity throughout; the answer is its cost and setups.
-#[no_mangle]
-pub extern "C" fn yakkurem_equal(
-    demand: &[u16],
-    capacity: &[u16],
-    setup: &[u32],
-    unit: &[u32],
-    holding: &[u32],
-    costs: &mut [u64],
-    choices: &mut [u16],
-    slots: &mut [u16],
-    answer: &mut [u64; 2],
-) -> u64
-    ensures { λ r. ⌜ PathShows equal (dayOf (now (demand .entry)) (now (capacity .entry)) (now (setup .entry)) (now (unit .entry)) (now (holding .entry))) (record { costs = now (costs .entry); choices = now (choices .entry); slots = now (slots .entry) }) (record { costs = now (costs .exit); choices = now (choices .exit); slots = now (slots .exit) }) (now (answer .entry)) (seen r (now (answer .exit))) ⌝ }
-{
-    let a = equal::plan(
-        demand,
-        capacity,
-        setup,
-        unit,
-        holding,
-        costs,
-        choices,
-        slots,
-    );
-    answered(a, answer)
-}
-
-// Weighs a plan; the answer is its cost and setups.
-#[no_mangle]
-pub extern "C" fn yakkurem_weigh(
-    demand: &[u16],
-    capacity: &[u16],
-    setup: &[u32],
-    unit: &[u32],
-    holding: &[u32],
-    plan: &[u16],
-    answer: &mut [u64; 2],
-) -> u64
-    ensures { λ r. ⌜ seen r (now (answer .exit)) ≡ seenWeighed (now (answer .entry)) (weighedOf (dayOf (now (demand .entry)) (now (capacity .entry)) (now (setup .entry)) (now (unit .entry)) (now (holding .entry))) (now (plan .entry))) ⌝ }
-{
-    match weigher::weigh(demand, capacity, setup, unit, holding, plan) {
+    match w {
         Weighed::Refused(r) => refused(r),
         Weighed::Judged(v) => match v {
             Verdict::Broken(rule, period) => broken(rule, period),
@@ -164,21 +67,11 @@ pub extern "C" fn yakkurem_weigh(
     }
 }
 
-// Weighs two plans; the answer is the first one's cost less the second's.
-#[no_mangle]
-pub extern "C" fn yakkurem_compare(
-    demand: &[u16],
-    capacity: &[u16],
-    setup: &[u32],
-    unit: &[u32],
-    holding: &[u32],
-    first: &[u16],
-    second: &[u16],
-    difference: &mut [i64; 1],
-) -> u64
-    ensures { λ r. ⌜ seen r (now (difference .exit)) ≡ seenCompared (now (difference .entry)) (comparedOf (dayOf (now (demand .entry)) (now (capacity .entry)) (now (setup .entry)) (now (unit .entry)) (now (holding .entry))) (now (first .entry)) (now (second .entry))) ⌝ }
+// Of a comparison: the difference.
+fn compared(c: Compared, difference: &mut [i64; 1]) -> u64
+    ensures { λ r. ⌜ seen r (now (difference .exit)) ≡ seenCompared (now (difference .entry)) c ⌝ }
 {
-    match weigher::compare(demand, capacity, setup, unit, holding, first, second) {
+    match c {
         Compared::Refused(r) => refused(r),
         Compared::Broken(rule, period) => broken(rule, period),
         Compared::Difference(v) => {
@@ -188,23 +81,27 @@ pub extern "C" fn yakkurem_compare(
     }
 }
 
-// Fills tables from a day file; the answer is the count of its periods.
-#[no_mangle]
-pub extern "C" fn yakkurem_read(
-    file: &[u8],
-    demand: &mut [u16],
-    capacity: &mut [u16],
-    setup: &mut [u32],
-    unit: &mut [u32],
-    holding: &mut [u32],
-    periods: &mut [u64; 1],
-) -> u64
-    ensures { λ r. ⌜ ReadShows (now (file .entry)) (dayOf (now (demand .entry)) (now (capacity .entry)) (now (setup .entry)) (now (unit .entry)) (now (holding .entry))) (dayOf (now (demand .exit)) (now (capacity .exit)) (now (setup .exit)) (now (unit .exit)) (now (holding .exit))) (now (periods .entry)) (seen r (now (periods .exit))) ⌝ }
+// Of a reading: the count of periods.
+fn read(a: ReadAnswer, periods: &mut [u64; 1]) -> u64
+    ensures { λ r. ⌜ seen r (now (periods .exit)) ≡ seenReading (now (periods .entry)) a ⌝ }
 {
-    match dayfile::reader::read(file, demand, capacity, setup, unit, holding) {
+    match a {
         ReadAnswer::Refused(r) => refused(r),
         ReadAnswer::Periods(n) => {
             *periods = [n as u64];
+            0
+        }
+    }
+}
+
+// Of a writing: the count of bytes.
+fn written(a: WriteAnswer, count: &mut [u64; 1]) -> u64
+    ensures { λ r. ⌜ seen r (now (count .exit)) ≡ seenWriting (now (count .entry)) a ⌝ }
+{
+    match a {
+        WriteAnswer::Refused(r) => refused(r),
+        WriteAnswer::Bytes(n) => {
+            *count = [n as u64];
             0
         }
     }
@@ -224,10 +121,156 @@ fn array(part: &[u8]) -> [u8; 16]
     bytes
 }
 
+// The plan of any day, by recursion (5); the answer is its cost and setups.
+#[no_mangle]
+pub extern "C" fn yakkurem_full(
+    demand: &[u16],
+    capacity: &[u16],
+    setup: &[u32],
+    unit: &[u32],
+    holding: &[u32],
+    costs: &mut [u64],
+    choices: &mut [u16],
+    slots: &mut [u16],
+    answer: &mut [u64; 2],
+) -> u64
+    ensures { λ r. ⌜ PathShows full demand capacity setup unit holding costs choices slots answer r ⌝ }
+{
+    let a = full::plan(
+        demand,
+        capacity,
+        setup,
+        unit,
+        holding,
+        costs,
+        choices,
+        slots,
+    );
+    planned(a, answer)
+}
+
+// The plan of a day whose capacities can't bind; the answer is its cost and setups.
+#[no_mangle]
+pub extern "C" fn yakkurem_uncapped(
+    demand: &[u16],
+    capacity: &[u16],
+    setup: &[u32],
+    unit: &[u32],
+    holding: &[u32],
+    costs: &mut [u64],
+    choices: &mut [u16],
+    slots: &mut [u16],
+    answer: &mut [u64; 2],
+) -> u64
+    ensures { λ r. ⌜ PathShows uncapped demand capacity setup unit holding costs choices slots answer r ⌝ }
+{
+    let a = uncapped::plan(
+        demand,
+        capacity,
+        setup,
+        unit,
+        holding,
+        costs,
+        choices,
+        slots,
+    );
+    planned(a, answer)
+}
+
+// The plan of a day with one capacity throughout; the answer is its cost and setups.
+#[no_mangle]
+pub extern "C" fn yakkurem_equal(
+    demand: &[u16],
+    capacity: &[u16],
+    setup: &[u32],
+    unit: &[u32],
+    holding: &[u32],
+    costs: &mut [u64],
+    choices: &mut [u16],
+    slots: &mut [u16],
+    answer: &mut [u64; 2],
+) -> u64
+    ensures { λ r. ⌜ PathShows equal demand capacity setup unit holding costs choices slots answer r ⌝ }
+{
+    let a = equal::plan(
+        demand,
+        capacity,
+        setup,
+        unit,
+        holding,
+        costs,
+        choices,
+        slots,
+    );
+    planned(a, answer)
+}
+
+// Weighs a plan; the answer is its cost and setups.
+#[no_mangle]
+pub extern "C" fn yakkurem_weigh(
+    demand: &[u16],
+    capacity: &[u16],
+    setup: &[u32],
+    unit: &[u32],
+    holding: &[u32],
+    plan: &[u16],
+    answer: &mut [u64; 2],
+) -> u64
+    ensures { λ r. ⌜
+        seen r (now (answer .exit))
+        ≡ seenWeighed (now (answer .entry)) (weighedOf (dayBefore demand capacity setup unit holding) (now (plan .entry))) ⌝ }
+{
+    weighed(
+        weigher::weigh(demand, capacity, setup, unit, holding, plan),
+        answer,
+    )
+}
+
+// Weighs two plans; the answer is the first one's cost less the second's.
+#[no_mangle]
+pub extern "C" fn yakkurem_compare(
+    demand: &[u16],
+    capacity: &[u16],
+    setup: &[u32],
+    unit: &[u32],
+    holding: &[u32],
+    first: &[u16],
+    second: &[u16],
+    difference: &mut [i64; 1],
+) -> u64
+    ensures { λ r. ⌜
+        seen r (now (difference .exit))
+        ≡ seenCompared (now (difference .entry))
+        (comparedOf (dayBefore demand capacity setup unit holding) (now (first .entry)) (now (second .entry))) ⌝ }
+{
+    let c = weigher::compare(demand, capacity, setup, unit, holding, first, second);
+    compared(c, difference)
+}
+
+// Fills tables from a day file; the answer is the count of its periods.
+#[no_mangle]
+pub extern "C" fn yakkurem_read(
+    file: &[u8],
+    demand: &mut [u16],
+    capacity: &mut [u16],
+    setup: &mut [u32],
+    unit: &mut [u32],
+    holding: &mut [u32],
+    periods: &mut [u64; 1],
+) -> u64
+    ensures { λ r. ⌜ ReadShows file demand capacity setup unit holding periods r ⌝ }
+{
+    let a = dayfile_reader::read(file, demand, capacity, setup, unit, holding);
+    read(a, periods)
+}
+
 // The body of a numbered period record, copied into the out-array: C can't be handed a part of the file.
 #[no_mangle]
 pub extern "C" fn yakkurem_lookup(file: &[u8], period: usize, body: &mut [u8; 16]) -> u64
-    ensures { λ r. ⌜ seen r (now (body .exit)) ≡ seenLookup (now (body .entry)) (badLookup (now (file .entry)) period) (File.body (now (file .entry)) (File.recordAt (now (file .entry)) (period - 1))) ⌝ }
+    ensures { λ r. ⌜
+        seen r (now (body .exit))
+        ≡ seenLookup (now (body .entry)) (badLookup (now (file .entry)) period)
+        (File.body (now (file .entry)) (File.recordAt (now (file .entry)) (period - 1))) ⌝ }
 {
     if let Check::Refused(r) = dayfile::lookup::check(file, period) {
         return refused(r);
@@ -247,13 +290,8 @@ pub extern "C" fn yakkurem_write(
     out: &mut [u8],
     count: &mut [u64; 1],
 ) -> u64
-    ensures { λ r. ⌜ WriteShows (dayOf (now (demand .entry)) (now (capacity .entry)) (now (setup .entry)) (now (unit .entry)) (now (holding .entry))) (now (out .entry)) (now (out .exit)) (now (count .entry)) (seen r (now (count .exit))) ⌝ }
+    ensures { λ r. ⌜ WriteShows demand capacity setup unit holding out count r ⌝ }
 {
-    match dayfile::writer::write(demand, capacity, setup, unit, holding, out) {
-        WriteAnswer::Refused(r) => refused(r),
-        WriteAnswer::Bytes(n) => {
-            *count = [n as u64];
-            0
-        }
-    }
+    let a = dayfile_writer::write(demand, capacity, setup, unit, holding, out);
+    written(a, count)
 }

@@ -1,6 +1,6 @@
--- What the weigher's two calls answer (document 01, "The weigher"), and the number and values of each answer.
--- Main definitions: `weighedOf`, `comparedOf`; `reportOf`, `comparisonOf`. Assumes nothing.
-use mathlib.Core.List.{List, [], _∷_}
+-- What the weigher's two calls answer (document 01, "The weigher"), and the number of each rule.
+-- Main definitions: `weighedOf`, `comparedOf`; `ruleNumber`. Assumes nothing.
+use mathlib.Core.List.{List, [], _∷_, _++_}
 use mathlib.Core.Option.{Option, none, some}
 use Prim.Native.Nat.{ℕ}
 use lib.ListN.{length}
@@ -8,7 +8,7 @@ use lib.IntN.{pos, _-ℤ_}
 use Rattle.day.specs.declared.Refusal.{Refusal}
 use Rattle.day.specs.Sums.{at}
 use Rattle.day.specs.Day.{Day, periods}
-use Rattle.day.specs.Refusals.{numberOf, periodOf, first, badTables, badTotal, badSlots}
+use Rattle.day.specs.Refusals.{first, dayTests, badSlots}
 use Rattle.weigher.specs.declared.Rule.{Rule}
 use Rattle.weigher.specs.declared.Rule.the-variants.{AboveCapacity, Short, Over}
 use Rattle.weigher.specs.declared.Verdict.{Verdict}
@@ -17,13 +17,11 @@ use Rattle.weigher.specs.declared.Weighed.{Weighed}
 use Rattle.weigher.specs.declared.Weighed.the-variants.{Refused, Judged}
 use Rattle.weigher.specs.declared.Compared.{Compared}
 use Rattle.weigher.specs.declared.Compared.the-variants as compared
-use Rattle.weigher.specs.declared.Report.{Report}
-use Rattle.weigher.specs.declared.Comparison.{Comparison}
 use Rattle.weigher.specs.Verdict.{verdictOf}
 
 -- 1, 2, 3, 4, 6
 abbrev pub weighRefusal : Day → List ℕ → Option Refusal
-weighRefusal d plan = first (badTables d (badTotal d ∷ badSlots (length plan) (periods d) ∷ []))
+weighRefusal d plan = first (dayTests d ++ (badSlots (length plan) (periods d) ∷ []))
 
 -- the first refusal in order, else the verdict on the plan
 abbrev pub orRefused : Option Refusal → Verdict → Weighed
@@ -53,15 +51,3 @@ abbrev pub ruleNumber : Rule → ℕ
 ruleNumber AboveCapacity = 101
 ruleNumber Short = 102
 ruleNumber Over = 103
-
--- the weigher's answer as numbers: a refusal's own, a broken rule's, or 0; the period; cost and setups of a plan that holds
-abbrev pub reportOf : Weighed → Report
-reportOf (Refused r) = record { number = numberOf r; period = periodOf r; cost = 0; setups = 0 }
-reportOf (Judged (Broken r i)) = record { number = ruleNumber r; period = i; cost = 0; setups = 0 }
-reportOf (Judged (Holds t)) = record { number = 0; period = 0; cost = t .cost; setups = t .setups }
-
--- likewise of a comparison: number, period, difference
-abbrev pub comparisonOf : Compared → Comparison
-comparisonOf (compared.Refused r) = record { number = numberOf r; period = periodOf r; difference = pos 0 }
-comparisonOf (compared.Broken r i) = record { number = ruleNumber r; period = i; difference = pos 0 }
-comparisonOf (compared.Difference v) = record { number = 0; period = 0; difference = v }

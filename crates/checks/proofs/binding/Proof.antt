@@ -77,6 +77,7 @@ binding-spec =
     (λ c. omega arith)
     cast-if1
     (λ c. omega arith)
+    (λ c. omega arith)
     returns
     (λ c. omega arith)
     (λ c. omega arith)

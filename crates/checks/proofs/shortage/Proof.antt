@@ -84,6 +84,7 @@ shortage-spec =
     cast-available
     add-available
     (λ c. omega arith)
+    (λ c. omega arith)
     returns
     (λ c. omega arith)
     loop-again

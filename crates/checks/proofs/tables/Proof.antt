@@ -4,7 +4,8 @@ use mathlib.Core.Option.{none}
 use borrow.Author.Needs.{needs}
 use Rattle.day.specs.Day.{Day, dayOf, periods}
 use Rattle.day.specs.Refusals.{badCount, badLengths, badValue}
-use Rattle.checks.specs.Passed.{passed, refused, first-one, lengths-passed}
+use Rattle.day.specs.Tests.{passed, refused, first-one}
+use Rattle.checks.specs.Passed.{count-passed, lengths-passed}
 use Rattle.checks.proofs.tables.Statement.{statement}
 use Rattle.checks.proofs.tables.Tie as tie
 
@@ -33,7 +34,10 @@ returns-2 c =
     rw (counted (p .before), e) refl
 
 values-requires : tie.Need-values-requires
-values-requires c κs = lengths-passed _ (measured c)
+values-requires c κs =
+    let p = c .before .before .before in
+    let d = tables (p .before .before) in
+    record { few = count-passed (periods d) (counted p) .1; lengths = lengths-passed d (measured c) }
 
 returns-3 : tie.Need-returns-3
 returns-3 c =

@@ -76,6 +76,7 @@ values-spec =
     (λ c. omega arith)
     (λ c κs. tt)
     (λ c. omega arith)
+    (λ c. omega arith)
     returns
     (λ c. omega arith)
     (λ c. omega arith)

@@ -7,119 +7,118 @@ use borrow.Rule.Slice.PartMut.{midOf, putMid}
 use native.Mathlib.Omega.{arith}
 use lib.ListN.{length}
 use Rattle.day.specs.Sums.{at}
-use Rattle.theory.specs.Model.{Model}
+use Rattle.theory.specs.Problem.{Problem, periods, modelOf}
 use Rattle.equal_runs.specs.Bounds.{stageMost}
 use Rattle.equal_runs.specs.Told.{told-most}
-use Rattle.equal_rows.specs.Rows.{Sized, Held, Trial, Candidate, rowOf, runOf, solutionOf, glue-held}
-use Rattle.equal_rows.proofs.Parts.{square-small, row-low, row-length, end-length, front-length, front-end}
+use Rattle.equal_runs.specs.Run.{constantWith}
+use Rattle.equal_rows.specs.Rows.{Areas, areas, PlanTold, IntervalTold, CandidateTold, rowOf, intervalOf, solutionOf, glue-told}
+use Rattle.equal_rows.specs.Consider.{Considerable, need-low}
+use Rattle.equal_rows.proofs.Parts.{row-low, row-inside, row-length, end-length, front-length, front-end}
 use Rattle.equal_rows.proofs.candidate.Statement.{statement}
 use Rattle.equal_rows.proofs.candidate.Tie as tie
 
--- the part that is copied is row l
-is-row : (n l : ℕ) (choices ys : List ℕ) → ys ≡ midOf (l * n) (l * n + l - l * n) choices → ys ≡ rowOf n choices l
-is-row n l choices ys e = let f : l * n + l - l * n ≡ l = omega arith in rw f at e
+module _ (p : Problem) (c l W : ℕ) (old : Areas) (slots ys : List ℕ) (asked : Considerable p c l (length slots) W old)
+    (copied : ys ≡ midOf (l * periods p) (l * periods p + l - l * periods p) (old .choices)) where
+  abbrev n : ℕ
+  n = periods p
 
-module _ (n l : ℕ) (costs choices slots ys : List ℕ) (inside : l ≤ length slots) (few : length slots ≤ n) (s : Sized n costs choices)
-    (copied : ys ≡ midOf (l * n) (l * n + l - l * n) choices) where
+  -- the slots once the row is copied, and what is left of them
+  abbrev begun : List ℕ
+  begun = putMid 0 (l - 0) slots ys
+
+  abbrev rest : List ℕ
+  rest = midOf l (length begun - l) begun
+
+  -- the part that is copied is row l
+  is-row : ys ≡ rowOf n old l
+  is-row = let f : l * n + l - l * n ≡ l = omega arith in rw f at copied
+
   copied-length : length ys ≡ l
-  copied-length = ap length (is-row n l choices ys copied) ∙ row-length n l costs choices s (omega arith)
+  copied-length = ap length is-row ∙ row-length n old (asked .sized) l (omega (arith, asked .before, asked .inside))
 
-  -- what is left of the slots
-  rest-length : length (midOf l (length (putMid 0 (l - 0) slots ys) - l) (putMid 0 (l - 0) slots ys)) ≡ length slots - l
-  rest-length = end-length l (putMid 0 (l - 0) slots ys) ∙ ap (λ (k : ℕ). k - l) (front-length l slots ys copied-length inside)
+  rest-length : length rest ≡ length slots - l
+  rest-length = end-length l begun ∙ ap (λ (k : ℕ). k - l) (front-length l slots ys copied-length (omega (arith, asked .before)))
 
-  rest-fits : l + length (midOf l (length (putMid 0 (l - 0) slots ys) - l) (putMid 0 (l - 0) slots ys)) ≤ n
-  rest-fits = omega (arith, rest-length)
+  rest-fits : l + length rest ≤ n
+  rest-fits = omega (arith, rest-length, asked .before, asked .inside)
 
-  module _ (M : Model) (c W v : ℕ) (costs₁ choices₁ zs : List ℕ) (low : at costs l ≤ l * stageMost)
-      (size : length zs ≡ length (midOf l (length (putMid 0 (l - 0) slots ys) - l) (putMid 0 (l - 0) slots ys)))
-      (trial : Trial M n l c W costs choices v costs₁ choices₁ zs) where
-    no-wrap : n ≤ 96 → at costs l + v < 2 ^ 64
-    no-wrap h = omega (arith, size, rest-length, told-most (length zs * stageMost) v (runOf M l c W (length zs)) (trial .held .told))
+  module _ (v : ℕ) (new : Areas) (zs : List ℕ) (size : length zs ≡ length rest) (trial : IntervalTold p c l W old v new zs) where
+    no-wrap : at (old .costs) l + v < 2 ^ 64
+    no-wrap =
+        let most = told-most (length zs * stageMost) v (intervalOf (modelOf p) c l W (length zs)) (trial .told .cost) in
+        omega (arith, size, rest-length, asked .row .low, asked .before, asked .inside, asked .constant .bounded .few)
 
-    found : Candidate M n l c W (length slots - l) costs choices (at costs l + v) costs₁ choices₁ (putMid l (length (putMid 0 (l - 0) slots ys) - l) (putMid 0 (l - 0) slots ys) zs)
+    found : CandidateTold p c l W (length slots - l) old (at (old .costs) l + v) new (putMid l (length begun - l) begun zs)
     found =
         let count : length zs ≡ length slots - l = size ∙ rest-length in
         let e : (l + (length slots - l)) * stageMost ≡ l * stageMost + (length slots - l) * stageMost = omega arith in
-        let p = front-end l slots ys zs copied-length inside ∙ ap (λ (row : List ℕ). row ++ zs) (is-row n l choices ys copied) in
-        let h : Held ((length slots - l) * stageMost) v zs (runOf M l c W (length slots - l)) = rw count at (trial .held) in
+        let q = front-end l slots ys zs copied-length (omega (arith, asked .before)) ∙ ap (λ (row : List ℕ). row ++ zs) is-row in
+        let h : PlanTold ((length slots - l) * stageMost) v zs (intervalOf (modelOf p) c l W (length slots - l)) = rw count at (trial .told) in
         record {
           kept = trial .kept;
-          held = rw (e, p) (glue-held (l * stageMost) ((length slots - l) * stageMost) v (solutionOf n costs choices l) zs (runOf M l c W (length slots - l)) low h);
+          told = rw (e, q) (glue-told (l * stageMost) ((length slots - l) * stageMost) v (solutionOf n old l) zs _ (asked .row .low) h);
         }
 
-mul-from : tie.Need-mul-from
-mul-from c =
-    let n : ℕ = length (c .before .before .before .before .before .before .before .before .args .demand .now) in
-    let pre = c .before .before .before .before .before .before .before .before .pre in
-    omega (arith, square-small n (pre .0 .few), row-low n (c .before .before .before .before .before .before .before .before .args .l) (omega arith), pre .0 .few)
+-- from the end back: the interval tried, row l copied, the slots known, and the entry
+abbrev tried : tie.After-slice-known8 → tie.After-trial
+tried c = c .before .before .before .before .before .before
 
-add-copy : tie.Need-add-copy
-add-copy c =
-    let n : ℕ = length (c .before .before .before .before .before .before .before .before .args .demand .now) in
-    let pre = c .before .before .before .before .before .before .before .before .pre in
-    omega (arith, square-small n (pre .0 .few), row-low n (c .before .before .before .before .before .before .before .before .args .l) (omega arith), pre .0 .few)
+abbrev copied-at : tie.After-trial-arg3 → tie.After-copy
+copied-at c = c .before .before .before .before .before .before
 
-mul-copy : tie.Need-mul-copy
-mul-copy c =
-    let n : ℕ = length (c .before .before .before .before .before .before .before .before .args .demand .now) in
-    let pre = c .before .before .before .before .before .before .before .before .pre in
-    omega (arith, square-small n (pre .0 .few), row-low n (c .before .before .before .before .before .before .before .before .args .l) (omega arith), pre .0 .few)
+abbrev known : tie.After-copy → tie.After-slice-known3
+known c = c .before .before .before .before
+
+abbrev entry : tie.After-slice-known3 → tie.Start
+entry c = c .before .before .before .before .before .before .before
+
+abbrev given : tie.Start → Problem
+given s = let a = s .args in constantWith (a .demand .now) (a .full) (a .setup .now) (a .unit .now) (a .holding .now)
+
+abbrev lent : tie.Start → Areas
+lent s = areas (s .args .costs .now) (s .args .choices .now)
+
+end-low : (c : tie.After-slice-known3) → let s = entry c in s .args .l * periods (given s) + s .args .l ≤ 9312
+end-low c = let s = entry c in row-low _ _ (s .pre .constant .bounded .few) (omega (arith, s .pre .before, s .pre .inside))
 
 part-copy-end : tie.Need-part-copy-end
 part-copy-end c =
-    let n : ℕ = length (c .before .before .before .before .before .before .before .before .before .args .demand .now) in
-    let pre = c .before .before .before .before .before .before .before .before .before .pre in
-    omega (arith, row-low n (c .before .before .before .before .before .before .before .before .before .args .l) (omega arith), pre .5 .choices′)
+    let s = entry (c .before) in
+    row-inside (periods (given s)) (lent s) (s .pre .sized) (s .args .l) (omega (arith, s .pre .before, s .pre .inside))
 
 trial-requires : tie.Need-trial-requires
 trial-requires c κs =
-    let a = c .before .before .before .before .before .before .before .before .before .before .before .before .before .before .before .before .before .before .args in
-    let pre = c .before .before .before .before .before .before .before .before .before .before .before .before .before .before .before .before .before .before .pre in (
-      pre .0,
-      rest-fits (length (a .demand .now)) (a .l) (a .costs .now) (a .choices .now) (a .slots .now) (c .before .before .before .before .before .before .copy .last .1 .0) (pre .1) (pre .2) (pre .5) (c .before .before .before .before .before .before .copy .ensures),
-      pre .3,
-      pre .4,
-      pre .5,
-    )
+    let copy = copied-at c .copy in
+    let s = entry (known (copied-at c)) in
+    record {
+      bounded = s .pre .constant .bounded;
+      inside = rest-fits (given s) (s .args .full) (s .args .l) _ (lent s) (s .args .slots .now) (copy .last .1 .0) (s .pre) (copy .ensures);
+      room = s .pre .room;
+      low = omega (arith, s .pre .rest, need-low (given s) (s .args .full) (s .pre .constant) (length (s .args .slots .now)) (s .pre .inside));
+      sized = s .pre .sized;
+    }
 
 add-result : tie.Need-add-result
 add-result c =
-    let a = c .before .before .before .before .before .before .before .before .before .before .before .before .before .before .before .before .before .before .before .before .before .before .before .before .before .args in
-    let pre = c .before .before .before .before .before .before .before .before .before .before .before .before .before .before .before .before .before .before .before .before .before .before .before .before .before .pre in
+    let t = tried c in
+    let copy = copied-at (t .before) .copy in
+    let s = entry (known (copied-at (t .before))) in
     record {
-      fits = no-wrap (length (a .demand .now)) (a .l) (a .costs .now) (a .choices .now) (a .slots .now) (c .before .before .before .before .before .before .before .before .before .before .before .before .before .copy .last .1 .0) (pre .1) (pre .2) (pre .5) (c .before .before .before .before .before .before .before .before .before .before .before .before .before .copy .ensures)
-          _ _ _ _ _ _ _ (pre .6) (c .before .before .before .before .before .before .trial .kept .1 .1 .1 .1 .1 .1 .1 .1 .1 .0) (c .before .before .before .before .before .before .trial .ensures) (pre .0 .few);
+      fits = no-wrap (given s) (s .args .full) (s .args .l) _ (lent s) (s .args .slots .now) (copy .last .1 .0) (s .pre) (copy .ensures)
+          _ _ _ (t .trial .kept .1 .1 .1 .1 .1 .1 .1 .1 .1 .0) (t .trial .ensures);
     }
 
 returns : tie.Need-returns
 returns c =
-    let a = c .before .before .before .before .before .before .before .before .before .before .before .before .before .before .before .before .before .before .before .before .before .before .before .before .before .args in
-    let pre = c .before .before .before .before .before .before .before .before .before .before .before .before .before .before .before .before .before .before .before .before .before .before .before .before .before .pre in
-    found (length (a .demand .now)) (a .l) (a .costs .now) (a .choices .now) (a .slots .now) (c .before .before .before .before .before .before .before .before .before .before .before .before .before .copy .last .1 .0) (pre .1) (pre .2) (pre .5) (c .before .before .before .before .before .before .before .before .before .before .before .before .before .copy .ensures)
-    _ _ _ _ _ _ _ (pre .6) (c .before .before .before .before .before .before .trial .kept .1 .1 .1 .1 .1 .1 .1 .1 .1 .0) (c .before .before .before .before .before .before .trial .ensures)
+    let t = tried c in
+    let copy = copied-at (t .before) .copy in
+    let s = entry (known (copied-at (t .before))) in
+    found (given s) (s .args .full) (s .args .l) _ (lent s) (s .args .slots .now) (copy .last .1 .0) (s .pre) (copy .ensures)
+    _ _ _ (t .trial .kept .1 .1 .1 .1 .1 .1 .1 .1 .1 .0) (t .trial .ensures)
 
 pub candidate-spec : {M : Type 1} → statement M
 candidate-spec = tie.close (tie.spec
-    mul-from
-    add-copy
-    mul-copy
-    (λ c. search needs)
-    (λ c. search needs)
-    part-copy-end
-    (λ c. search needs)
-    (λ c. search needs)
-    (λ c. search needs)
-    (λ c κs. search needs)
-    (λ c. search needs)
-    (λ c. search needs)
-    (λ c. search needs)
-    (λ c. search needs)
-    (λ c. search needs)
-    (λ c. search needs)
-    trial-requires
-    add-result
-    (λ c. search needs)
-    (λ c. search needs)
-    (λ c. search needs)
-    returns)
+    (λ c. omega (arith, end-low c)) (λ c. omega (arith, end-low c)) (λ c. omega (arith, end-low c)) (λ c. search needs) (λ c. search needs)
+    part-copy-end (λ c. search needs) (λ c. search needs) (λ c. search needs) (λ c κs. search needs) (λ c. search needs)
+    (λ c. search needs) (λ c. search needs) (λ c. search needs) (λ c. search needs) (λ c. search needs) trial-requires add-result
+    (λ c. search needs) (λ c. search needs) (λ c. search needs) returns)

@@ -1,51 +1,66 @@
 -- `equal_rows::consider` meets its contract. Assumes nothing.
 use mathlib.Core.Path.{_≡_}
 use mathlib.Core.List.{List}
-use Prim.Native.Nat.{ℕ, _+_, _-_, _≤_, _<_}
+use Prim.Native.Nat.{ℕ, _+_, _-_}
 use borrow.Author.Needs.{needs}
 use native.Mathlib.Omega.{arith}
 use lib.ListN.{length}
-use Rattle.day.specs.Sums.{at}
-use Rattle.day.specs.Day.{Day, dayOf, periods, demandTo}
-use Rattle.theory.specs.Base.{modelOf}
-use Rattle.equal_rows.specs.Rows.{Candidate}
-use Rattle.equal_rows.specs.Best.{Row, Best}
-use Rattle.equal_rows.specs.Problem.{Problem, Settled, Considered, considered, need-low}
+use Rattle.theory.specs.Problem.{Problem, periods}
+use Rattle.equal_runs.specs.Run.{constantWith}
+use Rattle.equal_rows.specs.Rows.{Areas, areas, CandidateTold, sized-as}
+use Rattle.equal_rows.specs.Consider.{Considerable, RowSettled, Considered, considered}
 use Rattle.equal_rows.proofs.consider.Statement.{statement}
 use Rattle.equal_rows.proofs.consider.Tie as tie
 
-tried : (d : Day) (m l left v : ℕ) (costs choices costs₁ choices₁ plan costs₂ choices₂ : List ℕ)
-    → Problem d → l < m → m ≤ periods d → left ≡ demandTo d m - demandTo d l
-    → Row (modelOf d) (periods d) l costs choices
-    → Best (modelOf d) (at (d .capacity) 0) (periods d) m l costs choices
-    → Candidate (modelOf d) (periods d) l (at (d .capacity) 0) left (m - l) costs choices v costs₁ choices₁ plan
+tried : (p : Problem) (c l m left v : ℕ) (old new last : Areas) (plan : List ℕ)
+    → Considerable p c l m left old
+    → CandidateTold p c l left (m - l) old v new plan
     → length plan ≡ m
-    → Settled (periods d) (length plan) v plan costs₁ choices₁ costs₂ choices₂
-    → Considered d m (l + 1) costs choices costs₂ choices₂
-tried d m l left v costs choices costs₁ choices₁ plan costs₂ choices₂ problem before inside e row best found size settled =
-    considered d problem m l v before inside costs choices costs₁ choices₁ plan row best (rw e at found) costs₂ choices₂ (rw size at settled)
+    → RowSettled (periods p) (length plan) v plan new last
+    → Considered p c m (l + 1) old last
+tried p c l m left v old new last plan asked found size settled =
+    considered p c (asked .constant) l m left v old new plan asked found last (rw size at settled)
 
-candidate-requires : tie.Need-candidate-requires
-candidate-requires c κs =
-    let a = c .before .before .before .before .before .before .before .before .before .before .before .args in
-    let pre = c .before .before .before .before .before .before .before .before .before .before .before .pre in
-    let d : Day = dayOf (a .demand .now) (a .capacity .now) (a .setup .now) (a .unit .now) (a .holding .now) in (
-      pre .0 .limits,
-      omega (arith, pre .1),
-      pre .2,
-      pre .0 .room,
-      omega (arith, pre .3, need-low d (pre .0) (length (a .slots .now)) (pre .2)),
-      pre .4,
-      pre .5 .low,
-    )
+-- from the end back: the row settled, the slots known, the candidate found, and the entry
+abbrev settled : tie.After-slice-known8 → tie.After-settle
+settled c = c .before .before .before .before
+
+abbrev known : tie.After-settle-arg3 → tie.After-slice-known6
+known c = c .before .before .before
+
+abbrev found : tie.After-slice-known6 → tie.After-candidate
+found c = c .before .before .before .before .before .before
+
+abbrev lent : tie.After-candidate-arg3 → tie.After-slice-known3
+lent c = c .before .before .before
+
+abbrev entry : tie.After-slice-known3 → tie.Start
+entry c = c .before .before .before .before .before .before .before
+
+-- what the candidate left
+abbrev left : tie.After-candidate → Areas
+left c = let last = c .candidate .last in areas (last .1 .1 .1 .1 .1 .1 .1 .0) (last .1 .1 .1 .1 .1 .1 .1 .1 .0)
+
+settle-requires : tie.Need-settle-requires
+settle-requires c κs =
+    let f = found (known c) in
+    let s = entry (lent (f .before)) in
+    let kept = f .candidate .kept in
+    record {
+      few = s .pre .constant .bounded .few;
+      inside = omega (arith, s .pre .inside, kept .1 .1 .1 .1 .1 .1 .1 .1 .1 .0);
+      sized = sized-as {b = left f} (s .pre .sized) (kept .1 .1 .1 .1 .1 .1 .1 .0) (kept .1 .1 .1 .1 .1 .1 .1 .1 .0);
+    }
 
 returns : tie.Need-returns
 returns c =
-    let a = c .before .before .before .before .before .before .before .before .before .before .before .before .before .before .before .before .before .before .before .before .before .before .before .before .before .before .args in
-    let pre = c .before .before .before .before .before .before .before .before .before .before .before .before .before .before .before .before .before .before .before .before .before .before .before .before .before .before .pre in
-    tried (dayOf (a .demand .now) (a .capacity .now) (a .setup .now) (a .unit .now) (a .holding .now)) (length (a .slots .now)) (a .l) (a .left) (c .before .before .before .before .before .before .before .before .before .before .before .before .before .before .candidate .result)
-    (a .costs .now) (a .choices .now) _ _ _ _ _ (pre .0) (pre .1) (pre .2) (pre .3) (pre .5) (pre .6) (c .before .before .before .before .before .before .before .before .before .before .before .before .before .before .candidate .ensures)
-    (c .before .before .before .before .before .before .before .before .before .before .before .before .before .before .candidate .kept .1 .1 .1 .1 .1 .1 .1 .1 .1 .0) (c .before .before .before .before .settle .ensures)
+    let f = found (known (settled c .before)) in
+    let s = entry (lent (f .before)) in
+    let a = s .args in
+    tried (constantWith (a .demand .now) (a .full) (a .setup .now) (a .unit .now) (a .holding .now)) (a .full) (a .l) _ (a .left) (f .candidate .result)
+    (areas (a .costs .now) (a .choices .now)) (left f) _ _ (s .pre) (f .candidate .ensures) (f .candidate .kept .1 .1 .1 .1 .1 .1 .1 .1 .1 .0)
+    (settled c .settle .ensures)
 
 pub consider-spec : {M : Type 1} → statement M
-consider-spec = tie.close (tie.spec candidate-requires (λ c κs. search needs) (λ c. search needs) (λ c. search needs) (λ c. search needs) returns)
+consider-spec = tie.close (tie.spec
+    (λ c κs. entry (lent c) .pre) settle-requires (λ c. search needs) (λ c. search needs) (λ c. search needs) returns)

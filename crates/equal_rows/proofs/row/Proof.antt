@@ -1,4 +1,4 @@
--- `equal_rows::row` meets its contract. The invariant: the first of the candidates before l is held in row m. Assumes nothing.
+-- `equal_rows::row` meets its contract. The invariant: the first of the candidates before l is told in row m. Assumes nothing.
 use mathlib.Core.Path.{_≡_, refl, ap, _∙_}
 use mathlib.Core.List.{List}
 use Prim.Native.Nat.{ℕ, suc, _+_, _-_, _*_, _≤_, _<_}
@@ -9,144 +9,175 @@ use native.Mathlib.Omega.{arith}
 use lib.ListN.{length, set, length-set}
 use lib.Seq.{take-set-le, getD-set-same}
 use Rattle.day.specs.Sums.{at, sum-grows}
-use Rattle.day.specs.Day.{Day, dayOf, periods, demandTo}
-use Rattle.theory.specs.Base.{modelOf}
+use Rattle.theory.specs.Problem.{Problem, periods, demandTo}
 use Rattle.equal_runs.specs.Bounds.{marker}
-use Rattle.equal_rows.specs.Rows.{Kept, sized-as}
-use Rattle.equal_rows.specs.Best.{Row, kept-trans, row-kept, best-none}
-use Rattle.equal_rows.specs.Problem.{Problem, Considered, Found, all-considered}
+use Rattle.equal_runs.specs.Run.{constantWith}
+use Rattle.equal_rows.specs.Rows.{Areas, areas, EarlierKept, sized-as}
+use Rattle.equal_rows.specs.Best.{PlanRow, kept-trans, row-kept, best-none}
+use Rattle.equal_rows.specs.Consider.{ConstantCapacity, Considered, RowFound, all-considered}
 use Rattle.equal_rows.proofs.row.Statement.{statement}
 use Rattle.equal_rows.proofs.row.Tie as tie
 
--- the row is marked: what stands before it is as it was
-marked : (d : Day) (m v : ℕ) (costs choices : List ℕ) → Kept m (m * periods d) costs choices (set costs m v) choices
-marked d m v costs choices = record { costs′ = take-set-le m costs m v (omega arith); choices′ = refl }
+module _ (p : Problem) (c m : ℕ) where
+  -- row m is marked
+  abbrev marked : Areas → Areas
+  marked a = areas (set (a .costs) m marker) (a .choices)
 
-first-try : (d : Day) (m : ℕ) (costs choices : List ℕ) → m < length costs → Considered d m 0 (set costs m marker) choices (set costs m marker) choices
-first-try d m costs choices h =
-    record { kept = record { costs′ = refl; choices′ = refl }; best = best-none (modelOf d) _ (periods d) m (set costs m marker) choices (getD-set-same costs m marker 0 h) }
+  -- what stands before it is as it was
+  marked-kept : (a : Areas) → EarlierKept (periods p) m a (marked a)
+  marked-kept a = record { costs = take-set-le m (a .costs) m marker (omega arith); choices = refl }
 
-next-try : (d : Day) (m l l′ : ℕ) (costs choices costs₁ choices₁ costs₂ choices₂ : List ℕ) → Considered d m l costs choices costs₁ choices₁
-    → Considered d m l′ costs₁ choices₁ costs₂ choices₂ → Considered d m l′ costs choices costs₂ choices₂
-next-try d m l l′ costs choices costs₁ choices₁ costs₂ choices₂ a b = record { kept = kept-trans (a .kept) (b .kept); best = b .best }
+  first-try : (a : Areas) → m < length (a .costs) → Considered p c m 0 (marked a) (marked a)
+  first-try a h =
+      record { kept = record { costs = refl; choices = refl }; best = best-none p c m (marked a) (getD-set-same (a .costs) m marker 0 h) }
 
-row-now : (d : Day) (m l : ℕ) (costs choices costs₁ choices₁ : List ℕ) → l < m → m ≤ periods d → Considered d m l (set costs m marker) choices costs₁ choices₁
-    → Row (modelOf d) (periods d) l costs choices → Row (modelOf d) (periods d) l costs₁ choices₁
-row-now d m l costs choices costs₁ choices₁ h g a =
-    row-kept (modelOf d) (periods d) l m (m * periods d) costs choices costs₁ choices₁ (kept-trans (marked d m marker costs choices) (a .kept)) h (omega (arith, mul-le-mul-right (periods d) h))
+  next-try : (l l′ : ℕ) (a b d : Areas) → Considered p c m l a b → Considered p c m l′ b d → Considered p c m l′ a d
+  next-try l l′ a b d u v = record { kept = kept-trans (u .kept) (v .kept); best = v .best }
 
-all-tried : (d : Day) (m l : ℕ) (costs choices costs₁ choices₁ : List ℕ) → Problem d → 0 < m → m ≤ periods d → l ≡ m → Considered d m l (set costs m marker) choices costs₁ choices₁
-    → Found d m costs choices costs₁ choices₁
-all-tried d m l costs choices costs₁ choices₁ problem pos h e a =
-    let f = all-considered d problem m pos h (set costs m marker) choices costs₁ choices₁ (rw e at a) in
-    record { kept = kept-trans (marked d m marker costs choices) (f .kept); row = f .row }
+  row-now : (l : ℕ) (a b : Areas) → l < m → m ≤ periods p → Considered p c m l (marked a) b → PlanRow p l a → PlanRow p l b
+  row-now l a b h g u =
+      row-kept p l m (m * periods p) a b (kept-trans (marked-kept a) (u .kept)) h (omega (arith, mul-le-mul-right (periods p) h))
 
--- what is left to make from l + 1 on
-less-left : (d : Day) (m l left : ℕ) → l < m → left ≡ demandTo d m - demandTo d l
-    → (at (d .demand) l ≤ left) × (left - at (d .demand) l ≡ demandTo d m - demandTo d (l + 1))
-less-left d m l left h e =
-    let g = sum-grows (at (d .demand)) (suc l) m h in
-    let f = ap (demandTo d) (add-one l) in
-    (omega arith, omega arith)
+  all-tried : (l : ℕ) (a b : Areas) → ConstantCapacity p c → 0 < m → m ≤ periods p → l ≡ m
+      → Considered p c m l (marked a) b → RowFound p m a b
+  all-tried l a b constant pos h e u =
+      let f = all-considered p c constant m pos h (marked a) b (rw e at u) in
+      record { kept = kept-trans (marked-kept a) (f .kept); row = f .row }
+
+  -- what is left to make from l + 1 on
+  less-left : (l left : ℕ) → l < m → left ≡ demandTo p m - demandTo p l
+      → (at (p .demand) l ≤ left) × (left - at (p .demand) l ≡ demandTo p m - demandTo p (l + 1))
+  less-left l left h e =
+      let g = sum-grows (at (p .demand)) (suc l) m h in
+      let f = ap (demandTo p) (add-one l) in
+      (omega arith, omega arith)
+
+-- the candidates before l are tried
+record Trying (p : Problem) (c m : ℕ) (old new : Areas) (slots : List ℕ) (left l : ℕ) : Type 0 where
+  inside : l ≤ m
+  rest : left ≡ demandTo p m - demandTo p l
+  each : length slots ≡ m
+  costs-size : length (new .costs) ≡ length (old .costs)
+  choices-size : length (new .choices) ≡ length (old .choices)
+  tried : Considered p c m l old new
 
 abbrev Inv-loop : tie.InvT-loop
-Inv-loop demand capacity setup unit holding need costs₀ choices₀ slots₀ m left₀ l₀ costs choices slots left l =
-    (l ≤ m) × (left ≡ demandTo (dayOf demand capacity setup unit holding) m - demandTo (dayOf demand capacity setup unit holding) l)
-    × (length slots ≡ m) × (length costs ≡ length costs₀) × (length choices ≡ length choices₀)
-    × Considered (dayOf demand capacity setup unit holding) m l costs₀ choices₀ costs choices
+Inv-loop demand setup unit holding full need costs₀ choices₀ slots₀ m left₀ l₀ costs choices slots left l =
+    Trying (constantWith demand full setup unit holding) full m (areas costs₀ choices₀) (areas costs choices) slots left l
 
 abbrev μ-loop : tie.MeasureT-loop
-μ-loop demand capacity setup unit holding need costs₀ choices₀ slots₀ m left₀ l₀ costs choices slots left l = m - l
+μ-loop demand setup unit holding full need costs₀ choices₀ slots₀ m left₀ l₀ costs choices slots left l = m - l
+
+abbrev entry : tie.After-slice-known3 Inv-loop μ-loop → tie.Start Inv-loop μ-loop
+entry c = c .before .before .before .before .before .before .before
+
+abbrev given : tie.Start Inv-loop μ-loop → Problem
+given s = let a = s .args in constantWith (a .demand .now) (a .full) (a .setup .now) (a .unit .now) (a .holding .now)
+
+abbrev lent : tie.Start Inv-loop μ-loop → Areas
+lent s = areas (s .args .costs .now) (s .args .choices .now)
+
+abbrev m-of : tie.Start Inv-loop μ-loop → ℕ
+m-of s = length (s .args .slots .now)
+
+-- from a turn's end back: the candidate tried, the turn's start, the loop's test
+abbrev considered : tie.After-slice-known6 Inv-loop μ-loop → tie.After-consider Inv-loop μ-loop
+considered c = c .before .before .before .before .before .before
+
+abbrev turn : tie.After-consider-arg3 Inv-loop μ-loop → tie.In-loop Inv-loop μ-loop
+turn c = c .before .before .before
+
+abbrev turn-of : tie.After-shared-slice-known5 Inv-loop μ-loop → tie.In-loop Inv-loop μ-loop
+turn-of c = turn (considered (c .before) .before)
 
 mul-costs : tie.Need-mul-costs Inv-loop μ-loop
-mul-costs c = omega (arith, c .before .before .before .before .before .before .before .before .pre .2, c .before .before .before .before .before .before .before .before .pre .0 .limits .few)
+mul-costs c = let s = entry c in omega (arith, s .pre .inside, s .pre .constant .bounded .few)
 
 slice-write-costs : tie.Need-slice-write-costs Inv-loop μ-loop
-slice-write-costs c = omega (arith, c .before .before .before .before .before .before .before .before .pre .2, c .before .before .before .before .before .before .before .before .pre .4 .costs′)
+slice-write-costs c = let s = entry c in omega (arith, s .pre .inside, s .pre .sized .costs)
 
 loop-holds : tie.Need-loop-holds Inv-loop μ-loop
 loop-holds c =
-    let a = c .before .before .before .before .before .before .before .before .args in
-    let pre = c .before .before .before .before .before .before .before .before .pre in
-    (omega arith, omega (arith, pre .3), refl, refl, refl, first-try _ _ (a .costs .now) (a .choices .now) (omega (arith, pre .2, pre .4 .costs′)))
+    let s = entry c in
+    record {
+      inside = omega arith;
+      rest = omega (arith, s .pre .demanded);
+      each = refl;
+      costs-size = refl;
+      choices-size = refl;
+      tried = first-try (given s) _ (m-of s) (lent s) (omega (arith, s .pre .inside, s .pre .sized .costs));
+    }
 
 consider-requires : tie.Need-consider-requires Inv-loop μ-loop
 consider-requires c κs =
-    let a = c .before .before .before .before .before .before .before .before .before .before .before .before .before .args in
-    let pre = c .before .before .before .before .before .before .before .before .before .before .before .before .before .pre in
-    let inv = c .before .before .before .before .loop .inv in
-    let size = length-set (a .costs .now) (length (a .slots .now)) marker in
-    rw (inv .2) (
-      pre .0,
-      c .before .before .before .loop-test .taken,
-      pre .2,
-      inv .1,
-      sized-as (pre .4) (inv .3 ∙ size) (inv .4),
-      row-now _ (length (a .slots .now)) _ (a .costs .now) (a .choices .now) _ _ (c .before .before .before .loop-test .taken) (pre .2) (inv .5) (pre .5 _ (c .before .before .before .loop-test .taken)),
-      inv .5 .best,
-    )
+    let t = turn c in
+    let s = entry (t .before .before) in
+    let inv = t .before .loop .inv in
+    let before = t .loop-test .taken in
+    let size = length-set (s .args .costs .now) (m-of s) marker in
+    rw (inv .each)
+    (record {
+      constant = s .pre .constant;
+      room = s .pre .room;
+      before = before;
+      inside = s .pre .inside;
+      rest = inv .rest;
+      sized = sized-as (s .pre .sized) (inv .costs-size ∙ size) (inv .choices-size);
+      row = row-now (given s) _ (m-of s) _ (lent s) _ before (s .pre .inside) (inv .tried) (s .pre .rows _ before);
+      best = inv .tried .best;
+    })
 
 mul-left : tie.Need-mul-left Inv-loop μ-loop
-mul-left c = omega (arith, c .before .before .before .before .before .before .before .before .before .before .before .before .before .before .before .before .before .before .before .before .pre .2, c .before .before .before .before .before .before .before .before .before .before .before .before .before .before .before .before .before .before .before .before .pre .0 .limits .few, c .before .before .before .before .before .before .before .before .before .before .loop-test .taken)
+mul-left c =
+    let t = turn (considered c .before) in
+    let pre = entry (t .before .before) .pre in
+    omega (arith, t .loop-test .taken, pre .inside, pre .constant .bounded .few)
 
 shared-slice-read-left : tie.Need-shared-slice-read-left Inv-loop μ-loop
-shared-slice-read-left c = omega (arith, c .before .before .before .before .before .before .before .before .before .before .before .before .before .before .before .before .before .before .before .before .before .pre .2, c .before .before .before .before .before .before .before .before .before .before .before .loop-test .taken)
+shared-slice-read-left c = let t = turn-of c in omega (arith, t .loop-test .taken, entry (t .before .before) .pre .inside)
 
 cast-left : tie.Need-cast-left Inv-loop μ-loop
-cast-left c = omega (arith, c .shared-slice-known6 .given (c .before .before .before .before .before .before .before .before .before .before .before .before .loop .l))
+cast-left c = omega (arith, c .shared-slice-known5 .given (turn-of c .before .loop .l))
 
 sub-left : tie.Need-sub-left Inv-loop μ-loop
 sub-left c =
-    let a = c .before .before .before .before .before .before .before .before .before .before .before .before .before .before .before .before .before .before .before .before .before .args in
-    less-left (dayOf (a .demand .now) (a .capacity .now) (a .setup .now) (a .unit .now) (a .holding .now)) _ _ _ (c .before .before .before .before .before .before .before .before .before .before .before .loop-test .taken) (c .before .before .before .before .before .before .before .before .before .before .before .before .loop .inv .1) .0
+    let t = turn-of c in
+    less-left (given (entry (t .before .before))) (t .before .loop .l) _ _ _ (t .loop-test .taken) (t .before .loop .inv .rest) .0
 
 loop-again : tie.Need-loop-again Inv-loop μ-loop
 loop-again c =
-    let a = c .before .before .before .before .before .before .before .before .before .before .before .before .before .before .before .before .before .before .before .before .before .args in
-    let d : Day = dayOf (a .demand .now) (a .capacity .now) (a .setup .now) (a .unit .now) (a .holding .now) in
-    let inv = c .before .before .before .before .before .before .before .before .before .before .before .before .loop .inv in
-    let kept = c .before .before .before .before .before .before .before .consider .kept in
-    let a′ : Considered d (length (a .slots .now)) (c .before .before .before .before .before .before .before .before .before .before .before .before .loop .l + 1) (c .before .before .before .before .before .before .before .before .before .before .before .before .loop .costs) (c .before .before .before .before .before .before .before .before .before .before .before .before .loop .choices) (c .before .before .before .before .before .before .before .consider .last .1 .1 .1 .1 .1 .1 .1 .0) (c .before .before .before .before .before .before .before .consider .last .1 .1 .1 .1 .1 .1 .1 .1 .0) = rw (inv .2) at (c .before .before .before .before .before .before .before .consider .ensures) in (
-      omega arith,
-      less-left d _ _ _ (c .before .before .before .before .before .before .before .before .before .before .before .loop-test .taken) (inv .1) .1,
-      kept .1 .1 .1 .1 .1 .1 .1 .1 .1 .0 ∙ inv .2,
-      kept .1 .1 .1 .1 .1 .1 .1 .0 ∙ inv .3,
-      kept .1 .1 .1 .1 .1 .1 .1 .1 .0 ∙ inv .4,
-      next-try d _ (c .before .before .before .before .before .before .before .before .before .before .before .before .loop .l) _ _ _ _ _ _ _ (inv .5) a′,
-    )
+    let t = turn-of c in
+    let s = entry (t .before .before) in
+    let inv = t .before .loop .inv in
+    let l : ℕ = t .before .loop .l in
+    let call = considered (c .before) .consider in
+    let last = call .last in
+    let now : Areas = areas (t .before .loop .costs) (t .before .loop .choices) in
+    let next : Areas = areas (last .1 .1 .1 .1 .1 .1 .1 .0) (last .1 .1 .1 .1 .1 .1 .1 .1 .0) in
+    let more : Considered (given s) (s .args .full) (m-of s) (l + 1) now next = rw (inv .each) at (call .ensures) in
+    record {
+      inside = omega arith;
+      rest = less-left (given s) l _ l _ (t .loop-test .taken) (inv .rest) .1;
+      each = call .kept .1 .1 .1 .1 .1 .1 .1 .1 .1 .0 ∙ inv .each;
+      costs-size = call .kept .1 .1 .1 .1 .1 .1 .1 .0 ∙ inv .costs-size;
+      choices-size = call .kept .1 .1 .1 .1 .1 .1 .1 .1 .0 ∙ inv .choices-size;
+      tried = next-try (given s) _ _ l _ _ now next (inv .tried) more;
+    }
 
 same-length : tie.Need-same-length Inv-loop μ-loop
-same-length c = c .before .loop .inv .3 ∙ length-set (c .before .before .before .before .before .before .before .before .before .before .args .costs .now) (length (c .before .before .before .before .before .before .before .before .before .before .args .slots .now)) marker
-
-same-length-2 : tie.Need-same-length-2 Inv-loop μ-loop
-same-length-2 c = c .before .loop .inv .4
-
-same-length-3 : tie.Need-same-length-3 Inv-loop μ-loop
-same-length-3 c = c .before .loop .inv .2
+same-length c =
+    let s = entry (c .before .before) in
+    c .before .loop .inv .costs-size ∙ length-set (s .args .costs .now) (m-of s) marker
 
 returns : tie.Need-returns Inv-loop μ-loop
 returns c =
-    let a = c .before .before .before .before .before .before .before .before .before .before .args in
-    let pre = c .before .before .before .before .before .before .before .before .before .before .pre in
-    all-tried (dayOf (a .demand .now) (a .capacity .now) (a .setup .now) (a .unit .now) (a .holding .now)) (length (a .slots .now)) (c .before .loop .l) (a .costs .now) (a .choices .now) _ _
-    (pre .0) (pre .1) (pre .2) (omega (arith, c .before .loop .inv .0)) (c .before .loop .inv .5)
+    let s = entry (c .before .before) in
+    let inv = c .before .loop .inv in
+    all-tried (given s) _ (m-of s) (c .before .loop .l) (lent s) _ (s .pre .constant) (s .pre .some) (s .pre .inside)
+    (omega (arith, inv .inside)) (inv .tried)
 
 pub row-spec : {M : Type 1} → statement M
 row-spec = tie.close (tie.spec
-    Inv-loop
-    μ-loop
-    mul-costs
-    slice-write-costs
-    loop-holds
-    consider-requires
-    mul-left
-    shared-slice-read-left
-    cast-left
-    sub-left
-    (λ c. search needs)
-    (λ c. search needs)
-    loop-again
-    same-length
-    same-length-2
-    same-length-3
-    returns)
+    Inv-loop μ-loop mul-costs slice-write-costs loop-holds consider-requires mul-left shared-slice-read-left cast-left sub-left
+    (λ c. search needs) (λ c. search needs) loop-again same-length (λ c. c .before .loop .inv .choices-size)
+    (λ c. c .before .loop .inv .each) returns)

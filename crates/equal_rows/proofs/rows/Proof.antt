@@ -11,132 +11,138 @@ use native.Mathlib.Omega.{arith}
 use lib.ListN.{length, length-set}
 use lib.Seq.{getD-set-same}
 use Rattle.day.specs.Sums.{at, below}
-use Rattle.day.specs.Day.{Day, dayOf, periods, demandTo}
-use Rattle.theory.specs.Base.{modelOf, model-rising, model-unlimited}
-use Rattle.theory.specs.FlorianKlein.{florianKlein-right, florianKlein-zero}
-use Rattle.equal_rows.specs.Rows.{sized-as}
-use Rattle.equal_rows.specs.Best.{Row, row-kept}
-use Rattle.equal_rows.specs.Problem.{Found}
+use Rattle.theory.specs.Problem.{Problem, periods, demandTo, modelOf}
+use Rattle.theory.specs.Recursion.{plan-none}
+use Rattle.equal_runs.specs.Run.{constantWith}
+use Rattle.equal_rows.specs.Rows.{Areas, areas, sized-as}
+use Rattle.equal_rows.specs.Best.{PlanRow, row-kept}
+use Rattle.equal_rows.specs.Consider.{RowFound}
 use Rattle.equal_rows.proofs.rows.Statement.{statement}
 use Rattle.equal_rows.proofs.rows.Tie as tie
 
 -- no period, and no cost
-row-zero : (d : Day) (costs choices : List ℕ) → at costs 0 ≡ 0 → Row (modelOf d) (periods d) 0 costs choices
-row-zero d costs choices e =
-    let r = florianKlein-right (modelOf d) (model-rising d) (model-unlimited d) 0 0 (λ k h. absurd (omega arith)) 0 (omega arith) in
-    let z = florianKlein-zero (modelOf d) (model-rising d) (model-unlimited d) 0 in
-    record { plan = rw e (rw z at r); low = omega arith }
+row-zero : (p : Problem) (a : Areas) → at (a .costs) 0 ≡ 0 → PlanRow p 0 a
+row-zero p a e = record { plan = rw e (plan-none (modelOf p) 0 0 refl refl); low = omega arith }
 
 part-length : (k : ℕ) (xs : List ℕ) → k ≤ length xs → length (midOf 0 (k - 0) xs) ≡ k
 part-length k xs h = mid-len 0 k xs h ∙ omega arith
 
 -- one row more
-row-more : (d : Day) (m : ℕ) (costs choices costs₁ choices₁ : List ℕ) → m < periods d
-    → ((k : ℕ) → k < m + 1 → Row (modelOf d) (periods d) k costs choices)
-    → Found d (m + 1) costs choices costs₁ choices₁
-    → (k : ℕ) → k < m + 1 + 1 → Row (modelOf d) (periods d) k costs₁ choices₁
-row-more d m costs choices costs₁ choices₁ h rows found k g =
+row-more : (p : Problem) (m : ℕ) (a b : Areas) → m < periods p → ((k : ℕ) → k < m + 1 → PlanRow p k a) → RowFound p (m + 1) a b
+    → (k : ℕ) → k < m + 1 + 1 → PlanRow p k b
+row-more p m a b h rows found k g =
     ⊎-elim
     (λ (e : k ≡ m + 1). rw e (found .row))
-    (λ (l : k < m + 1). row-kept (modelOf d) (periods d) k (m + 1) ((m + 1) * periods d) costs choices costs₁ choices₁ (found .kept) l (omega (arith, mul-le-mul-right (periods d) l)) (rows k l))
+    (λ (l : k < m + 1). row-kept p k (m + 1) ((m + 1) * periods p) a b (found .kept) l (omega (arith, mul-le-mul-right (periods p) l)) (rows k l))
     (eq-or-lt-of-le (omega arith))
 
+-- the rows up to m are found
+record RowsTo (p : Problem) (old new : Areas) (slots₀ slots : List ℕ) (need m : ℕ) : Type 0 where
+  inside : m ≤ periods p
+  demanded : need ≡ demandTo p m
+  low : need ≤ m * 65536
+  costs-size : length (new .costs) ≡ length (old .costs)
+  choices-size : length (new .choices) ≡ length (old .choices)
+  slots-size : length slots ≡ length slots₀
+  rows : (k : ℕ) → k < m + 1 → PlanRow p k new
+
 abbrev Inv-loop : tie.InvT-loop
-Inv-loop demand capacity setup unit holding costs₀ choices₀ slots₀ need₀ m₀ costs choices slots need m =
-    (m ≤ length demand) × (need ≡ demandTo (dayOf demand capacity setup unit holding) m) × (need ≤ m * 65536)
-    × (length costs ≡ length costs₀) × (length choices ≡ length choices₀) × (length slots ≡ length slots₀)
-    × ((k : ℕ) → k < m + 1 → Row (modelOf (dayOf demand capacity setup unit holding)) (length demand) k costs choices)
+Inv-loop demand setup unit holding full costs₀ choices₀ slots₀ need₀ m₀ costs choices slots need m =
+    RowsTo (constantWith demand full setup unit holding) (areas costs₀ choices₀) (areas costs choices) slots₀ slots need m
 
 abbrev μ-loop : tie.MeasureT-loop
-μ-loop demand capacity setup unit holding costs₀ choices₀ slots₀ need₀ m₀ costs choices slots need m = length demand - m
+μ-loop demand setup unit holding full costs₀ choices₀ slots₀ need₀ m₀ costs choices slots need m = length demand - m
 
-slice-write-costs : tie.Need-slice-write-costs Inv-loop μ-loop
-slice-write-costs c = omega (arith, c .before .before .before .before .before .before .before .before .pre .1 .costs′)
+abbrev entry : tie.After-slice-known3 Inv-loop μ-loop → tie.Start Inv-loop μ-loop
+entry c = c .before .before .before .before .before .before .before
+
+abbrev given : tie.Start Inv-loop μ-loop → Problem
+given s = let a = s .args in constantWith (a .demand .now) (a .full) (a .setup .now) (a .unit .now) (a .holding .now)
+
+-- from a turn's end back: the row found, the period's demand known
+abbrev found : tie.After-slice-known6 Inv-loop μ-loop → tie.After-row Inv-loop μ-loop
+found c = c .before .before .before .before .before .before
+
+abbrev known : tie.After-row-arg3 Inv-loop μ-loop → tie.After-shared-slice-known5 Inv-loop μ-loop
+known c = c .before .before .before
 
 loop-holds : tie.Need-loop-holds Inv-loop μ-loop
 loop-holds c =
-    let a = c .before .before .before .before .before .before .before .before .args in
-    let pre = c .before .before .before .before .before .before .before .before .pre in (
-      omega arith,
-      refl,
-      omega arith,
-      refl,
-      refl,
-      refl,
-      below _ 0 (λ k h. absurd (omega arith)) (row-zero (dayOf (a .demand .now) (a .capacity .now) (a .setup .now) (a .unit .now) (a .holding .now)) _ _ (getD-set-same (a .costs .now) 0 0 0 (omega (arith, pre .1 .costs′)))),
-    )
+    let s = entry c in
+    let nought = getD-set-same (s .args .costs .now) 0 0 0 (omega (arith, s .pre .sized .costs)) in
+    record {
+      inside = omega arith;
+      demanded = refl;
+      low = omega arith;
+      costs-size = refl;
+      choices-size = refl;
+      slots-size = refl;
+      rows = below _ 0 (λ k h. absurd (omega arith)) (row-zero (given s) _ nought);
+    }
 
 cast-need : tie.Need-cast-need Inv-loop μ-loop
-cast-need c = omega (arith, c .shared-slice-known6 .given (c .before .before .loop .m))
+cast-need c = omega (arith, c .shared-slice-known5 .given (c .before .before .loop .m))
 
 add-need : tie.Need-add-need Inv-loop μ-loop
-add-need c = omega (arith, c .shared-slice-known6 .given (c .before .before .loop .m), c .before .before .loop .inv .2, c .before .loop-test .taken, c .before .before .before .before .before .before .before .before .before .before .before .pre .0 .limits .few)
+add-need c =
+    let t = c .before .before in
+    let pre = entry (t .before) .pre in
+    omega (arith, c .shared-slice-known5 .given (t .loop .m), t .loop .inv .low, c .before .loop-test .taken, pre .constant .bounded .few)
+
+-- the slots of the row
+slots-length : (c : tie.In-loop Inv-loop μ-loop) → let t = c .before .loop in length (midOf 0 (t .m + 1 - 0) (t .slots)) ≡ t .m + 1
+slots-length c =
+    let t = c .before .loop in
+    part-length (t .m + 1) (t .slots) (omega (arith, t .inv .slots-size, entry (c .before .before) .pre .each, c .loop-test .taken))
 
 row-requires : tie.Need-row-requires Inv-loop μ-loop
 row-requires c κs =
-    let a = c .before .before .before .before .before .before .before .before .before .before .before .before .before .before .args in
-    let pre = c .before .before .before .before .before .before .before .before .before .before .before .before .before .before .pre in
-    let inv = c .before .before .before .before .before .loop .inv in
-    let m : ℕ = c .before .before .before .before .before .loop .m in
-    rw (part-length (m + 1) (c .before .before .before .before .before .loop .slots) (omega (arith, inv .5, pre .2, c .before .before .before .before .loop-test .taken))) (
-      pre .0,
-      omega arith,
-      omega (arith, c .before .before .before .before .loop-test .taken),
-      omega (arith, inv .1, ap (demandTo (dayOf (a .demand .now) (a .capacity .now) (a .setup .now) (a .unit .now) (a .holding .now))) (add-one m)),
-      sized-as (pre .1) (inv .3 ∙ length-set (a .costs .now) 0 0) (inv .4),
-      inv .6,
-    )
+    let t = known c .before in
+    let s = entry (t .before .before) in
+    let inv = t .before .loop .inv in
+    let m : ℕ = t .before .loop .m in
+    rw (slots-length t)
+    (record {
+      constant = s .pre .constant;
+      room = s .pre .room;
+      some = omega arith;
+      inside = omega (arith, t .loop-test .taken);
+      demanded = omega (arith, inv .demanded, ap (demandTo (given s)) (add-one m));
+      sized = sized-as (s .pre .sized) (inv .costs-size ∙ length-set (s .args .costs .now) 0 0) (inv .choices-size);
+      rows = inv .rows;
+    })
 
 loop-again : tie.Need-loop-again Inv-loop μ-loop
 loop-again c =
-    let a = c .before .before .before .before .before .before .before .before .before .before .before .before .before .before .before .before .before .before .before .before .before .args in
-    let pre = c .before .before .before .before .before .before .before .before .before .before .before .before .before .before .before .before .before .before .before .before .before .pre in
-    let d : Day = dayOf (a .demand .now) (a .capacity .now) (a .setup .now) (a .unit .now) (a .holding .now) in
-    let inv = c .before .before .before .before .before .before .before .before .before .before .before .before .loop .inv in
-    let kept = c .before .before .before .before .before .before .row .kept in
-    let last = c .before .before .before .before .before .before .row .last in
-    let m : ℕ = c .before .before .before .before .before .before .before .before .before .before .before .before .loop .m in
-    let size = part-length (m + 1) (c .before .before .before .before .before .before .before .before .before .before .before .before .loop .slots) (omega (arith, inv .5, pre .2, c .before .before .before .before .before .before .before .before .before .before .before .loop-test .taken)) in
-    let found : Found d (m + 1) (c .before .before .before .before .before .before .before .before .before .before .before .before .loop .costs) (c .before .before .before .before .before .before .before .before .before .before .before .before .loop .choices) (last .1 .1 .1 .1 .1 .1 .0) (last .1 .1 .1 .1 .1 .1 .1 .0) = rw size at (c .before .before .before .before .before .before .row .ensures) in (
-      omega (arith, c .before .before .before .before .before .before .before .before .before .before .before .loop-test .taken),
-      omega (arith, inv .1, ap (demandTo d) (add-one m)),
-      omega (arith, inv .2, c .before .before .before .before .before .before .before .before .before .before .shared-slice-known6 .given m),
-      kept .1 .1 .1 .1 .1 .1 .0 ∙ inv .3,
-      kept .1 .1 .1 .1 .1 .1 .1 .0 ∙ inv .4,
-      same-len-mid 0 (m + 1 - 0) (c .before .before .before .before .before .before .before .before .before .before .before .before .loop .slots) (last .1 .1 .1 .1 .1 .1 .1 .1 .0) (kept .1 .1 .1 .1 .1 .1 .1 .1 .0) ∙ inv .5,
-      row-more d m _ _ _ _ (c .before .before .before .before .before .before .before .before .before .before .before .loop-test .taken) (inv .6) found,
-    )
+    let call = found c .row in
+    let last = call .last in
+    let kept = call .kept in
+    let k = known (found c .before) in
+    let t = k .before in
+    let s = entry (t .before .before) in
+    let inv = t .before .loop .inv in
+    let m : ℕ = t .before .loop .m in
+    let now : Areas = areas (t .before .loop .costs) (t .before .loop .choices) in
+    let next : Areas = areas (last .1 .1 .1 .1 .1 .1 .0) (last .1 .1 .1 .1 .1 .1 .1 .0) in
+    let more : RowFound (given s) (m + 1) now next = rw (slots-length t) at (call .ensures) in
+    record {
+      inside = omega (arith, t .loop-test .taken);
+      demanded = omega (arith, inv .demanded, ap (demandTo (given s)) (add-one m));
+      low = omega (arith, inv .low, k .shared-slice-known5 .given m);
+      costs-size = kept .1 .1 .1 .1 .1 .1 .0 ∙ inv .costs-size;
+      choices-size = kept .1 .1 .1 .1 .1 .1 .1 .0 ∙ inv .choices-size;
+      slots-size = same-len-mid 0 (m + 1 - 0) (t .before .loop .slots) (last .1 .1 .1 .1 .1 .1 .1 .1 .0) (kept .1 .1 .1 .1 .1 .1 .1 .1 .0) ∙ inv .slots-size;
+      rows = row-more (given s) m now next (t .loop-test .taken) (inv .rows) more;
+    }
 
 same-length : tie.Need-same-length Inv-loop μ-loop
-same-length c = c .before .loop .inv .3 ∙ length-set (c .before .before .before .before .before .before .before .before .before .before .args .costs .now) 0 0
-
-same-length-2 : tie.Need-same-length-2 Inv-loop μ-loop
-same-length-2 c = c .before .loop .inv .4
-
-same-length-3 : tie.Need-same-length-3 Inv-loop μ-loop
-same-length-3 c = c .before .loop .inv .5
+same-length c = c .before .loop .inv .costs-size ∙ length-set (entry (c .before .before) .args .costs .now) 0 0
 
 returns : tie.Need-returns Inv-loop μ-loop
-returns c = c .before .loop .inv .6 _ (omega (arith, c .before .loop .inv .0))
+returns c = c .before .loop .inv .rows _ (omega (arith, c .before .loop .inv .inside))
 
 pub rows-spec : {M : Type 1} → statement M
 rows-spec = tie.close (tie.spec
-    Inv-loop
-    μ-loop
-    slice-write-costs
-    loop-holds
-    (λ c. search needs)
-    (λ c. search needs)
-    cast-need
-    add-need
-    (λ c. search needs)
-    (λ c. search needs)
-    (λ c. search needs)
-    (λ c. search needs)
-    row-requires
-    (λ c. search needs)
-    loop-again
-    same-length
-    same-length-2
-    same-length-3
-    returns)
+    Inv-loop μ-loop (λ c. omega (arith, entry c .pre .sized .costs)) loop-holds (λ c. search needs) (λ c. search needs) cast-need add-need
+    (λ c. search needs) (λ c. search needs) (λ c. search needs) (λ c. search needs) row-requires (λ c. search needs) loop-again same-length
+    (λ c. c .before .loop .inv .choices-size) (λ c. c .before .loop .inv .slots-size) returns)

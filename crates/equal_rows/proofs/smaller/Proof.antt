@@ -25,26 +25,35 @@ Inv-loop x y i₀ i = (i ≤ length x) × Alike x y i
 abbrev μ-loop : tie.MeasureT-loop
 μ-loop x y i₀ i = i
 
-loop-holds : tie.Need-loop-holds Inv-loop μ-loop
-loop-holds c = (omega arith, λ j h g. absurd (omega arith))
+-- the loop's test, from the first test of two amounts and from the second
+abbrev test : tie.After-shared-slice-known2 Inv-loop μ-loop → tie.At-loop Inv-loop μ-loop
+test c = c .before .before .before
+
+abbrev first : tie.After-shared-slice-known4 Inv-loop μ-loop → tie.Else1 Inv-loop μ-loop
+first c = c .before .before
 
 returns : tie.Need-returns Inv-loop μ-loop
 returns c =
-    let a = c .before .before .before .before .before .args in
-    let i : ℕ = c .before .before .before .before .loop .i in
-    means-smaller _ (at (a .x .now)) (at (a .y .now)) (inr (i - 1, omega arith, c .if1 .taken, λ j h g. c .before .before .before .before .loop .inv .1 j (omega arith) g))
+    let t = test (c .before) in
+    let a = t .before .args in
+    means-smaller _ (at (a .x .now)) (at (a .y .now))
+    (inr (t .loop .i - 1, omega arith, c .if1 .taken, λ j h g. t .loop .inv .1 j (omega arith) g))
 
 returns-2 : tie.Need-returns-2 Inv-loop μ-loop
 returns-2 c =
-    let a = c .before .before .before .before .before .before .before .before .args in
-    let i : ℕ = c .before .before .before .before .before .before .before .loop .i in
-    means-smaller _ (at (a .y .now)) (at (a .x .now)) (inr (i - 1, omega arith, c .if2 .taken, λ j h g. sym (c .before .before .before .before .before .before .before .loop .inv .1 j (omega arith) g)))
+    let t = test (first (c .before) .before) in
+    let a = t .before .args in
+    means-smaller _ (at (a .y .now)) (at (a .x .now))
+    (inr (t .loop .i - 1, omega arith, c .if2 .taken, λ j h g. sym (t .loop .inv .1 j (omega arith) g)))
 
 loop-again : tie.Need-loop-again Inv-loop μ-loop
 loop-again c =
-    let a = c .before .before .before .before .before .before .before .before .args in
-    let i : ℕ = c .before .before .before .before .before .before .before .loop .i in
-    (omega arith, alike-more (a .x .now) (a .y .now) i (i - 1) (omega arith) (c .before .before .before .before .before .before .before .loop .inv .1) (omega (arith, c .if2 .left, c .before .before .before .if1 .left)))
+    let f = first (c .before) in
+    let t = test (f .before) in
+    let a = t .before .args in
+    let i : ℕ = t .loop .i in
+    let same : at (a .x .now) (i - 1) ≡ at (a .y .now) (i - 1) = omega (arith, c .if2 .left, f .if1 .left) in
+    (omega arith, alike-more (a .x .now) (a .y .now) i (i - 1) (omega arith) (t .loop .inv .1) same)
 
 returns-3 : tie.Need-returns-3 Inv-loop μ-loop
 returns-3 c =
@@ -53,20 +62,6 @@ returns-3 c =
 
 pub smaller-spec : {M : Type 1} → statement M
 smaller-spec = tie.close (tie.spec
-    Inv-loop
-    μ-loop
-    loop-holds
-    (λ c. search needs)
-    (λ c. search needs)
-    (λ c. search needs)
-    (λ c. search needs)
-    (λ c. search needs)
-    returns
-    (λ c. search needs)
-    (λ c. search needs)
-    (λ c. search needs)
-    (λ c. search needs)
-    returns-2
-    (λ c. search needs)
-    loop-again
-    returns-3)
+    Inv-loop μ-loop (λ c. (omega arith, λ j h g. absurd (omega arith))) (λ c. search needs) (λ c. search needs) (λ c. search needs)
+    (λ c. search needs) (λ c. search needs) returns (λ c. search needs) (λ c. search needs) (λ c. search needs) (λ c. search needs)
+    returns-2 (λ c. search needs) loop-again returns-3)

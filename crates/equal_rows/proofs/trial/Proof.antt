@@ -11,119 +11,141 @@ use lib.ListN.{length, drop}
 use lib.Seq.{getD-drop}
 use Rattle.day.specs.Sums.{at}
 use Rattle.theory.specs.Model.{Model}
+use Rattle.theory.specs.Problem.{Problem, periods, modelOf}
 use Rattle.theory.specs.Stages.{Solution}
-use Rattle.theory.specs.Loads.{loadsTo}
-use Rattle.equal_runs.specs.declared.Loads.{Loads}
+use Rattle.equal_runs.specs.declared.LoadSizes.{LoadSizes}
 use Rattle.equal_runs.specs.Bounds.{stageMost}
-use Rattle.equal_runs.specs.Cells.{indexOf}
-use Rattle.equal_runs.specs.Told.{Told}
-use Rattle.equal_runs.specs.Run.{backOf, back-plan}
-use Rattle.equal_rows.specs.Rows.{Split, Amounts, Laid, Trial, runOf, sized-as}
-use Rattle.equal_rows.proofs.Parts.{mid-end, square-small, past-rows}
+use Rattle.equal_runs.specs.States.{indexOf}
+use Rattle.equal_runs.specs.Told.{CostTold, firstTo}
+use Rattle.equal_runs.specs.Run.{constantWith, backOf, back-plan}
+use Rattle.equal_rows.specs.Rows.{Areas, areas, AreasSized, loadSizes, LoadsSplit, AmountsTold, Laid, IntervalTold, intervalOf, sized-as}
+use Rattle.equal_rows.specs.declared.Ending.{Ending}
+use Rattle.equal_rows.proofs.Parts.{mid-end, row-low, amounts-inside}
 use Rattle.equal_rows.proofs.trial.Statement.{statement}
 use Rattle.equal_rows.proofs.trial.Tie as tie
 
 -- the state stands in the row
-ends-low : (n W c top : ℕ) (w : Loads) → Split W c w top → W ≤ c * n → top ≤ 2 * n + 1
-ends-low n W c top w s h = omega (arith, s .ends, div-le-of-le-mul c h)
+ends-low : (n W c : ℕ) (e : Ending) → LoadsSplit W c e → W ≤ c * n → e .top ≤ 2 * n + 1
+ends-low n W c e s h = omega (arith, s .ends, div-le-of-le-mul c h)
 
-module _ (M : Model) (n l c W : ℕ) (w : Loads) (top count : ℕ) (costs choices costs′ choices′ plan : List ℕ)
-    (room : 0 < c) (s : Split W c w top) (size : length plan ≡ count) (laid : Laid M n l w count top costs choices costs′ choices′)
-    (back : plan ≡ backOf c (2 * n + 2) (midOf (n * n + n) (length choices′ - (n * n + n)) choices′) count top) where
+module _ (p : Problem) (c l W count : ℕ) (old new : Areas) (plan : List ℕ) (e : Ending) (room : 0 < c) (s : LoadsSplit W c e)
+    (size : length plan ≡ count) (laid : Laid p (loadSizes c (e .part)) l count (e .top) old new) where
+  abbrev n : ℕ
+  n = periods p
+
+  abbrev M : Model
+  M = modelOf p
+
+  abbrev w : LoadSizes
+  w = loadSizes c (e .part)
+
   abbrev j : ℕ
   j = W / c
 
   abbrev d : ℕ
   d = min 1 (W % c)
 
-  told : Told (count * stageMost) (at costs′ (n + 1 + top)) (runOf M l c W count)
+  -- past the rows: the states, and the amounts
+  abbrev row : List ℕ
+  row = drop (n + 1) (new .costs)
+
+  abbrev picks : List ℕ
+  picks = drop (n * n + n) (new .choices)
+
+  told : CostTold (count * stageMost) (at (new .costs) (n + 1 + e .top)) (intervalOf M c l W count)
   told =
-      let here : at costs′ (n + 1 + top) ≡ at (drop (n + 1) costs′) (indexOf j d) = sym (getD-drop (n + 1) costs′ top 0) ∙ ap (at (drop (n + 1) costs′)) (s .ends) in
+      let here : at (new .costs) (n + 1 + e .top) ≡ at row (indexOf j d) = sym (getD-drop (n + 1) (new .costs) (e .top) 0) ∙ ap (at row) (s .ends) in
       let t = laid .ran .costs j d (omega arith) (omega (arith, s .ends)) in
-      rw here (rw (s .full, s .part) at t)
+      rw here (rw (s .part) at t)
 
-  amounts : (o : Option Solution) → runOf M l c W count ≡ o → Amounts plan o
-  amounts none e = tt
-  amounts (some f) e =
-      let run : loadsTo M l (w .full) (w .part) count j d ≡ some f = rw (s .full, s .part) e in
-      let less : w .part < w .full = omega (arith, s .full, s .part, mod-lt W room) in
-      let p = back-plan M l w count top (2 * n + 2) (drop (n + 1) costs′) (drop (n * n + n) choices′) less (laid .ran) count (omega arith) j d (omega arith)
-      (λ h. omega (arith, s .part)) (omega (arith, s .ends)) f run in
-      back
-      ∙ ap (λ (picks : List ℕ). backOf c (2 * n + 2) picks count top) (mid-end (n * n + n) choices′)
-      ∙ ap (backOf c (2 * n + 2) (drop (n * n + n) choices′) count) (s .ends)
-      ∙ (rw (s .full) at p)
+  module _ (back : plan ≡ backOf c (2 * n + 2) (midOf (n * n + n) (length (new .choices) - (n * n + n)) (new .choices)) count (e .top)) where
+    amounts : (o : Option Solution) → intervalOf M c l W count ≡ o → AmountsTold plan o
+    amounts none q = tt
+    amounts (some f) q =
+        let run : firstTo M l w count j d ≡ some f = rw (s .part) q in
+        let part : e .part < c = omega (arith, s .part, mod-lt W room) in
+        back
+        ∙ ap (λ (l : List ℕ). backOf c (2 * n + 2) l count (e .top)) (mid-end (n * n + n) (new .choices))
+        ∙ ap (backOf c (2 * n + 2) picks count) (s .ends)
+        ∙ back-plan M l w count (e .top) (2 * n + 2) row picks part (laid .ran) count (omega arith) j d (omega arith)
+        (λ h. omega (arith, s .part)) (omega (arith, s .ends)) f run
 
-  tried : Trial M n l c W costs choices (at costs′ (n + 1 + top)) costs′ choices′ plan
-  tried = record { kept = laid .kept; held = rw size (record { told = told; amounts = amounts (runOf M l c W count) refl }) }
+    tried : IntervalTold p c l W old (at (new .costs) (n + 1 + e .top)) new plan
+    tried = record { kept = laid .kept; told = rw size (record { cost = told; amounts = amounts (intervalOf M c l W count) refl }) }
+
+-- from the result back: where the interval was read back, where the work past the rows was done, where the loads were known, and the entry
+abbrev back : tie.After-slice-known6 → tie.After-read-back
+back c = c .before .before
+
+abbrev work-known : tie.After-read-back → tie.After-slice-known5
+work-known c = c .before .before .before .before
+
+abbrev work-done : tie.After-slice-known5 → tie.After-lay
+work-done c = c .before .before .before .before
+
+abbrev divided : tie.After-lay → tie.After-split
+divided c = c .before .before .before
+
+abbrev entry : tie.After-split → tie.Start
+entry c = c .before .before .before .before .before .before .before .before
+
+abbrev given : tie.Start → Problem
+given s = let a = s .args in constantWith (a .demand .now) (a .full) (a .setup .now) (a .unit .now) (a .holding .now)
+
+-- the areas after the work
+abbrev worked : tie.After-lay → Areas
+worked c = let last = c .lay .last in areas (last .1 .1 .1 .1 .1 .1 .1 .1 .0) (last .1 .1 .1 .1 .1 .1 .1 .1 .1 .0)
+
+worked-sized : (c : tie.After-lay) → AreasSized (periods (given (entry (divided c)))) (worked c)
+worked-sized c =
+    let kept = c .lay .kept in
+    sized-as {b = worked c} (entry (divided c) .pre .sized) (kept .1 .1 .1 .1 .1 .1 .1 .1 .0) (kept .1 .1 .1 .1 .1 .1 .1 .1 .1 .0)
+
+top-low : (c : tie.After-split) → c .split .result .top ≤ 2 * periods (given (entry c)) + 1
+top-low c = ends-low _ _ _ _ (c .split .ensures) (entry c .pre .low)
 
 split-requires : tie.Need-split-requires
 split-requires c κs =
-    let pre = c .before .before .before .before .before .before .before .before .before .pre in
-    (pre .2, omega (arith, pre .3, mul-le-mul-left (at (c .before .before .before .before .before .before .before .before .before .args .capacity .now) 0) (pre .0 .few)))
+    let s = c .before .before .before .before .before .before .before in
+    (s .pre .room, omega (arith, s .pre .low, mul-le-mul-left (s .args .full) (s .pre .bounded .few)))
 
 lay-requires : tie.Need-lay-requires
 lay-requires c κs =
-    let pre = c .before .before .before .before .before .before .before .before .before .before .before .before .pre in
-    (pre .0, pre .1, ends-low _ _ _ _ _ (c .before .before .split .ensures) (pre .3), pre .4)
+    let d = c .before .before in
+    let pre = entry d .pre in
+    record { bounded = pre .bounded; inside = pre .inside; states = top-low d; sized = pre .sized }
 
-mul-past : tie.Need-mul-past
-mul-past c = omega (arith, square-small (length (c .before .before .before .before .before .before .before .before .before .before .before .before .before .before .before .before .before .args .demand .now)) (c .before .before .before .before .before .before .before .before .before .before .before .before .before .before .before .before .before .pre .0 .few))
-
-add-past : tie.Need-add-past
-add-past c = omega (arith, c .before .before .before .before .before .before .before .before .before .before .before .before .before .before .before .before .before .pre .0 .few, square-small (length (c .before .before .before .before .before .before .before .before .before .before .before .before .before .before .before .before .before .args .demand .now)) (c .before .before .before .before .before .before .before .before .before .before .before .before .before .before .before .before .before .pre .0 .few))
-
-mul-read-back-2 : tie.Need-mul-read-back-2
-mul-read-back-2 c = omega (arith, c .before .before .before .before .before .before .before .before .before .before .before .before .before .before .before .before .before .pre .0 .few, square-small (length (c .before .before .before .before .before .before .before .before .before .before .before .before .before .before .before .before .before .args .demand .now)) (c .before .before .before .before .before .before .before .before .before .before .before .before .before .before .before .before .before .pre .0 .few))
+past-low : (c : tie.After-slice-known5) → let n = periods (given (entry (divided (work-done c)))) in n * n + n ≤ 9312
+past-low c = row-low _ _ (entry (divided (work-done c)) .pre .bounded .few) (omega arith)
 
 read-back-requires : tie.Need-read-back-requires
 read-back-requires c κs =
-    let pre = c .before .before .before .before .before .before .before .before .before .before .before .before .before .before .before .before .before .before .before .before .pre in
-    let a = c .before .before .before .before .before .before .before .before .before .before .before .before .before .before .before .before .before .before .before .before .args in
-    let kept = c .before .before .before .before .before .before .before .lay .kept in
-    let last = c .before .before .before .before .before .before .before .lay .last in (
-      omega (arith, ends-low _ _ _ _ _ (c .before .before .before .before .before .before .before .before .before .before .split .ensures) (pre .3)),
-      past-rows (length (a .demand .now)) (length (a .slots .now)) (last .1 .1 .1 .1 .1 .1 .1 .1 .0) (last .1 .1 .1 .1 .1 .1 .1 .1 .1 .0) (sized-as (pre .4) (kept .1 .1 .1 .1 .1 .1 .1 .1 .0) (kept .1 .1 .1 .1 .1 .1 .1 .1 .1 .0)) (omega (arith, pre .1)) .1,
+    let w = work-done (c .before .before .before) in
+    let s = entry (divided w) in (
+      omega (arith, top-low (divided w)),
+      amounts-inside _ (worked w) (worked-sized w) (length (s .args .slots .now)) (omega (arith, s .pre .inside)),
     )
 
-add-result-2 : tie.Need-add-result-2
-add-result-2 c = omega (arith, c .before .before .before .before .before .before .before .before .before .before .before .before .before .before .before .before .before .before .before .before .before .before .before .pre .0 .few, ends-low (length (c .before .before .before .before .before .before .before .before .before .before .before .before .before .before .before .before .before .before .before .before .before .before .before .args .demand .now)) _ _ _ _ (c .before .before .before .before .before .before .before .before .before .before .before .before .before .split .ensures) (c .before .before .before .before .before .before .before .before .before .before .before .before .before .before .before .before .before .before .before .before .before .before .before .pre .3))
-
-mul-result : tie.Need-mul-result
-mul-result c = omega (arith, c .before .before .before .before .before .before .before .before .before .before .before .before .before .before .before .before .before .before .before .before .before .before .before .pre .0 .few, ends-low (length (c .before .before .before .before .before .before .before .before .before .before .before .before .before .before .before .before .before .before .before .before .before .before .before .args .demand .now)) _ _ _ _ (c .before .before .before .before .before .before .before .before .before .before .before .before .before .split .ensures) (c .before .before .before .before .before .before .before .before .before .before .before .before .before .before .before .before .before .before .before .before .before .before .before .pre .3))
-
-slice-read-result : tie.Need-slice-read-result
-slice-read-result c =
-    omega (
-      arith,
-      c .before .before .before .before .before .before .before .before .before .before .before .before .before .before .before .before .before .before .before .before .before .before .before .before .pre .4 .costs′,
-      c .before .before .before .before .before .before .before .before .before .before .before .lay .kept .1 .1 .1 .1 .1 .1 .1 .1 .0,
-      ends-low (length (c .before .before .before .before .before .before .before .before .before .before .before .before .before .before .before .before .before .before .before .before .before .before .before .before .args .demand .now)) _ _ _ _ (c .before .before .before .before .before .before .before .before .before .before .before .before .before .before .split .ensures) (c .before .before .before .before .before .before .before .before .before .before .before .before .before .before .before .before .before .before .before .before .before .before .before .before .pre .3),
-    )
+-- where the cost stands
+cost-inside : (c : tie.After-slice-known6) → let w = work-done (work-known (back c)) in
+    (periods (given (entry (divided w))) + 1 + divided w .split .result .top < length (worked w .costs)) × (length (worked w .costs) ≤ 582)
+cost-inside c =
+    let w = work-done (work-known (back c)) in
+    let s = entry (divided w) in
+    let size = worked-sized w .costs in
+    (omega (arith, top-low (divided w)), omega (arith, s .pre .bounded .few))
 
 returns : tie.Need-returns
 returns c =
-    tried _ (length (c .before .before .before .before .before .before .before .before .before .before .before .before .before .before .before .before .before .before .before .before .before .before .before .before .args .demand .now)) _ _ _ _ _ _ _ _ _ _ _ (c .before .before .before .before .before .before .before .before .before .before .before .before .before .before .before .before .before .before .before .before .before .before .before .before .pre .2) (c .before .before .before .before .before .before .before .before .before .before .before .before .before .before .split .ensures) (c .before .before .before .read-back .kept .1 .1 .1 .1 .0) (c .before .before .before .before .before .before .before .before .before .before .before .lay .ensures) (c .before .before .before .read-back .ensures)
+    let r = back (c .before) in
+    let w = work-done (work-known r) in
+    let s = entry (divided w) in
+    tried (given s) (s .args .full) (s .args .l) _ _ (areas (s .args .costs .now) (s .args .choices .now)) (worked w) _ _ (s .pre .room)
+    (divided w .split .ensures) (r .read-back .kept .1 .1 .1 .1 .0) (w .lay .ensures) (r .read-back .ensures)
 
 pub trial-spec : {M : Type 1} → statement M
 trial-spec = tie.close (tie.spec
-    (λ c. search needs)
-    split-requires
-    lay-requires
-    mul-past
-    add-past
-    (λ c. search needs)
-    (λ c. search needs)
-    mul-read-back-2
-    (λ c. search needs)
-    (λ c. search needs)
-    (λ c. search needs)
-    read-back-requires
-    (λ c. search needs)
-    add-result-2
-    mul-result
-    slice-read-result
-    (λ c. search needs)
-    (λ c. search needs)
-    (λ c. search needs)
-    returns)
+    split-requires lay-requires (λ c. omega (arith, past-low c)) (λ c. omega (arith, past-low c)) (λ c. search needs) (λ c. search needs)
+    (λ c. omega (arith, past-low c)) (λ c. search needs) (λ c. search needs) (λ c. search needs) read-back-requires (λ c. search needs)
+    (λ c. omega (arith, cost-inside c)) (λ c. omega (arith, cost-inside c)) (λ c. omega (arith, cost-inside (c .before)))
+    (λ c. search needs) (λ c. search needs) (λ c. search needs) returns)

@@ -1,4 +1,4 @@
--- `equal_runs::read_back` meets its contract. The invariant: what is still to be read, and then the slots written, are the interval. Assumes nothing.
+-- `equal_runs::read_back` meets its contract. The invariant: what is still to be read, and then the slots written, are the interval. Assumes unreached.
 use mathlib.Core.Path.{_≡_, refl, sym, _∙_}
 use mathlib.Core.List.{List, [], _∷_, _++_, append-nil, append-assoc}
 use Prim.Native.Nat.{ℕ, suc, _+_, _-_, _*_, _≤_, _<_}
@@ -51,50 +51,36 @@ Inv-loop full width picks s slots₀ k₀ base₀ state₀ slots k base state =
 abbrev μ-loop : tie.MeasureT-loop
 μ-loop full width picks s slots₀ k₀ base₀ state₀ slots k base state = k
 
-mul-base : tie.Need-mul-base Inv-loop μ-loop
-mul-base c = omega (arith, c .before .before .pre .1)
+-- the loop's test, and from it the entry
+abbrev test : tie.In-loop Inv-loop μ-loop → tie.At-loop Inv-loop μ-loop
+test c = c .before
+
+abbrev entry : tie.At-loop Inv-loop μ-loop → tie.Start Inv-loop μ-loop
+entry c = c .before .before .before
+
+inside-now : (c : tie.In-loop Inv-loop μ-loop)
+    → let s = entry (test c) in Inside (test c .loop .k) (length (s .args .slots .now)) (s .args .width) (test c .loop .base)
+inside-now c = let inv = test c .loop .inv in inside _ _ _ _ (c .loop-test .taken) (inv .0) (inv .1)
 
 loop-holds : tie.Need-loop-holds Inv-loop μ-loop
-loop-holds c = (omega arith, refl, c .before .before .pre .0, refl, none-back _ (c .before .before .args .slots .now))
-
-sub-base : tie.Need-sub-base Inv-loop μ-loop
-sub-base c =
-    let inv = c .before .loop .inv in
-    inside (c .before .loop .k) (length (c .before .before .before .before .args .slots .now)) (c .before .before .before .before .args .width) (c .before .loop .base) (c .loop-test .taken) (inv .0) (inv .1) .low
-
-add-x : tie.Need-add-x Inv-loop μ-loop
-add-x c =
-    let inv = c .before .loop .inv in
-    omega
-    (arith, c .before .before .before .before .pre .1, inside (c .before .loop .k) (length (c .before .before .before .before .args .slots .now)) (c .before .before .before .before .args .width) (c .before .loop .base) (c .loop-test .taken) (inv .0) (inv .1))
-
-mul-x : tie.Need-mul-x Inv-loop μ-loop
-mul-x c =
-    let inv = c .before .loop .inv in
-    omega
-    (arith, c .before .before .before .before .pre .1, inside (c .before .loop .k) (length (c .before .before .before .before .args .slots .now)) (c .before .before .before .before .args .width) (c .before .loop .base) (c .loop-test .taken) (inv .0) (inv .1))
+loop-holds c = let s = c .before .before in (omega arith, refl, s .pre .0, refl, none-back _ (s .args .slots .now))
 
 shared-slice-read-x : tie.Need-shared-slice-read-x Inv-loop μ-loop
-shared-slice-read-x c =
-    let inv = c .before .before .loop .inv in
-    omega
-    (arith, c .before .before .before .before .before .pre .1, inside (c .before .before .loop .k) (length (c .before .before .before .before .before .args .slots .now)) (c .before .before .before .before .before .args .width) (c .before .before .loop .base) (c .before .loop-test .taken) (inv .0) (inv .1))
+shared-slice-read-x c = let s = entry (test (c .before)) in omega (arith, inside-now (c .before))
 
 loop-again : tie.Need-loop-again Inv-loop μ-loop
 loop-again c =
-    let a = c .before .before .before .before .before .before .args in
-    let k : ℕ = c .before .before .before .loop .k in
-    let inv = c .before .before .before .loop .inv in (
+    let t = test (c .before .before) in
+    let a = entry t .args in
+    let k : ℕ = t .loop .k in
+    let inv = t .loop .inv in (
       omega arith,
-      earlier k (k - 1) (a .width) (c .before .before .before .loop .base) (omega arith) (inv .1),
+      earlier k (k - 1) (a .width) (t .loop .base) (omega arith) (inv .1),
       omega (arith, c .before2 .ensures),
       simp length-set (inv .3),
-      one-back (a .full) (a .width) (a .picks .now) k (k - 1) (c .before .before .before .loop .base) (c .before .before .before .loop .state) (c .before2 .result) (c .before .before .before .loop .slots) _
+      one-back (a .full) (a .width) (a .picks .now) k (k - 1) (t .loop .base) (t .loop .state) (c .before2 .result) (t .loop .slots) _
           (omega arith) (omega arith) (inv .1) (c .before2 .ensures) (inv .4),
     )
-
-same-length : tie.Need-same-length Inv-loop μ-loop
-same-length c = c .before .loop .inv .3
 
 returns : tie.Need-returns Inv-loop μ-loop
 returns c =
@@ -103,19 +89,6 @@ returns c =
 
 pub read-back-spec : {M : Type 1} → statement M
 read-back-spec = tie.close (tie.spec
-    Inv-loop
-    μ-loop
-    mul-base
-    loop-holds
-    (λ c. search needs)
-    sub-base
-    add-x
-    mul-x
-    shared-slice-read-x
-    (λ c. search needs)
-    (λ c. search needs)
-    (λ c κs. search needs)
-    (λ c. search needs)
-    loop-again
-    same-length
-    returns)
+    Inv-loop μ-loop (λ c. omega (arith, c .before .before .pre .1)) loop-holds (λ c. search needs) (λ c. inside-now c .low)
+    (λ c. omega (arith, entry (test c) .pre, inside-now c)) (λ c. omega (arith, entry (test c) .pre, inside-now c)) shared-slice-read-x
+    (λ c. search needs) (λ c. search needs) (λ c κs. search needs) (λ c. search needs) loop-again (λ c. c .before .loop .inv .3) returns)

@@ -1,11 +1,11 @@
--- `equal_runs::start` meets its contract. The invariant: the states from s on are marked. Assumes nothing.
+-- `equal_runs::start` meets its contract. The invariant: the states from s on are marked. Assumes unreached.
 use mathlib.Core.Path.{_≡_, refl}
 use Prim.Native.Nat.{ℕ, zero, suc, _-_, _≤_, _<_}
 use borrow.Author.Needs.{needs}
 use native.Mathlib.Omega.{arith}
 use lib.ListN.{length-set}
 use Rattle.equal_runs.specs.Bounds.{marker}
-use Rattle.equal_runs.specs.Fill.{Filled, filled-none, filled-more}
+use Rattle.equal_runs.specs.Fill.{RowFilled, filled-none, filled-more}
 use Rattle.equal_runs.specs.Run.{startOf}
 use Rattle.equal_runs.proofs.start.Statement.{statement}
 use Rattle.equal_runs.proofs.start.Tie as tie
@@ -15,7 +15,7 @@ later zero h = absurd (omega arith)
 later (suc s) h = refl
 
 abbrev Inv-loop : tie.InvT-loop
-Inv-loop top row₀ s₀ row s = (0 < s) × (s ≤ suc top) × Filled row₀ row 0 startOf s top
+Inv-loop top row₀ s₀ row s = (0 < s) × (s ≤ suc top) × RowFilled row₀ row 0 startOf s top
 
 abbrev μ-loop : tie.MeasureT-loop
 μ-loop top row₀ s₀ row s = s
@@ -27,10 +27,8 @@ loop-again : tie.Need-loop-again Inv-loop μ-loop
 loop-again c =
     let s : ℕ = c .before .loop .s in
     let inv = c .before .loop .inv in
-    (omega arith, omega arith, filled-more _ _ 0 startOf s (s - 1) _ (s - 1) marker (inv .2) (omega arith) (omega arith) (omega arith) (later (s - 1) (omega arith)))
-
-same-length : tie.Need-same-length Inv-loop μ-loop
-same-length c = simp length-set (omega arith)
+    let next = filled-more _ _ 0 startOf s (s - 1) _ (s - 1) marker (inv .2) (omega arith) (omega arith) (omega arith) in
+    (omega arith, omega arith, next (later (s - 1) (omega arith)))
 
 returns : tie.Need-returns Inv-loop μ-loop
 returns c =
@@ -40,15 +38,5 @@ returns c =
 
 pub start-spec : {M : Type 1} → statement M
 start-spec = tie.close (tie.spec
-    Inv-loop
-    μ-loop
-    (λ c. search needs)
-    loop-holds
-    (λ c. search needs)
-    (λ c. search needs)
-    (λ c. search needs)
-    (λ c. search needs)
-    loop-again
-    (λ c. search needs)
-    same-length
-    returns)
+    Inv-loop μ-loop (λ c. search needs) loop-holds (λ c. search needs) (λ c. search needs) (λ c. search needs) (λ c. search needs)
+    loop-again (λ c. search needs) (λ c. simp length-set (omega arith)) returns)

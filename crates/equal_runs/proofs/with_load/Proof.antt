@@ -6,26 +6,32 @@ use native.Mathlib.Decide.{decLt}
 use native.Mathlib.Omega.{arith}
 use Rattle.day.specs.Sums.{at}
 use Rattle.theory.specs.Basics.{pick-yes, pick-no}
-use Rattle.equal_runs.specs.Cells.{cheaperOf, offerOf}
+use Rattle.equal_runs.specs.declared.RunState.{RunState}
+use Rattle.equal_runs.specs.States.{cheaperOf, offerOf}
 use Rattle.equal_runs.proofs.with_load.Statement.{statement}
 use Rattle.equal_runs.proofs.with_load.Tie as tie
 
-sub-offer : tie.Need-sub-offer
-sub-offer c = c .before .before .pre .1 (c .if1 .taken)
+-- the best with one load more
+abbrev better : tie.Start → RunState
+better s = let a = s .args in cheaperOf (a .best) (offerOf (a .p) (at (a .row .now) (a .s - a .step)) (a .load) (a .hold))
+
+offer-requires : tie.Need-offer-requires
+offer-requires c κs = let pre = c .before .before .before .pre in (pre .0 .low _ (omega arith), pre .2)
 
 returns : tie.Need-returns
 returns c =
-    let a = c .before .before .before .before .before .args in
-    let row = a .row .now in
-    c .cheaper .ensures
-    ∙ ap (cheaperOf (a .best)) (c .before .offer .ensures)
-    ∙ sym (pick-yes (decLt 0 (a .n)) (cheaperOf (a .best) (offerOf (a .p) (at row (a .s - a .step)) (a .load) (a .hold))) (a .best) (c .before .before .before .if1 .taken))
+    let try = c .before .before .before in
+    let s = try .before .before in
+    let a = s .args in
+    c .cheaper .ensures ∙ ap (cheaperOf (a .best)) (c .before .offer .ensures) ∙ sym (pick-yes (decLt 0 (a .n)) (better s) (a .best) (try .if1 .taken))
 
 returns-2 : tie.Need-returns-2
 returns-2 c =
-    let a = c .before .before .args in
-    let row = a .row .now in
-    sym (pick-no (decLt 0 (a .n)) (cheaperOf (a .best) (offerOf (a .p) (at row (a .s - a .step)) (a .load) (a .hold))) (a .best) (λ (h : 0 < a .n). omega arith))
+    let s = c .before .before in
+    let a = s .args in
+    sym (pick-no (decLt 0 (a .n)) (better s) (a .best) (λ (h : 0 < a .n). omega arith))
 
 pub with-load-spec : {M : Type 1} → statement M
-with-load-spec = tie.close (tie.spec sub-offer (λ c. search needs) (λ c. search needs) (λ c κs. search needs) (λ c κs. search needs) returns returns-2)
+with-load-spec = tie.close (tie.spec
+    (λ c. c .before .before .pre .1 (c .if1 .taken)) (λ c. search needs) (λ c. search needs) offer-requires (λ c κs. search needs) returns
+    returns-2)

@@ -40,22 +40,15 @@ returns-2 c =
 
 returns-3 : tie.Need-returns-3
 returns-3 c =
-    let some = c .before .before .before .before .before .before in
+    let called = c .before .before .before .before in
+    let some = called .before .before in
     let pre = some .before .before .before .pre in
-    best-of (pre .0 .bounded) (pre .1 .1 .0) (pre .1 .0) (some .if1 .left) (c .before .before .if2 .left) (c .before .choice-for3 .ensures) (c .before .before .before .before .choice-for2 .ensures) (c .cheaper .ensures)
+    best-of (pre .0 .bounded) (pre .1 .1 .0) (pre .1 .0) (some .if1 .left) (c .before .before .if2 .left)
+    (c .before .choice-for3 .ensures) (called .choice-for2 .ensures) (c .cheaper .ensures)
 
 pub best-queued-spec : {M : Type 1} → statement M
 best-queued-spec =
     tie.close
     (tie.spec
-    choice-for-requires
-    returns
-    (λ c. search needs)
-    (λ c. search needs)
-    cast-before
-    sub-choice-for
-    choice-for-requires-2
-    returns-2
-    (λ c κs. search needs)
-    (λ c κs. search needs)
-    returns-3)
+    choice-for-requires returns (λ c. search needs) (λ c. search needs) cast-before sub-choice-for choice-for-requires-2
+    returns-2 (λ c κs. search needs) (λ c κs. search needs) returns-3)

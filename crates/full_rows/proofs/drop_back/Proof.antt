@@ -34,13 +34,15 @@ key-requires-2 c κs =
 
 returns : tie.Need-returns Inv-loop μ-loop
 returns c =
-    let turn = c .before .before .before .before in
-    outdone-found (turn .loop .inv) (c .before .before .before .loop-test .taken) (turn .before .key .ensures) (c .before .key2 .ensures) (turn .before .before .before .before .pre .1 .0) (search needs)
+    let turn = c .before .before .before in
+    let head = turn .before in
+    outdone-found (head .loop .inv) (turn .loop-test .taken) (head .before .key .ensures) (c .before .key2 .ensures)
+    (head .before .before .before .before .pre .1 .0) (search needs)
 
 loop-again : tie.Need-loop-again Inv-loop μ-loop
 loop-again c =
-    let turn = c .before .before .before .before in
-    dearer-more (turn .loop .inv) (c .before .before .before .loop-test .taken) (turn .before .key .ensures) (c .before .key2 .ensures) (search needs)
+    let turn = c .before .before .before in
+    dearer-more (turn .before .loop .inv) (turn .loop-test .taken) (turn .before .before .key .ensures) (c .before .key2 .ensures) (search needs)
 
 returns-2 : tie.Need-returns-2 Inv-loop μ-loop
 returns-2 c = outdone-all (c .before .loop .inv) (c .loop-test .left)
@@ -49,17 +51,5 @@ pub drop-back-spec : {M : Type 1} → statement M
 drop-back-spec =
     tie.close
     (tie.spec
-    Inv-loop
-    μ-loop
-    key-requires
-    loop-holds
-    (λ c. search needs)
-    (λ c. search needs)
-    (λ c. search needs)
-    cast-last
-    key-requires-2
-    returns
-    (λ c. search needs)
-    (λ c. search needs)
-    loop-again
-    returns-2)
+    Inv-loop μ-loop key-requires loop-holds (λ c. search needs) (λ c. search needs) (λ c. search needs) cast-last
+    key-requires-2 returns (λ c. search needs) (λ c. search needs) loop-again returns-2)

@@ -21,11 +21,5 @@ pub enter-spec : {M : Type 1} → statement M
 enter-spec =
     tie.close
     (tie.spec
-    returns
-    drop-back-requires
-    (λ c. search needs)
-    (λ c. search needs)
-    (λ c. search needs)
-    (λ c. search needs)
-    (λ c. search needs)
-    returns-2)
+    returns drop-back-requires (λ c. search needs) (λ c. search needs) (λ c. search needs) (λ c. search needs)
+    (λ c. search needs) returns-2)

@@ -12,10 +12,15 @@ best-queued-requires c κs =
     (pre .0, (queue-trim (pre .1 .0) (c .before .less .ensures) (c .drop-head .ensures), pre .1 .1))
 
 cell-for-requires : tie.Need-cell-for-requires
-cell-for-requires c κs = let pre = c .before .before .before .before .before .pre in best-small (pre .0) (pre .1 .1 .0) (c .best-queued .ensures)
+cell-for-requires c κs =
+    let pre = c .before .before .before .before .before .pre in
+    best-small (pre .0) (pre .1 .1 .0) (c .best-queued .ensures)
 
 returns : tie.Need-returns
-returns c = found (c .before .before .before .before .before .before .pre .1 .0) (c .before .before .before .less .ensures) (c .before .before .drop-head .ensures) (c .before .best-queued .ensures) (c .cell-for .ensures)
+returns c =
+    let trimmed = c .before .before in
+    let pre = trimmed .before .before .before .before .pre in
+    found (pre .1 .0) (trimmed .before .less .ensures) (trimmed .drop-head .ensures) (c .before .best-queued .ensures) (c .cell-for .ensures)
 
 pub next-cell-spec : {M : Type 1} → statement M
 next-cell-spec =

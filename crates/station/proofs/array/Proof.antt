@@ -16,7 +16,10 @@ zeros = replicate 16 0
 copied : (l : List ℕ) (k : ℕ) → k < 16 → length l ≡ 16 → set (paste zeros 0 l k) k (getD l k 0) ≡ paste zeros 0 l (suc k)
 copied l k below e =
     let z : 0 + k ≡ k = omega arith in
-    subst (λ (i : ℕ). set (paste zeros 0 l k) i (getD l k 0) ≡ paste zeros 0 l (suc k)) z (paste-suc zeros 0 l k 0 (omega arith) (omega arith))
+    subst
+    (λ (i : ℕ). set (paste zeros 0 l k) i (getD l k 0) ≡ paste zeros 0 l (suc k))
+    z
+    (paste-suc zeros 0 l k 0 (omega arith) (omega arith))
 
 all-copied : (l : List ℕ) → length l ≡ 16 → paste zeros 0 l 16 ≡ l
 all-copied l e = rw (take-all 16 l (omega arith)) (append-nil l)
@@ -46,4 +49,5 @@ returns c =
 pub array-spec : {M : Type 1} → statement M
 array-spec =
     tie.close
-    (tie.spec Inv-loop μ-loop loop-holds shared-slice-read-bytes (λ c. omega arith) (λ c. omega arith) (λ c. omega arith) loop-again returns)
+    (tie.spec
+    Inv-loop μ-loop loop-holds shared-slice-read-bytes (λ c. omega arith) (λ c. omega arith) (λ c. omega arith) loop-again returns)

@@ -8,11 +8,10 @@ use lib.ListN.{length}
 use denote.Ref.{now}
 use borrow.Author.Needs.{needs}
 use Rattle.day.specs.File.{body, recordAt}
-use Rattle.checks.specs.Passed.{passed, refused}
+use Rattle.day.specs.Tests.{passed, refused}
 use Rattle.dayfile.specs.Answers.{badLookup}
 use Rattle.dayfile.specs.Passed.{lookup-passed}
 use Rattle.dayfile.specs.Layout.{period-at, period-body}
-use Rattle.station.proofs.Files.{lookup-named}
 use Rattle.station.proofs.yakkurem_lookup.Statement.{statement}
 use Rattle.station.proofs.yakkurem_lookup.Tie as tie
 
@@ -26,16 +25,12 @@ admitted : (c : tie.After-enum-told) → badLookup (file (c .before .before)) (p
 admitted c = passed _ (c .before .before .check .ensures) (c .enum-told .given .1)
 
 -- the part is the record's body
-part : (c : tie.After-body) → now (c .body .result) ≡ body (file (c .before .before .before)) (recordAt (file (c .before .before .before)) (period (c .before .before .before) - 1))
+part : (c : tie.After-body)
+    → let p = c .before .before .before in now (c .body .result) ≡ body (file p) (recordAt (file p) (period p - 1))
 part c = (rw (admitted (c .before)) at (c .body .ensures)) .bytes
 
 whole : (s : List ℕ) (i : ℕ) → badLookup s i ≡ none → length (body s (recordAt s (i - 1))) ≡ 16
 whole s i e = period-body s (recordAt s (i - 1)) (period-at s (i - 1) (omega (arith, lookup-passed s i e)))
-
-refused-requires : tie.Need-refused-requires
-refused-requires c κs =
-    let p = c .before .before .before in
-    lookup-named (file p) (period p) _ (refused (badLookup (file p) (period p)) (p .check .ensures) (c .before .r .given .1))
 
 returns : tie.Need-returns
 returns c =
@@ -52,11 +47,5 @@ pub yakkurem-lookup-spec : {M : Type 1} → statement M
 yakkurem-lookup-spec =
     tie.close
     (tie.spec
-    (λ c κs. search needs)
-    (λ c. search needs)
-    refused-requires
-    returns
-    (λ c. search needs)
-    (λ c κs. search needs)
-    array-requires
+    (λ c κs. search needs) (λ c. search needs) (λ c κs. search needs) returns (λ c. search needs) (λ c κs. search needs) array-requires
     returns-2)

@@ -29,14 +29,14 @@ returns-3 c =
 
 returns-4 : tie.Need-returns-4
 returns-4 c =
-    let produced = c .before .before .before .before in
-    let joined = produced .before in
+    let made = c .before .before .before .before in
+    let joined = made .before in
     let tested = joined .before in
     simp (
       le-ltb _ _ (tested .before .if1 .left),
       le-ltb _ _ (tested .if2 .left),
       kept joined,
-      produced .production .ensures .is,
+      made .making-cost .ensures .is,
       c .before .before .holding-cost .ensures .is,
       c .before .setup-of .ensures .is,
     )
@@ -45,16 +45,5 @@ pub judge-spec : {M : Type 1} → statement M
 judge-spec =
     tie.close
     (tie.spec
-    (λ c. search needs)
-    (λ c. search needs)
-    (λ c. search needs)
-    returns
-    returns-2
-    returns-3
-    (λ c κs. search needs)
-    (λ c. search needs)
-    (λ c κs. search needs)
-    (λ c. search needs)
-    (λ c κs. search needs)
-    (λ c. search needs)
-    returns-4)
+    (λ c. search needs) (λ c. search needs) (λ c. search needs) returns returns-2 returns-3 (λ c κs. search needs) (λ c. search needs)
+    (λ c κs. search needs) (λ c. search needs) (λ c κs. search needs) (λ c. search needs) returns-4)

@@ -10,4 +10,6 @@ returns : tie.Need-returns
 returns c = record { bytes = body-part _ _ (c .before .next .ensures); block = refl; offset = omega arith }
 
 pub body-spec : {M : Type 1} → statement M
-body-spec = tie.close (tie.spec (λ c. search needs) (λ c κs. search needs) (λ c. search needs) (λ c. search needs) (λ c. search needs) returns)
+body-spec =
+    tie.close
+    (tie.spec (λ c. search needs) (λ c κs. search needs) (λ c. search needs) (λ c. search needs) (λ c. search needs) returns)
