@@ -1,19 +1,20 @@
--- What the passed tests of these calls tell a caller. Main statements: `each-passed`, `file-passed`, `lookup-passed`. Assumes nothing.
+-- What the passed tests of these calls tell a caller. Main statements: `each-passed`, `file-passed`, `lookup-passed`, `write-passed`. Assumes nothing.
 use mathlib.Core.Path.{_≡_, refl}
 use mathlib.Core.List.{List, [], _∷_, _++_}
 use mathlib.Core.Option.{Option, none, some, Option·some-ne-none}
 use Prim.Native.Nat.{ℕ, _≤_}
 use native.Mathlib.Omega.{arith}
 use lib.Dec.{eqb, ltb}
+use lib.ListN.{length}
 use borrow.Author.Tests.{eqb-false, ltb-false}
-use Rattle.day.specs.Day.{maxPeriods}
+use Rattle.day.specs.Day.{Day, maxPeriods}
 use Rattle.day.specs.declared.Refusal.{Refusal}
-use Rattle.day.specs.declared.Refusal.the-variants.{NoSuchPeriod}
-use Rattle.day.specs.Refusals.{first}
+use Rattle.day.specs.declared.Refusal.the-variants.{FewSlots, NoSuchPeriod}
+use Rattle.day.specs.Refusals.{first, badSlots, tableTests}
 use Rattle.day.specs.Tests.{not-refused, neither}
-use Rattle.day.specs.File.{periodsIn, noSuchPeriod}
+use Rattle.day.specs.File.{periodsIn, noSuchPeriod, fileOf}
 use Rattle.checks.specs.Passed.{count-passed}
-use Rattle.dayfile.specs.Answers.{fileTests, badLookup}
+use Rattle.dayfile.specs.Answers.{fileTests, badLookup, badWrite}
 
 -- in a list without refusals every test has passed
 abbrev pub EachPassed : List (Option Refusal) → Type 0
@@ -37,3 +38,9 @@ lookup-passed s i e =
     let t = neither (eqb i 0) (ltb n i) (not-refused _ NoSuchPeriod asked) in
     let nonzero = eqb-false i 0 (t .0) in
     (omega arith, ltb-false n i (t .1))
+
+-- a writing that is not refused has room for the file
+pub write-passed : (d : Day) (room : ℕ) → badWrite d room ≡ none → length (fileOf d) ≤ room
+write-passed d room e =
+    let each = each-passed (tableTests d ++ (badSlots room (length (fileOf d)) ∷ [])) e in
+    ltb-false room (length (fileOf d)) (not-refused _ FewSlots (each .1 .1 .1 .0))

@@ -12,20 +12,22 @@ use borrow.Author.Tests.{ltb-false}
 use lib.ListN.{length, take, drop, set}
 use lib.Seq.{take-at}
 use Rattle.day.specs.Sums.{listOf, length-listOf}
-use Rattle.day.specs.Day.{Day, dayOf}
+use Rattle.day.specs.Day.{Day, dayOf, maxPeriods}
 use Rattle.day.specs.declared.Refusal.the-variants.{FewSlots}
 use Rattle.day.specs.Refusals.{badSlots, badValue}
 use Rattle.day.specs.Tests.{not-refused}
 use Rattle.day.specs.File.{recordAt, next, body, number2, number4, periodsIn, walk, field, dayIn}
 use Rattle.dayfile.specs.Answers.{Cells, fileTests, shortest, badRead, withFirst, withPeriods, withDay}
+use Rattle.checks.specs.Passed.{count-passed}
 use Rattle.dayfile.specs.Passed.{each-passed}
 use Rattle.dayfile.specs.Layout.{WholePeriod, period-at}
 use Rattle.dayfile_reader.specs.declared.Numbers.{Numbers}
 use Rattle.dayfile_reader.specs.Numbers.{numbersIn}
 
--- what the tests of a reading leave: the walk met no fault, and the tables have a cell for each period
+-- what the tests of a reading leave: the walk met no fault, and the tables have a cell for each of at most 96 periods
 pub record Taken (s : List ℕ) (tables : Day) : Type 0 where
   pub walked : walk s ≡ none
+  pub few : periodsIn s ≤ maxPeriods
   pub cells : Cells (periodsIn s) tables
 
 pub read-passed : (s : List ℕ) (tables : Day) → badRead s (shortest tables) ≡ none → Taken s tables
@@ -35,6 +37,7 @@ read-passed s tables e =
     let l = ltb-false (shortest tables) n (not-refused _ FewSlots (each .1 .1 .0)) in
     record {
       walked = each .0;
+      few = count-passed n (each .1 .0) .1;
       cells = record { demand = omega arith; capacity = omega arith; setup = omega arith; unit = omega arith; holding = omega arith };
     }
 

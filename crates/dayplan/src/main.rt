@@ -2,7 +2,7 @@
 //! (Document 01, "Marked days".)
 ghost use Prim.Native.Nat.{_+_};
 ghost use lib.ListN.{length};
-ghost use Rattle.lines.specs.Text.{Held};
+ghost use Rattle.lines.specs.Text.{HavePeriods};
 ghost use Rattle.dayplan.specs.Input.{PieceOf, InputOf};
 use day::Answer;
 use day::Refusal;
@@ -66,7 +66,7 @@ fn print_refusal(r: Refusal) {
 }
 
 fn print_amount(demand: &[u16], plan: &[u16], i: usize)
-    requires { ⌜ Held (now demand) (now plan) (i + 1) ⌝ }
+    requires { ⌜ HavePeriods (now demand) (now plan) (i + 1) ⌝ }
 {
     let mut line = [0u8; 96];
     let n = lines::amount_line(demand, plan, i, &mut line);
@@ -81,7 +81,7 @@ fn print_totals(n: usize, totals: Totals) {
 
 // A line for each period.
 fn print_amounts(demand: &[u16], plan: &[u16])
-    requires { ⌜ Held (now demand) (now plan) (length (now demand)) ⌝ }
+    requires { ⌜ HavePeriods (now demand) (now plan) (length (now demand)) ⌝ }
 {
     let mut i = 0;
     while i < demand.len() {

@@ -43,31 +43,21 @@ module _ (P : ℕ → (ℕ → ℕ) → Type 0) (costs : (ℕ → ℕ) → ℕ) 
   neither : Answers (Some P i) costs n none → Answers (P i) costs n none → Answers (Some P (suc i)) costs n none
   neither la lb z q = ⊎-elim (λ (e : q .0 ≡ i). lb z (rw e at (q .2))) (λ h. la z (q .0, h, q .2)) (eq-or-lt-of-le (le-of-suc-le-suc (q .1)))
 
-  module _ (o o′ : Option Solution) (la : Answers (Some P i) costs n o) (lb : Answers (P i) costs n o′)
-      (ha : PlanTold B v x o) (hb : PlanTold B w y o′) where
-    -- the one kept so far goes first
-    pub old-stays : Sooner n v (at x) w (at y) → Answers (Some P (suc i)) costs n o
-    old-stays s = go o o′ la lb ha hb
-      where
-        go : (o o′ : Option Solution) → Answers (Some P i) costs n o → Answers (P i) costs n o′ → PlanTold B v x o → PlanTold B w y o′
-            → Answers (Some P (suc i)) costs n o
-        go none none la lb ha hb = neither la lb
-        go none (some b) la lb ha hb = absurd (omega (arith, s .cheap, ha .cost .0, hb .cost .1))
-        go (some a) o′ la lb ha hb =
-            keep-old costs n P i a o′ la lb
-            (λ b e. sooner-precedes (Some P i) (P i) costs n B v w x y a b la (rw e at lb) ha (rw e at hb) s)
+  -- the one kept so far goes first
+  pub old-stays : (o o′ : Option Solution) → Answers (Some P i) costs n o → Answers (P i) costs n o′ → PlanTold B v x o → PlanTold B w y o′
+      → Sooner n v (at x) w (at y) → Answers (Some P (suc i)) costs n o
+  old-stays none none la lb ha hb s = neither la lb
+  old-stays none (some b) la lb ha hb s = absurd (omega (arith, s .cheap, ha .cost .0, hb .cost .1))
+  old-stays (some a) o′ la lb ha hb s =
+      keep-old costs n P i a o′ la lb (λ b e. sooner-precedes (Some P i) (P i) costs n B v w x y a b la (rw e at lb) ha (rw e at hb) s)
 
-    -- the new one goes first
-    pub new-goes : Sooner n w (at y) v (at x) → Answers (Some P (suc i)) costs n o′
-    new-goes s = go o o′ la lb ha hb
-      where
-        go : (o o′ : Option Solution) → Answers (Some P i) costs n o → Answers (P i) costs n o′ → PlanTold B v x o → PlanTold B w y o′
-            → Answers (Some P (suc i)) costs n o′
-        go none none la lb ha hb = neither la lb
-        go (some a) none la lb ha hb = absurd (omega (arith, s .cheap, ha .cost .1, hb .cost .0))
-        go o (some b) la lb ha hb =
-            take-new costs n P i o b la lb
-            (λ a e. sooner-precedes (P i) (Some P i) costs n B w v y x b a lb (rw e at la) hb (rw e at ha) s)
+  -- the new one goes first
+  pub new-goes : (o o′ : Option Solution) → Answers (Some P i) costs n o → Answers (P i) costs n o′ → PlanTold B v x o → PlanTold B w y o′
+      → Sooner n w (at y) v (at x) → Answers (Some P (suc i)) costs n o′
+  new-goes none none la lb ha hb s = neither la lb
+  new-goes (some a) none la lb ha hb s = absurd (omega (arith, s .cheap, ha .cost .1, hb .cost .0))
+  new-goes o (some b) la lb ha hb s =
+      take-new costs n P i o b la lb (λ a e. sooner-precedes (P i) (Some P i) costs n B w v y x b a lb (rw e at la) hb (rw e at ha) s)
 
 -- the first of the candidates before i for row m, and what the row tells of it
 pub record BestSoFar (p : Problem) (c m i : ℕ) (a : Areas) : Type 0 where

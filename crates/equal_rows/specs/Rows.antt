@@ -17,12 +17,15 @@ use Rattle.equal_runs.specs.Bounds.{stageMost}
 use Rattle.equal_runs.specs.States.{indexOf}
 use Rattle.equal_runs.specs.Told.{CostTold}
 use Rattle.equal_runs.specs.Run.{Ran}
+use Rattle.equal_rows.specs.declared.Ending.{Ending}
 
--- the loads of an interval that makes W in all, and the index of the state that it ends in
-pub record LoadsSplit (W c : ℕ) (w : LoadSizes) (top : ℕ) : Type 0 where
-  pub full : w .full ≡ c
-  pub part : w .part ≡ W % c
-  pub ends : top ≡ indexOf (W / c) (min 1 (W % c))
+-- the fractional load of an interval that makes W in all, and the index of the state that it ends in
+pub record LoadsSplit (W c : ℕ) (e : Ending) : Type 0 where
+  pub part : e .part ≡ W % c
+  pub ends : e .top ≡ indexOf (W / c) (min 1 (W % c))
+
+abbrev pub loadSizes : (full part : ℕ) → LoadSizes
+loadSizes full part = record { full = full; part = part }
 
 -- the amounts are o's, where there is one
 abbrev pub AmountsTold : List ℕ → Option Solution → Type 0
@@ -75,7 +78,7 @@ pub record Layable (p : Problem) (l count top : ℕ) (a : Areas) : Type 0 where
   pub sized : AreasSized (periods p) a
 
 -- past the rows stand the intervals of `count` periods from l on
-pub record Laid (p : Problem) (l : ℕ) (w : LoadSizes) (count top : ℕ) (old new : Areas) : Type 0 where
+pub record Laid (p : Problem) (w : LoadSizes) (l count top : ℕ) (old new : Areas) : Type 0 where
   pub kept : RowsKept (periods p) old new
   pub ran : let n = periods p in Ran (modelOf p) l w count top (2 * n + 2) (drop (n + 1) (new .costs)) (drop (n * n + n) (new .choices))
 

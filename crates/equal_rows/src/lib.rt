@@ -8,7 +8,7 @@ ghost use Rattle.day.specs.Sums.{at};
 ghost use Rattle.equal_runs.specs.States.{indexOf};
 ghost use Rattle.equal_runs.specs.Run.{constantWith};
 ghost use Rattle.equal_rows.specs.Order.{Ordered, Decided};
-ghost use Rattle.equal_rows.specs.Rows.{areas, LoadsSplit, Layable, Laid, Tryable, IntervalTold, CandidateTold};
+ghost use Rattle.equal_rows.specs.Rows.{areas, loadSizes, LoadsSplit, Layable, Laid, Tryable, IntervalTold, CandidateTold};
 ghost use Rattle.equal_rows.specs.Best.{PlanRow};
 ghost use Rattle.equal_rows.specs.Consider.{Keepable, RowStored, RowSettled, Considerable, Considered};
 ghost use Rattle.equal_rows.specs.Consider.{RowsBefore, RowFound, RowsWanted};
@@ -61,9 +61,9 @@ fn goes_first(v: u64, x: &[u16], w: u64, y: &[u16]) -> bool
     smaller(x, y)
 }
 
-// The loads of an interval, and the state that it ends in.
+// The fractional load of an interval, and the state that it ends in.
 struct Ending {
-    sizes: LoadSizes,
+    part: u16,
     top: usize,
 }
 
@@ -81,16 +81,12 @@ fn state_of(j: u64, part: u64) -> usize
 // The loads that make `left` in all: as many full ones as it holds, and a fractional load where they leave something.
 fn split(left: u64, full: u16) -> Ending
     requires { ⌜ (0 < full) × (left ≤ full * 96) ⌝ }
-    ensures { λ r. ⌜ LoadsSplit left full (r .sizes) (r .top) ⌝ }
+    ensures { λ r. ⌜ LoadsSplit left full r ⌝ }
 {
     let c = full as u64;
     let rest = left % c;
-    let sizes = LoadSizes {
-        full,
-        part: rest as u16,
-    };
     Ending {
-        sizes,
+        part: rest as u16,
         top: state_of(left / c, rest),
     }
 }
@@ -101,25 +97,29 @@ fn lay(
     setup: &[u32],
     unit: &[u32],
     holding: &[u32],
+    full: u16,
+    ending: Ending,
     l: usize,
     count: usize,
-    ending: Ending,
     costs: &mut [u64],
     choices: &mut [u16],
 )
     requires { ⌜
-        Layable (constantWith (now demand) (ending .sizes .full) (now setup) (now unit) (now holding))
+        Layable (constantWith (now demand) full (now setup) (now unit) (now holding))
         l count (ending .top) (areas (now costs) (now choices))
         ⌝ }
     ensures { λ _. ⌜
-        Laid (constantWith (now (demand .entry)) (ending .sizes .full) (now (setup .entry)) (now (unit .entry)) (now (holding .entry)))
-        l (ending .sizes) count (ending .top)
+        Laid (constantWith (now (demand .entry)) full (now (setup .entry)) (now (unit .entry)) (now (holding .entry)))
+        (loadSizes full (ending .part)) l count (ending .top)
         (areas (now (costs .entry)) (now (choices .entry)))
         (areas (now (costs .exit)) (now (choices .exit)))
         ⌝ }
 {
     let n = demand.len();
-    let sizes = ending.sizes;
+    let sizes = LoadSizes {
+        full,
+        part: ending.part,
+    };
     let top = ending.top;
     let width = 2 * n + 2;
     let from = n + 1;
@@ -170,9 +170,10 @@ fn trial(
         setup,
         unit,
         holding,
+        full,
+        ending,
         l,
         slots.len(),
-        ending,
         costs,
         choices,
     );

@@ -17,7 +17,8 @@ use Rattle.full_rows.specs.declared.Choice.{Choice}
 use Rattle.full_rows.specs.declared.Cell.{Cell}
 use Rattle.full_rows.specs.declared.Next.{Next}
 use Rattle.full_rows.specs.Row.{rowAt, choiceOf, bestOf, cellOf, StageBounded, Open, After, LeadsTo, RowReady, Stepped}
-use Rattle.full_rows.specs.Queue.{keyOf, Entry, Queue, Window, CellFound, Dropped, Trimmed, Dearer, Outdone, QueueRoom, Entered, Scratch, Queued}
+use Rattle.full_rows.specs.Queue.{keyOf, Entry, Queue, Window, CellFound, Dropped, Trimmed, Dearer, Outdone}
+use Rattle.full_rows.specs.Queue.{QueueRoom, Entered, Scratch, Queued}
 use Rattle.full_rows.specs.Moves.{queue-none, queue-later, queue-ext, queue-enter, queue-trim}
 use Rattle.full_rows.specs.Head.{best-either}
 use Rattle.full_rows.proofs.Laws.{Stepping, stepping-none, stepping-open, stepping-free, stepping-more, stepping-all}
@@ -46,7 +47,8 @@ module _ {s : Stage} {row : ℕ → ℕ} {cells : List ℕ} {Y head tail end : �
   pub dearer-none : head ≤ tail → end ≡ tail → Dearer s row cells Y head tail end
   dearer-none l e = record { from = omega arith; to = omega arith; gone = λ i a b. absurd (omega arith) }
 
-  module _ {limit k : ℕ} (o : Dearer s row cells Y head tail end) (l : head < end) (f : limit ≡ keyOf s row Y) (g : k ≡ keyOf s row (at cells (end - 1))) where
+  module _ {limit k : ℕ} (o : Dearer s row cells Y head tail end) (l : head < end)
+      (f : limit ≡ keyOf s row Y) (g : k ≡ keyOf s row (at cells (end - 1))) where
     pub dearer-more : limit ≤ k → Dearer s row cells Y head tail (end - 1)
     dearer-more h =
         record {
@@ -143,7 +145,8 @@ module _ {s : Stage} {X : ℕ} where
   pub leads-none : StageBounded s → After s X → X ≤ s .high → LeadsTo s X 0
   leads-none b a h = record { rest = omega (arith, b .rises, a .0); enough = omega arith; under = a .1 }
 
-  pub leads-head : {row : ℕ → ℕ} {cells : List ℕ} {head tail : ℕ} → After s X → Window s row cells X head tail → head < tail → LeadsTo s X (X - at cells head)
+  pub leads-head : {row : ℕ → ℕ} {cells : List ℕ} {head tail : ℕ} → After s X → Window s row cells X head tail → head < tail
+      → LeadsTo s X (X - at cells head)
   leads-head {row} {cells} {head} a w l =
       let i = w .queue .entries head (omega arith) l in
       record { rest = omega (arith, i .low, i .below); enough = omega (arith, i .high); under = a .1 }
@@ -209,7 +212,8 @@ module _ {s : Stage} {costs : List ℕ} {from to : ℕ} {choices : List ℕ} {ba
 
     pub filling-more : {next : Next} {r : ℕ} {choices″ : List ℕ} → CellFound s (rowAt costs′ from) choices′ X head tail next
         → Entered s (rowAt costs′ from) choices′ X (next .head) tail choices″ r → length choices″ ≡ length choices′
-        → RowFilling s costs from to (set costs′ (to + X) (next .cell .cost)) choices base (set choices″ (base + X) (next .cell .amount)) (next .head) r (X + 1)
+        → let costs″ = set costs′ (to + X) (next .cell .cost) in
+        RowFilling s costs from to costs″ choices base (set choices″ (base + X) (next .cell .amount)) (next .head) r (X + 1)
     filling-more {next} {r} {choices″} t n e =
         record {
           ready = f .ready;

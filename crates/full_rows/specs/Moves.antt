@@ -94,7 +94,8 @@ module _ {s : Stage} {row : ℕ → ℕ} where
       newest : (Y : ℕ) → Y ≤ X → keyOf s row X ≤ keyOf s row Y → Substitute (keyOf s row) next head (r + 1) Y
       newest Y h k = let g = new r refl in record { place = r; from = o .passed .from; to = omega arith; later = rw g h; cheap = rw g k }
 
-      still : (Y : ℕ) → Y < X → (w : Substitute (keyOf s row) cells head tail Y) → Dec (w .place < r) → Substitute (keyOf s row) next head (r + 1) Y
+      still : (Y : ℕ) → Y < X → (w : Substitute (keyOf s row) cells head tail Y) → Dec (w .place < r)
+          → Substitute (keyOf s row) next head (r + 1) Y
       still Y h w (yes k) =
           let g = old (w .place) k in
           record { place = w .place; from = w .from; to = omega arith; later = rw g (w .later); cheap = rw g (w .cheap) }
@@ -108,8 +109,8 @@ module _ {s : Stage} {row : ℕ → ℕ} where
       answers Y c (no h) = let f : Y ≡ X = omega (arith, c .entry .below) in newest Y (omega arith) (rw f (omega arith))
 
   -- What leaves at the head is no candidate.
-  pub queue-trim : {cells : List ℕ} {X least head tail r : ℕ} → Queue s row cells X head tail → least ≡ X - s .capacity → Trimmed cells least head tail r
-      → Window s row cells X r tail
+  pub queue-trim : {cells : List ℕ} {X least head tail r : ℕ} → Queue s row cells X head tail → least ≡ X - s .capacity
+      → Trimmed cells least head tail r → Window s row cells X r tail
   queue-trim {cells} {X} {least} {head} {tail} {r} q e t =
       let p = t .passed in
       record {
@@ -122,6 +123,7 @@ module _ {s : Stage} {row : ℕ → ℕ} where
         near = λ l. omega (arith, t .stays l);
       }
     where
-      still : (Y : ℕ) → Candidate s X Y → (w : Substitute (keyOf s row) cells head tail Y) → Dec (w .place < r) → Substitute (keyOf s row) cells r tail Y
+      still : (Y : ℕ) → Candidate s X Y → (w : Substitute (keyOf s row) cells head tail Y) → Dec (w .place < r)
+          → Substitute (keyOf s row) cells r tail Y
       still Y c w (yes h) = absurd (omega (arith, t .passed .gone (w .place) h (w .from), w .later, c .near))
       still Y c w (no h) = record { place = w .place; from = omega arith; to = w .to; later = w .later; cheap = w .cheap }

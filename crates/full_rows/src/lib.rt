@@ -5,7 +5,8 @@ ghost use native.Mathlib.Decide.{decLt};
 ghost use lib.ListN.{length};
 ghost use Rattle.theory.specs.Basics.{pick};
 ghost use Rattle.full_rows.specs.Row.{rowAt, choiceOf, bestOf, cellOf, Small, Open, After, LeadsTo, RowReady, Stepped};
-ghost use Rattle.full_rows.specs.Queue.{keyOf, Entry, Queue, Window, CellFound, Trimmed, Outdone, QueueRoom, Entered, Scratch, Queued};
+ghost use Rattle.full_rows.specs.Queue.{keyOf, Entry, Queue, Window, CellFound, Trimmed, Outdone};
+ghost use Rattle.full_rows.specs.Queue.{QueueRoom, Entered, Scratch, Queued};
 
 // One period, as the row step sees it: c, b, p and H, the totals that can be reached before it and after it.
 pub struct Stage {
@@ -264,7 +265,8 @@ fn fill_one(s: Stage, costs: &mut [u64], from: usize, to: usize, choices: &mut [
     choices[base + total] = next.amount;
 }
 
-// The row that begins at `to` and the choices from `base` on, for the row that begins at `from`.
+// The row that begins at `to` and its choices from `base` on, for the row that begins at `from`. Free: the choices behind them, where the
+// queue stood, and every other cost.
 pub fn step(s: Stage, costs: &mut [u64], from: usize, to: usize, choices: &mut [u16], base: usize)
     requires { ⌜ RowReady s (now costs) from to (now choices) base ⌝ }
     ensures { λ _. ⌜ Stepped s (now (costs .entry)) from to (now (costs .exit)) (now (choices .entry)) base (now (choices .exit)) ⌝ }

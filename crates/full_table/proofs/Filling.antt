@@ -37,7 +37,8 @@ module _ {p : Problem} {costs choices : List ℕ} {T : ℕ} (f : Fillable p cost
   limited : (i X : ℕ) → i < periods p → Reachable p (suc i) X → Limited (stageOf (modelOf p) i) X
   limited i X l h =
       let b = f .bounded in
-      record { setup = b .setup i l; unit = b .unit i l; holding = b .holding i l; total = omega (arith, under f (suc i) X h, f .is, b .small) }
+      let x = under f (suc i) X h in
+      record { setup = b .setup i l; unit = b .unit i l; holding = b .holding i l; total = omega (arith, f .is, b .small) }
 
   -- a total of i periods costs at most i times what a period can
   row-small : (i X : ℕ) → i ≤ periods p → Reachable p i X → costRow (modelOf p) i X ≤ i * (maxMaking + maxProduct)

@@ -36,7 +36,7 @@ fn stage_at(
     }
 }
 
-// Fills the rows of choices. Two rows of costs take turns; what they hold in the end is free.
+// Fills the rows of choices, for the totals that can be reached. Two rows of costs take turns. Free: all costs, and the other choices.
 pub fn fill(
     demand: &[u16],
     capacity: &[u16],

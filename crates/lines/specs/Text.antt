@@ -1,5 +1,5 @@
 -- The lines that `dayplan` prints (document 01, "Marked days"), as bytes, and what it means that text was put into a buffer.
--- Main definitions: `planLine`, `periodLine`, `refusalLine`, `Put`. Assumes nothing.
+-- Main definitions: `planLine`, `amountLine`, `refusalLine`, `Put`. Assumes nothing.
 use mathlib.Core.Path.{_≡_, ap, _∙_}
 use mathlib.Core.List.{List, [], _∷_, _++_, append-assoc}
 use mathlib.Core.Option.{Option, none, some}
@@ -51,24 +51,32 @@ periodWord = 32 ∷ 112 ∷ 101 ∷ 114 ∷ 105 ∷ 111 ∷ 100 ∷ 32 ∷ []
 abbrev pub lineEnd : List ℕ
 lineEnd = 10 ∷ []
 
+-- a word and a number; a line is some of these and the line's end
+abbrev pub labelled : List ℕ → ℕ → List ℕ
+labelled word n = word ++ decimal n
+
+abbrev pub lineOf : List (List ℕ × ℕ) → List ℕ
+lineOf [] = lineEnd
+lineOf (l ∷ rest) = labelled (l .0) (l .1) ++ lineOf rest
+
 -- periods n cost c starts s
 abbrev pub planLine : (n cost setups : ℕ) → List ℕ
-planLine n cost setups = periodsWord ++ (decimal n ++ (costWord ++ (decimal cost ++ (startsWord ++ (decimal setups ++ lineEnd)))))
+planLine n cost setups = lineOf ((periodsWord, n) ∷ (costWord, cost) ∷ (startsWord, setups) ∷ [])
 
 -- i made x left I
 abbrev pub periodLine : (i amount inventory : ℕ) → List ℕ
-periodLine i amount inventory = decimal i ++ (madeWord ++ (decimal amount ++ (leftWord ++ (decimal inventory ++ lineEnd))))
+periodLine i amount inventory = lineOf (([], i) ∷ (madeWord, amount) ∷ (leftWord, inventory) ∷ [])
 
 -- refused r period i
 abbrev pub refusalLine : Refusal → List ℕ
-refusalLine r = refusedWord ++ (decimal (numberOf r) ++ (periodWord ++ (decimal (periodOf r) ++ lineEnd)))
+refusalLine r = lineOf ((refusedWord, numberOf r) ∷ (periodWord, periodOf r) ∷ [])
 
 -- what a line says of period k + 1 of a plan: its amount, and the inventory left after it
 abbrev pub amountLine : Day → (ℕ → ℕ) → ℕ → List ℕ
 amountLine d x k = periodLine (suc k) (x k) (inventory d x (suc k))
 
 -- demand and plan have the first i periods, of at most 96
-pub record Held (demand plan : List ℕ) (i : ℕ) : Type 0 where
+pub record HavePeriods (demand plan : List ℕ) (i : ℕ) : Type 0 where
   pub demanded : i ≤ length demand
   pub planned : i ≤ length plan
   pub few : i ≤ maxPeriods
@@ -79,6 +87,11 @@ pub record Put (before : List ℕ) (place : ℕ) (text after : List ℕ) (next :
   pub end : next ≡ place + length text
   pub inside : next ≤ length after
   pub size : length after ≡ length before
+
+-- a labelled number was put, in 20 digits at most
+pub record PutLabelled (before : List ℕ) (place : ℕ) (word : List ℕ) (n : ℕ) (after : List ℕ) (next : ℕ) : Type 0 where
+  pub put : Put before place (labelled word n) after next
+  pub few : next ≤ place + length word + 20
 
 -- one text after another
 pub put-put : {a b c : List ℕ} {i j k : ℕ} {s t : List ℕ} → Put a i s b j → Put b j t c k → Put a i (s ++ t) c k

@@ -1,7 +1,7 @@
 -- `equal::solve` meets its contract: without capacity nothing is made, and else the last row is the plan. Assumes nothing.
-use mathlib.Core.Path.{_≡_, refl, sym, ap, _∙_, subst}
+use mathlib.Core.Path.{_≡_, sym, ap, _∙_, subst}
 use mathlib.Core.List.{List}
-use Prim.Native.Nat.{ℕ, zero, suc, _+_, _-_, _*_, _<_}
+use Prim.Native.Nat.{ℕ, _+_, _-_, _*_}
 use borrow.Author.Needs.{needs}
 use borrow.Rule.Slice.PartMut.{midOf}
 use native.Mathlib.Omega.{arith}
@@ -49,10 +49,6 @@ module _ (demand capacity setup unit holding : List ℕ) (c : ℕ)
       let o : PlanFound (constantWith demand c setup unit holding) slots = rw (e, k) (leads-optimal (modelOf q) n _ (solutionOf n a n) (row .plan)) in
       subst (λ (l : List ℕ). PlanFound (problemWith demand l setup unit holding) slots) (sym (constant-is p c constant)) o
 
-positive : (c : ℕ) → (c ≡ 0 → ⊥) → 0 < c
-positive zero h = absurd (h refl)
-positive (suc c) h = omega arith
-
 abbrev entry : tie.After-shared-slice-known6 → tie.Start
 entry c = c .before .before .before .before .before .before .before .before .before
 
@@ -79,7 +75,7 @@ rows-requires c κs =
     let a = s .args in
     record {
       constant = by-one (a .demand .now) (a .capacity .now) (a .setup .now) (a .unit .now) (a .holding .now) _ (s .pre .constant);
-      room = positive _ (some c .if1 .left);
+      room = omega (arith, some c .if1 .left);
       sized = s .pre .sized;
       each = s .pre .each;
     }
@@ -95,19 +91,6 @@ returns-2 c =
 
 pub solve-spec : {M : Type 1} → statement M
 solve-spec = tie.close (tie.spec
-    (λ c. search needs)
-    (λ c κs. search needs)
-    (λ c. search needs)
-    returns
-    rows-requires
-    (λ c. search needs)
-    (λ c. search needs)
-    (λ c. search needs)
-    (λ c. search needs)
-    (λ c. search needs)
-    (λ c. search needs)
-    (λ c κs. search needs)
-    (λ c. search needs)
-    (λ c. search needs)
-    (λ c. search needs)
-    returns-2)
+    (λ c. search needs) (λ c κs. search needs) (λ c. search needs) returns rows-requires (λ c. search needs) (λ c. search needs)
+    (λ c. search needs) (λ c. search needs) (λ c. search needs) (λ c. search needs) (λ c κs. search needs) (λ c. search needs)
+    (λ c. search needs) (λ c. search needs) returns-2)

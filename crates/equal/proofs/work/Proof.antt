@@ -32,17 +32,11 @@ given s = let a = s .args in dayOf (a .demand .now) (a .capacity .now) (a .setup
 abbrev lent : tie.Start → Memory
 lent s = let a = s .args in memoryOf (a .costs .now) (a .choices .now) (a .slots .now)
 
-cells-requires : tie.Need-cells-requires
-cells-requires c κs = (at-start c .pre .day .limits .few, omega arith)
-
 part-solve-end : tie.Need-part-solve-end
 part-solve-end c = let s = begun c in costs-inside (given s) (lent s) (s .pre) _ (c .cells .ensures)
 
 part-solve-end-2 : tie.Need-part-solve-end-2
 part-solve-end-2 c = let n = c .before in let s = begun n in choices-inside (given s) (lent s) (s .pre) _ (n .cells .ensures)
-
-part-solve-end-3 : tie.Need-part-solve-end-3
-part-solve-end-3 c = begun (c .before .before) .pre .room .slots
 
 solve-requires : tie.Need-solve-requires
 solve-requires c κs = let n = at-cells c in let s = begun n in solvable (given s) (lent s) (s .pre) _ (n .cells .ensures)
@@ -84,21 +78,7 @@ returns c =
 
 pub work-spec : {M : Type 1} → statement M
 work-spec = tie.close (tie.spec
-    cells-requires
-    (λ c. search needs)
-    (λ c. search needs)
-    part-solve-end
-    (λ c. search needs)
-    (λ c. search needs)
-    part-solve-end-2
-    (λ c. search needs)
-    (λ c. search needs)
-    part-solve-end-3
-    solve-requires
-    clear-costs-requires
-    clear-choices-requires
-    totals-requires
-    (λ c. search needs)
-    (λ c. search needs)
-    (λ c. search needs)
+    (λ c κs. (at-start c .pre .day .limits .few, omega arith)) (λ c. search needs) (λ c. search needs) part-solve-end (λ c. search needs)
+    (λ c. search needs) part-solve-end-2 (λ c. search needs) (λ c. search needs) (λ c. begun (c .before .before) .pre .room .slots)
+    solve-requires clear-costs-requires clear-choices-requires totals-requires (λ c. search needs) (λ c. search needs) (λ c. search needs)
     returns)

@@ -81,15 +81,6 @@ lent s = areas (s .args .costs .now) (s .args .choices .now)
 end-low : (c : tie.After-slice-known3) → let s = entry c in s .args .l * periods (given s) + s .args .l ≤ 9312
 end-low c = let s = entry c in row-low _ _ (s .pre .constant .bounded .few) (omega (arith, s .pre .before, s .pre .inside))
 
-mul-from : tie.Need-mul-from
-mul-from c = omega (arith, end-low c)
-
-add-copy : tie.Need-add-copy
-add-copy c = omega (arith, end-low c)
-
-mul-copy : tie.Need-mul-copy
-mul-copy c = omega (arith, end-low c)
-
 part-copy-end : tie.Need-part-copy-end
 part-copy-end c =
     let s = entry (c .before) in
@@ -127,25 +118,7 @@ returns c =
 
 pub candidate-spec : {M : Type 1} → statement M
 candidate-spec = tie.close (tie.spec
-    mul-from
-    add-copy
-    mul-copy
-    (λ c. search needs)
-    (λ c. search needs)
-    part-copy-end
-    (λ c. search needs)
-    (λ c. search needs)
-    (λ c. search needs)
-    (λ c κs. search needs)
-    (λ c. search needs)
-    (λ c. search needs)
-    (λ c. search needs)
-    (λ c. search needs)
-    (λ c. search needs)
-    (λ c. search needs)
-    trial-requires
-    add-result
-    (λ c. search needs)
-    (λ c. search needs)
-    (λ c. search needs)
-    returns)
+    (λ c. omega (arith, end-low c)) (λ c. omega (arith, end-low c)) (λ c. omega (arith, end-low c)) (λ c. search needs) (λ c. search needs)
+    part-copy-end (λ c. search needs) (λ c. search needs) (λ c. search needs) (λ c κs. search needs) (λ c. search needs)
+    (λ c. search needs) (λ c. search needs) (λ c. search needs) (λ c. search needs) (λ c. search needs) trial-requires add-result
+    (λ c. search needs) (λ c. search needs) (λ c. search needs) returns)

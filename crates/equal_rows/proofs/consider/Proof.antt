@@ -41,9 +41,6 @@ entry c = c .before .before .before .before .before .before .before
 abbrev left : tie.After-candidate → Areas
 left c = let last = c .candidate .last in areas (last .1 .1 .1 .1 .1 .1 .1 .0) (last .1 .1 .1 .1 .1 .1 .1 .1 .0)
 
-candidate-requires : tie.Need-candidate-requires
-candidate-requires c κs = entry (lent c) .pre
-
 settle-requires : tie.Need-settle-requires
 settle-requires c κs =
     let f = found (known c) in
@@ -65,4 +62,5 @@ returns c =
     (settled c .settle .ensures)
 
 pub consider-spec : {M : Type 1} → statement M
-consider-spec = tie.close (tie.spec candidate-requires settle-requires (λ c. search needs) (λ c. search needs) (λ c. search needs) returns)
+consider-spec = tie.close (tie.spec
+    (λ c κs. entry (lent c) .pre) settle-requires (λ c. search needs) (λ c. search needs) (λ c. search needs) returns)

@@ -33,15 +33,6 @@ lent s = areas (s .args .costs .now) (s .args .choices .now)
 end-low : (s : tie.Start) → let m = length (s .args .slots .now) in m * s .args .n + m ≤ 9312
 end-low s = row-low (s .args .n) (length (s .args .slots .now)) (s .pre .few) (s .pre .inside)
 
-mul-from : tie.Need-mul-from
-mul-from c = omega (arith, end-low (entry c))
-
-add-copy : tie.Need-add-copy
-add-copy c = omega (arith, end-low (entry c))
-
-mul-copy : tie.Need-mul-copy
-mul-copy c = omega (arith, end-low (entry c))
-
 part-copy-end : tie.Need-part-copy-end
 part-copy-end c = let s = entry c in row-inside (s .args .n) (lent s) (s .pre .sized) _ (s .pre .inside)
 
@@ -53,15 +44,6 @@ returns c =
 
 pub keep-spec : {M : Type 1} → statement M
 keep-spec = tie.close (tie.spec
-    mul-from
-    add-copy
-    mul-copy
-    (λ c. search needs)
-    (λ c. search needs)
-    part-copy-end
-    (λ c κs. search needs)
-    (λ c. search needs)
-    (λ c. search needs)
-    (λ c. search needs)
-    (λ c. search needs)
-    returns)
+    (λ c. omega (arith, end-low (entry c))) (λ c. omega (arith, end-low (entry c))) (λ c. omega (arith, end-low (entry c)))
+    (λ c. search needs) (λ c. search needs) part-copy-end (λ c κs. search needs) (λ c. search needs) (λ c. search needs)
+    (λ c. search needs) (λ c. search needs) returns)

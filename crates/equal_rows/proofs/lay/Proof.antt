@@ -18,11 +18,11 @@ abbrev put : ℕ → Areas → (row picks : List ℕ) → Areas
 put n a row picks =
     areas (putMid (n + 1) (length (a .costs) - (n + 1)) (a .costs) row) (putMid (n * n + n) (length (a .choices) - (n * n + n)) (a .choices) picks)
 
-laid : (p : Problem) (l : ℕ) (w : LoadSizes) (count top : ℕ) (a : Areas) (row picks : List ℕ)
+laid : (p : Problem) (w : LoadSizes) (l count top : ℕ) (a : Areas) (row picks : List ℕ)
     → AreasSized (periods p) a
     → Ran (modelOf p) l w count top (2 * periods p + 2) row picks
-    → Laid p l w count top a (put (periods p) a row picks)
-laid p l w count top a row picks s ran =
+    → Laid p w l count top a (put (periods p) a row picks)
+laid p w l count top a row picks s ran =
     let n : ℕ = periods p in
     let i : n + 1 ≤ length (a .costs) = omega (arith, s .costs) in
     let j : n * n + n ≤ length (a .choices) = omega (arith, s .choices) in
@@ -36,11 +36,11 @@ laid p l w count top a row picks s ran =
       ran = rw (e, f) ran;
     }
 
-abbrev entry : tie.After-sizes → tie.Start
-entry c = c .before .before .before .before .before .before .before
+abbrev entry : tie.After-slice-known2 → tie.Start
+entry c = c .before .before .before .before .before .before
 
 abbrev given : tie.Start → Problem
-given s = let a = s .args in constantWith (a .demand .now) (a .ending .sizes .full) (a .setup .now) (a .unit .now) (a .holding .now)
+given s = let a = s .args in constantWith (a .demand .now) (a .full) (a .setup .now) (a .unit .now) (a .holding .now)
 
 abbrev lent : tie.Start → Areas
 lent s = areas (s .args .costs .now) (s .args .choices .now)
@@ -70,20 +70,6 @@ returns c =
 
 pub lay-spec : {M : Type 1} → statement M
 lay-spec = tie.close (tie.spec
-    (λ c. search needs)
-    (λ c. search needs)
-    (λ c. search needs)
-    (λ c. search needs)
-    (λ c. search needs)
-    (λ c. search needs)
-    (λ c. search needs)
-    (λ c. search needs)
-    (λ c. search needs)
-    (λ c. search needs)
-    (λ c. search needs)
-    (λ c. search needs)
-    (λ c. search needs)
-    run-requires
-    (λ c. search needs)
-    (λ c. search needs)
-    returns)
+    (λ c. search needs) (λ c. search needs) (λ c. search needs) (λ c. search needs) (λ c. search needs) (λ c. search needs)
+    (λ c. search needs) (λ c. search needs) (λ c. search needs) (λ c. search needs) (λ c. search needs) (λ c. search needs)
+    (λ c. search needs) run-requires (λ c. search needs) (λ c. search needs) returns)

@@ -169,12 +169,6 @@ same-length c =
     let s = entry (c .before .before) in
     c .before .loop .inv .costs-size ∙ length-set (s .args .costs .now) (m-of s) marker
 
-same-length-2 : tie.Need-same-length-2 Inv-loop μ-loop
-same-length-2 c = c .before .loop .inv .choices-size
-
-same-length-3 : tie.Need-same-length-3 Inv-loop μ-loop
-same-length-3 c = c .before .loop .inv .each
-
 returns : tie.Need-returns Inv-loop μ-loop
 returns c =
     let s = entry (c .before .before) in
@@ -184,20 +178,6 @@ returns c =
 
 pub row-spec : {M : Type 1} → statement M
 row-spec = tie.close (tie.spec
-    Inv-loop
-    μ-loop
-    mul-costs
-    slice-write-costs
-    loop-holds
-    consider-requires
-    mul-left
-    shared-slice-read-left
-    cast-left
-    sub-left
-    (λ c. search needs)
-    (λ c. search needs)
-    loop-again
-    same-length
-    same-length-2
-    same-length-3
-    returns)
+    Inv-loop μ-loop mul-costs slice-write-costs loop-holds consider-requires mul-left shared-slice-read-left cast-left sub-left
+    (λ c. search needs) (λ c. search needs) loop-again same-length (λ c. c .before .loop .inv .choices-size)
+    (λ c. c .before .loop .inv .each) returns)

@@ -11,8 +11,8 @@ use native.Mathlib.Omega.{arith}
 use lib.ListN.{length, length-set}
 use lib.Seq.{getD-set-same}
 use Rattle.day.specs.Sums.{at, below}
-use Rattle.theory.specs.Problem.{Problem, periods, demandTo, modelOf, model-rising, model-unlimited}
-use Rattle.theory.specs.FlorianKlein.{florianKlein-right, florianKlein-zero}
+use Rattle.theory.specs.Problem.{Problem, periods, demandTo, modelOf}
+use Rattle.theory.specs.Recursion.{plan-none}
 use Rattle.equal_runs.specs.Run.{constantWith}
 use Rattle.equal_rows.specs.Rows.{Areas, areas, sized-as}
 use Rattle.equal_rows.specs.Best.{PlanRow, row-kept}
@@ -22,10 +22,7 @@ use Rattle.equal_rows.proofs.rows.Tie as tie
 
 -- no period, and no cost
 row-zero : (p : Problem) (a : Areas) → at (a .costs) 0 ≡ 0 → PlanRow p 0 a
-row-zero p a e =
-    let r = florianKlein-right (modelOf p) (model-rising p) (model-unlimited p) 0 0 (λ k h. absurd (omega arith)) 0 (omega arith) in
-    let z = florianKlein-zero (modelOf p) (model-rising p) (model-unlimited p) 0 in
-    record { plan = rw e (rw z at r); low = omega arith }
+row-zero p a e = record { plan = rw e (plan-none (modelOf p) 0 0 refl refl); low = omega arith }
 
 part-length : (k : ℕ) (xs : List ℕ) → k ≤ length xs → length (midOf 0 (k - 0) xs) ≡ k
 part-length k xs h = mid-len 0 k xs h ∙ omega arith
@@ -68,9 +65,6 @@ found c = c .before .before .before .before .before .before
 
 abbrev known : tie.After-row-arg3 Inv-loop μ-loop → tie.After-shared-slice-known5 Inv-loop μ-loop
 known c = c .before .before .before
-
-slice-write-costs : tie.Need-slice-write-costs Inv-loop μ-loop
-slice-write-costs c = omega (arith, entry c .pre .sized .costs)
 
 loop-holds : tie.Need-loop-holds Inv-loop μ-loop
 loop-holds c =
@@ -144,33 +138,11 @@ loop-again c =
 same-length : tie.Need-same-length Inv-loop μ-loop
 same-length c = c .before .loop .inv .costs-size ∙ length-set (entry (c .before .before) .args .costs .now) 0 0
 
-same-length-2 : tie.Need-same-length-2 Inv-loop μ-loop
-same-length-2 c = c .before .loop .inv .choices-size
-
-same-length-3 : tie.Need-same-length-3 Inv-loop μ-loop
-same-length-3 c = c .before .loop .inv .slots-size
-
 returns : tie.Need-returns Inv-loop μ-loop
 returns c = c .before .loop .inv .rows _ (omega (arith, c .before .loop .inv .inside))
 
 pub rows-spec : {M : Type 1} → statement M
 rows-spec = tie.close (tie.spec
-    Inv-loop
-    μ-loop
-    slice-write-costs
-    loop-holds
-    (λ c. search needs)
-    (λ c. search needs)
-    cast-need
-    add-need
-    (λ c. search needs)
-    (λ c. search needs)
-    (λ c. search needs)
-    (λ c. search needs)
-    row-requires
-    (λ c. search needs)
-    loop-again
-    same-length
-    same-length-2
-    same-length-3
-    returns)
+    Inv-loop μ-loop (λ c. omega (arith, entry c .pre .sized .costs)) loop-holds (λ c. search needs) (λ c. search needs) cast-need add-need
+    (λ c. search needs) (λ c. search needs) (λ c. search needs) (λ c. search needs) row-requires (λ c. search needs) loop-again same-length
+    (λ c. c .before .loop .inv .choices-size) (λ c. c .before .loop .inv .slots-size) returns)

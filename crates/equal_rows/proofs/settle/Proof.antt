@@ -35,15 +35,6 @@ lent s = areas (s .args .costs .now) (s .args .choices .now)
 end-low : (s : tie.Start) → let m = length (s .args .slots .now) in m * s .args .n + m ≤ 9312
 end-low s = row-low (s .args .n) (length (s .args .slots .now)) (s .pre .few) (s .pre .inside)
 
-mul-from : tie.Need-mul-from
-mul-from c = omega (arith, end-low (entry c))
-
-add-goes-first : tie.Need-add-goes-first
-add-goes-first c = omega (arith, end-low (entry (c .before)))
-
-mul-goes-first-2 : tie.Need-mul-goes-first-2
-mul-goes-first-2 c = omega (arith, end-low (entry (c .before)))
-
 part-goes-first-end : tie.Need-part-goes-first-end
 part-goes-first-end c = let s = entry (c .before .before) in row-inside (s .args .n) (lent s) (s .pre .sized) _ (s .pre .inside)
 
@@ -64,18 +55,6 @@ returns-2 c =
 
 pub settle-spec : {M : Type 1} → statement M
 settle-spec = tie.close (tie.spec
-    mul-from
-    (λ c. search needs)
-    (λ c. search needs)
-    add-goes-first
-    mul-goes-first-2
-    (λ c. search needs)
-    (λ c. search needs)
-    part-goes-first-end
-    (λ c κs. search needs)
-    (λ c κs. search needs)
-    (λ c. search needs)
-    (λ c. search needs)
-    returns
-    (λ c. search needs)
-    returns-2)
+    (λ c. omega (arith, end-low (entry c))) (λ c. search needs) (λ c. search needs) (λ c. omega (arith, end-low (entry (c .before))))
+    (λ c. omega (arith, end-low (entry (c .before)))) (λ c. search needs) (λ c. search needs) part-goes-first-end (λ c κs. search needs)
+    (λ c κs. search needs) (λ c. search needs) (λ c. search needs) returns (λ c. search needs) returns-2)

@@ -25,9 +25,6 @@ Inv-loop x y i₀ i = (i ≤ length x) × Alike x y i
 abbrev μ-loop : tie.MeasureT-loop
 μ-loop x y i₀ i = i
 
-loop-holds : tie.Need-loop-holds Inv-loop μ-loop
-loop-holds c = (omega arith, λ j h g. absurd (omega arith))
-
 -- the loop's test, from the first test of two amounts and from the second
 abbrev test : tie.After-shared-slice-known2 Inv-loop μ-loop → tie.At-loop Inv-loop μ-loop
 test c = c .before .before .before
@@ -65,20 +62,6 @@ returns-3 c =
 
 pub smaller-spec : {M : Type 1} → statement M
 smaller-spec = tie.close (tie.spec
-    Inv-loop
-    μ-loop
-    loop-holds
-    (λ c. search needs)
-    (λ c. search needs)
-    (λ c. search needs)
-    (λ c. search needs)
-    (λ c. search needs)
-    returns
-    (λ c. search needs)
-    (λ c. search needs)
-    (λ c. search needs)
-    (λ c. search needs)
-    returns-2
-    (λ c. search needs)
-    loop-again
-    returns-3)
+    Inv-loop μ-loop (λ c. (omega arith, λ j h g. absurd (omega arith))) (λ c. search needs) (λ c. search needs) (λ c. search needs)
+    (λ c. search needs) (λ c. search needs) returns (λ c. search needs) (λ c. search needs) (λ c. search needs) (λ c. search needs)
+    returns-2 (λ c. search needs) loop-again returns-3)

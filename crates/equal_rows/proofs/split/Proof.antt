@@ -5,11 +5,7 @@ use native.Mathlib.Omega.{arith}
 use Rattle.equal_rows.proofs.split.Statement.{statement}
 use Rattle.equal_rows.proofs.split.Tie as tie
 
-cast-t6 : tie.Need-cast-t6
-cast-t6 c = omega (arith, mod-lt (c .args .left) (c .pre .0))
-
-state-of-requires : tie.Need-state-of-requires
-state-of-requires c κs = div-le-of-le-mul (c .args .full) (c .pre .1)
-
 pub split-spec : {M : Type 1} → statement M
-split-spec = tie.close (tie.spec (λ c. search needs) cast-t6 (λ c. search needs) state-of-requires (λ c. search needs))
+split-spec = tie.close (tie.spec
+    (λ c. search needs) (λ c. omega (arith, mod-lt (c .args .left) (c .pre .0))) (λ c. search needs)
+    (λ c κs. div-le-of-le-mul (c .args .full) (c .pre .1)) (λ c. search needs))

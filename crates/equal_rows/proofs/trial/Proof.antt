@@ -1,5 +1,5 @@
 -- `equal_rows::trial` meets its contract: the state that the interval ends in tells its cost, and the interval is read back from it. Assumes nothing.
-use mathlib.Core.Path.{_≡_, refl, sym, ap, _∙_, subst}
+use mathlib.Core.Path.{_≡_, refl, sym, ap, _∙_}
 use mathlib.Core.List.{List}
 use mathlib.Core.Option.{Option, none, some}
 use Prim.Native.Nat.{ℕ, _+_, _-_, _*_, _/_, _%_, _≤_, _<_, min}
@@ -18,63 +18,60 @@ use Rattle.equal_runs.specs.Bounds.{stageMost}
 use Rattle.equal_runs.specs.States.{indexOf}
 use Rattle.equal_runs.specs.Told.{CostTold, firstTo}
 use Rattle.equal_runs.specs.Run.{constantWith, backOf, back-plan}
-use Rattle.equal_rows.specs.Rows.{Areas, areas, LoadsSplit, AmountsTold, Layable, Laid, IntervalTold, intervalOf, sized-as}
+use Rattle.equal_rows.specs.Rows.{Areas, areas, AreasSized, loadSizes, LoadsSplit, AmountsTold, Laid, IntervalTold, intervalOf, sized-as}
+use Rattle.equal_rows.specs.declared.Ending.{Ending}
 use Rattle.equal_rows.proofs.Parts.{mid-end, row-low, amounts-inside}
 use Rattle.equal_rows.proofs.trial.Statement.{statement}
 use Rattle.equal_rows.proofs.trial.Tie as tie
 
 -- the state stands in the row
-ends-low : (n W c top : ℕ) (w : LoadSizes) → LoadsSplit W c w top → W ≤ c * n → top ≤ 2 * n + 1
-ends-low n W c top w s h = omega (arith, s .ends, div-le-of-le-mul c h)
+ends-low : (n W c : ℕ) (e : Ending) → LoadsSplit W c e → W ≤ c * n → e .top ≤ 2 * n + 1
+ends-low n W c e s h = omega (arith, s .ends, div-le-of-le-mul c h)
 
-module _ (demand setup unit holding : List ℕ) (c l W : ℕ) (w : LoadSizes) (top count : ℕ) (s : LoadsSplit W c w top) where
-  abbrev p : Problem
-  p = constantWith demand c setup unit holding
-
+module _ (p : Problem) (c l W count : ℕ) (old new : Areas) (plan : List ℕ) (e : Ending) (room : 0 < c) (s : LoadsSplit W c e)
+    (size : length plan ≡ count) (laid : Laid p (loadSizes c (e .part)) l count (e .top) old new) where
   abbrev n : ℕ
   n = periods p
 
-  -- a full load is c
-  layable : (a : Areas) → Layable p l count top a → Layable (constantWith demand (w .full) setup unit holding) l count top a
-  layable a h = rw (s .full) h
+  abbrev M : Model
+  M = modelOf p
 
-  module _ (old new : Areas) (plan : List ℕ) (room : 0 < c) (size : length plan ≡ count)
-      (laid : Laid (constantWith demand (w .full) setup unit holding) l w count top old new)
-      (back : plan ≡ backOf c (2 * n + 2) (midOf (n * n + n) (length (new .choices) - (n * n + n)) (new .choices)) count top) where
-    abbrev j : ℕ
-    j = W / c
+  abbrev w : LoadSizes
+  w = loadSizes c (e .part)
 
-    abbrev d : ℕ
-    d = min 1 (W % c)
+  abbrev j : ℕ
+  j = W / c
 
-    abbrev M : Model
-    M = modelOf p
+  abbrev d : ℕ
+  d = min 1 (W % c)
 
-    work : Laid p l w count top old new
-    work = subst (λ (full : ℕ). Laid (constantWith demand full setup unit holding) l w count top old new) (s .full) laid
+  -- past the rows: the states, and the amounts
+  abbrev row : List ℕ
+  row = drop (n + 1) (new .costs)
 
-    told : CostTold (count * stageMost) (at (new .costs) (n + 1 + top)) (intervalOf M c l W count)
-    told =
-        let here : at (new .costs) (n + 1 + top) ≡ at (drop (n + 1) (new .costs)) (indexOf j d) =
-        sym (getD-drop (n + 1) (new .costs) top 0) ∙ ap (at (drop (n + 1) (new .costs))) (s .ends) in
-        let t = work .ran .costs j d (omega arith) (omega (arith, s .ends)) in
-        rw here (rw (s .full, s .part) at t)
+  abbrev picks : List ℕ
+  picks = drop (n * n + n) (new .choices)
 
+  told : CostTold (count * stageMost) (at (new .costs) (n + 1 + e .top)) (intervalOf M c l W count)
+  told =
+      let here : at (new .costs) (n + 1 + e .top) ≡ at row (indexOf j d) = sym (getD-drop (n + 1) (new .costs) (e .top) 0) ∙ ap (at row) (s .ends) in
+      let t = laid .ran .costs j d (omega arith) (omega (arith, s .ends)) in
+      rw here (rw (s .part) at t)
+
+  module _ (back : plan ≡ backOf c (2 * n + 2) (midOf (n * n + n) (length (new .choices) - (n * n + n)) (new .choices)) count (e .top)) where
     amounts : (o : Option Solution) → intervalOf M c l W count ≡ o → AmountsTold plan o
-    amounts none e = tt
-    amounts (some f) e =
-        let picks : List ℕ = drop (n * n + n) (new .choices) in
-        let run : firstTo M l w count j d ≡ some f = rw (s .full, s .part) e in
-        let less : w .part < w .full = omega (arith, s .full, s .part, mod-lt W room) in
-        let q = back-plan M l w count top (2 * n + 2) (drop (n + 1) (new .costs)) picks less (work .ran) count (omega arith) j d (omega arith)
-        (λ h. omega (arith, s .part)) (omega (arith, s .ends)) f run in
+    amounts none q = tt
+    amounts (some f) q =
+        let run : firstTo M l w count j d ≡ some f = rw (s .part) q in
+        let part : e .part < c = omega (arith, s .part, mod-lt W room) in
         back
-        ∙ ap (λ (l : List ℕ). backOf c (2 * n + 2) l count top) (mid-end (n * n + n) (new .choices))
-        ∙ ap (backOf c (2 * n + 2) (drop (n * n + n) (new .choices)) count) (s .ends)
-        ∙ (rw (s .full) at q)
+        ∙ ap (λ (l : List ℕ). backOf c (2 * n + 2) l count (e .top)) (mid-end (n * n + n) (new .choices))
+        ∙ ap (backOf c (2 * n + 2) picks count) (s .ends)
+        ∙ back-plan M l w count (e .top) (2 * n + 2) row picks part (laid .ran) count (omega arith) j d (omega arith)
+        (λ h. omega (arith, s .part)) (omega (arith, s .ends)) f run
 
-    tried : IntervalTold p c l W old (at (new .costs) (n + 1 + top)) new plan
-    tried = record { kept = work .kept; told = rw size (record { cost = told; amounts = amounts (intervalOf M c l W count) refl }) }
+    tried : IntervalTold p c l W old (at (new .costs) (n + 1 + e .top)) new plan
+    tried = record { kept = laid .kept; told = rw size (record { cost = told; amounts = amounts (intervalOf M c l W count) refl }) }
 
 -- from the result back: where the interval was read back, where the work past the rows was done, where the loads were known, and the entry
 abbrev back : tie.After-slice-known6 → tie.After-read-back
@@ -95,12 +92,17 @@ entry c = c .before .before .before .before .before .before .before .before
 abbrev given : tie.Start → Problem
 given s = let a = s .args in constantWith (a .demand .now) (a .full) (a .setup .now) (a .unit .now) (a .holding .now)
 
-top-low : (c : tie.After-split) → c .split .result .top ≤ 2 * periods (given (entry c)) + 1
-top-low c = ends-low _ _ _ _ _ (c .split .ensures) (entry c .pre .low)
-
 -- the areas after the work
 abbrev worked : tie.After-lay → Areas
-worked c = let last = c .lay .last in areas (last .1 .1 .1 .1 .1 .1 .1 .0) (last .1 .1 .1 .1 .1 .1 .1 .1 .0)
+worked c = let last = c .lay .last in areas (last .1 .1 .1 .1 .1 .1 .1 .1 .0) (last .1 .1 .1 .1 .1 .1 .1 .1 .1 .0)
+
+worked-sized : (c : tie.After-lay) → AreasSized (periods (given (entry (divided c)))) (worked c)
+worked-sized c =
+    let kept = c .lay .kept in
+    sized-as {b = worked c} (entry (divided c) .pre .sized) (kept .1 .1 .1 .1 .1 .1 .1 .1 .0) (kept .1 .1 .1 .1 .1 .1 .1 .1 .1 .0)
+
+top-low : (c : tie.After-split) → c .split .result .top ≤ 2 * periods (given (entry c)) + 1
+top-low c = ends-low _ _ _ _ (c .split .ensures) (entry c .pre .low)
 
 split-requires : tie.Need-split-requires
 split-requires c κs =
@@ -110,75 +112,40 @@ split-requires c κs =
 lay-requires : tie.Need-lay-requires
 lay-requires c κs =
     let d = c .before .before in
-    let s = entry d in
-    let a = s .args in
-    layable (a .demand .now) (a .setup .now) (a .unit .now) (a .holding .now) (a .full) _ _ _ _ _ (d .split .ensures) _
-    (record { bounded = s .pre .bounded; inside = s .pre .inside; states = top-low d; sized = s .pre .sized })
+    let pre = entry d .pre in
+    record { bounded = pre .bounded; inside = pre .inside; states = top-low d; sized = pre .sized }
 
 past-low : (c : tie.After-slice-known5) → let n = periods (given (entry (divided (work-done c)))) in n * n + n ≤ 9312
-past-low c = let s = entry (divided (work-done c)) in row-low _ _ (s .pre .bounded .few) (omega arith)
-
-mul-past : tie.Need-mul-past
-mul-past c = omega (arith, past-low c)
-
-add-past : tie.Need-add-past
-add-past c = omega (arith, past-low c)
-
-mul-read-back-2 : tie.Need-mul-read-back-2
-mul-read-back-2 c = omega (arith, past-low c)
+past-low c = row-low _ _ (entry (divided (work-done c)) .pre .bounded .few) (omega arith)
 
 read-back-requires : tie.Need-read-back-requires
 read-back-requires c κs =
     let w = work-done (c .before .before .before) in
-    let s = entry (divided w) in
-    let kept = w .lay .kept in
-    let sized = sized-as {b = worked w} (s .pre .sized) (kept .1 .1 .1 .1 .1 .1 .1 .0) (kept .1 .1 .1 .1 .1 .1 .1 .1 .0) in (
+    let s = entry (divided w) in (
       omega (arith, top-low (divided w)),
-      amounts-inside _ (worked w) sized (length (s .args .slots .now)) (omega (arith, s .pre .inside)),
+      amounts-inside _ (worked w) (worked-sized w) (length (s .args .slots .now)) (omega (arith, s .pre .inside)),
     )
 
-result-low : (c : tie.After-slice-known6) → let w = work-done (work-known (back c)) in
-    periods (given (entry (divided w))) + 1 + divided w .split .result .top < 6 * (periods (given (entry (divided w))) + 1)
-result-low c = omega (arith, top-low (divided (work-done (work-known (back c)))))
-
-add-result-2 : tie.Need-add-result-2
-add-result-2 c = let s = entry (divided (work-done (work-known (back c)))) in omega (arith, result-low c, s .pre .bounded .few)
-
-mul-result : tie.Need-mul-result
-mul-result c = let s = entry (divided (work-done (work-known (back c)))) in omega (arith, result-low c, s .pre .bounded .few)
-
-slice-read-result : tie.Need-slice-read-result
-slice-read-result c =
-    let w = work-done (work-known (back (c .before))) in
-    omega (arith, result-low (c .before), entry (divided w) .pre .sized .costs, w .lay .kept .1 .1 .1 .1 .1 .1 .1 .0)
+-- where the cost stands
+cost-inside : (c : tie.After-slice-known6) → let w = work-done (work-known (back c)) in
+    (periods (given (entry (divided w))) + 1 + divided w .split .result .top < length (worked w .costs)) × (length (worked w .costs) ≤ 582)
+cost-inside c =
+    let w = work-done (work-known (back c)) in
+    let s = entry (divided w) in
+    let size = worked-sized w .costs in
+    (omega (arith, top-low (divided w)), omega (arith, s .pre .bounded .few))
 
 returns : tie.Need-returns
 returns c =
     let r = back (c .before) in
     let w = work-done (work-known r) in
     let s = entry (divided w) in
-    let a = s .args in
-    tried (a .demand .now) (a .setup .now) (a .unit .now) (a .holding .now) (a .full) _ _ _ _ _ (divided w .split .ensures)
-    (areas (a .costs .now) (a .choices .now)) (worked w) _ (s .pre .room) (r .read-back .kept .1 .1 .1 .1 .0) (w .lay .ensures) (r .read-back .ensures)
+    tried (given s) (s .args .full) (s .args .l) _ _ (areas (s .args .costs .now) (s .args .choices .now)) (worked w) _ _ (s .pre .room)
+    (divided w .split .ensures) (r .read-back .kept .1 .1 .1 .1 .0) (w .lay .ensures) (r .read-back .ensures)
 
 pub trial-spec : {M : Type 1} → statement M
 trial-spec = tie.close (tie.spec
-    split-requires
-    lay-requires
-    mul-past
-    add-past
-    (λ c. search needs)
-    (λ c. search needs)
-    mul-read-back-2
-    (λ c. search needs)
-    (λ c. search needs)
-    (λ c. search needs)
-    read-back-requires
-    (λ c. search needs)
-    add-result-2
-    mul-result
-    slice-read-result
-    (λ c. search needs)
-    (λ c. search needs)
-    (λ c. search needs)
-    returns)
+    split-requires lay-requires (λ c. omega (arith, past-low c)) (λ c. omega (arith, past-low c)) (λ c. search needs) (λ c. search needs)
+    (λ c. omega (arith, past-low c)) (λ c. search needs) (λ c. search needs) (λ c. search needs) read-back-requires (λ c. search needs)
+    (λ c. omega (arith, cost-inside c)) (λ c. omega (arith, cost-inside c)) (λ c. omega (arith, cost-inside (c .before)))
+    (λ c. search needs) (λ c. search needs) (λ c. search needs) returns)

@@ -1,8 +1,9 @@
 -- `equal_runs::advance` meets its contract. The invariant: the states from s on are written. Assumes nothing.
 use mathlib.Core.Path.{_≡_}
-use Prim.Native.Nat.{ℕ, suc, _-_, _≤_}
+use Prim.Native.Nat.{ℕ, suc, _+_, _-_, _≤_, _<_}
 use borrow.Author.Needs.{needs}
 use native.Mathlib.Omega.{arith}
+use lib.ListN.{length}
 use Rattle.equal_runs.specs.Fill.{Advanced, advanced-none, advanced-more}
 use Rattle.equal_runs.proofs.advance.Statement.{statement}
 use Rattle.equal_runs.proofs.advance.Tie as tie
@@ -36,23 +37,13 @@ state-after-requires c κs =
       omega arith,
     )
 
-row-fits : (c : tie.After-state-after Inv-loop μ-loop) → test c .loop .s ≤ suc (entry (test c) .args .top)
-row-fits c = test c .loop .inv .0
-
-mul-row : tie.Need-mul-row Inv-loop μ-loop
-mul-row c = let pre = entry (test c) .pre in omega (arith, row-fits c)
-
-slice-write-row : tie.Need-slice-write-row Inv-loop μ-loop
-slice-write-row c = let pre = entry (test c) .pre in omega (arith, row-fits c, pre .0 .inside, test c .loop .inv .1 .costs .size)
-
-add-picks : tie.Need-add-picks Inv-loop μ-loop
-add-picks c = let pre = entry (test c) .pre in omega (arith, row-fits c)
-
-mul-picks : tie.Need-mul-picks Inv-loop μ-loop
-mul-picks c = let pre = entry (test c) .pre in omega (arith, row-fits c)
-
-slice-write-picks : tie.Need-slice-write-picks Inv-loop μ-loop
-slice-write-picks c = let pre = entry (test c) .pre in omega (arith, row-fits c, test c .loop .inv .1 .amounts .size)
+-- where the state and its amount are written
+inside : (c : tie.After-state-after Inv-loop μ-loop) → let t = test c .loop in
+    let a = entry (test c) .args in (t .s ≤ suc (a .top)) × (a .top < length (t .row)) × (a .base + a .top < length (t .picks))
+inside c =
+    let inv = test c .loop .inv in
+    let pre = entry (test c) .pre in
+    (inv .0, omega (arith, pre .0 .inside, inv .1 .costs .size), omega (arith, inv .1 .amounts .size))
 
 loop-again : tie.Need-loop-again Inv-loop μ-loop
 loop-again c =
@@ -64,12 +55,6 @@ loop-again c =
           (c .state-after .ensures),
     )
 
-same-length : tie.Need-same-length Inv-loop μ-loop
-same-length c = c .before .loop .inv .1 .costs .size
-
-same-length-2 : tie.Need-same-length-2 Inv-loop μ-loop
-same-length-2 c = c .before .loop .inv .1 .amounts .size
-
 returns : tie.Need-returns Inv-loop μ-loop
 returns c =
     let z : c .before .loop .s ≡ 0 = omega arith in
@@ -77,19 +62,6 @@ returns c =
 
 pub advance-spec : {M : Type 1} → statement M
 advance-spec = tie.close (tie.spec
-    Inv-loop
-    μ-loop
-    (λ c. search needs)
-    loop-holds
-    (λ c. search needs)
-    state-after-requires
-    mul-row
-    slice-write-row
-    add-picks
-    mul-picks
-    slice-write-picks
-    (λ c. search needs)
-    loop-again
-    same-length
-    same-length-2
-    returns)
+    Inv-loop μ-loop (λ c. search needs) loop-holds (λ c. search needs) state-after-requires (λ c. omega (arith, inside c))
+    (λ c. omega (arith, inside c)) (λ c. omega (arith, inside c)) (λ c. omega (arith, inside c)) (λ c. omega (arith, inside c))
+    (λ c. search needs) loop-again (λ c. c .before .loop .inv .1 .costs .size) (λ c. c .before .loop .inv .1 .amounts .size) returns)

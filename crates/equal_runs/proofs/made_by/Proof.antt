@@ -13,12 +13,6 @@ full-low s = loads-small 96 (s .args .j) (s .args .sizes .full) (omega arith) (o
 part-low : (s : tie.Start) → let a = s .args in a .d * a .sizes .part ≤ 1 * 65536
 part-low s = loads-small 1 (s .args .d) (s .args .sizes .part) (omega arith) (omega arith)
 
-mul-result : tie.Need-mul-result
-mul-result c = omega (arith, full-low (c .before))
-
-mul-result-2 : tie.Need-mul-result-2
-mul-result-2 c = omega (arith, part-low (c .before .before))
-
 add-result : tie.Need-add-result
 add-result c = omega (arith, full-low (c .before .before), part-low (c .before .before))
 
@@ -26,4 +20,6 @@ returns : tie.Need-returns
 returns c = record { is = refl; low = omega (arith, full-low (c .before .before), part-low (c .before .before)) }
 
 pub made-by-spec : {M : Type 1} → statement M
-made-by-spec = tie.close (tie.spec (λ c. search needs) mul-result (λ c. search needs) mul-result-2 add-result returns)
+made-by-spec = tie.close (tie.spec
+    (λ c. search needs) (λ c. omega (arith, full-low (c .before))) (λ c. search needs) (λ c. omega (arith, part-low (c .before .before)))
+    add-result returns)

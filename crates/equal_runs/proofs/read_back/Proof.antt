@@ -62,20 +62,8 @@ inside-now : (c : tie.In-loop Inv-loop μ-loop)
     → let s = entry (test c) in Inside (test c .loop .k) (length (s .args .slots .now)) (s .args .width) (test c .loop .base)
 inside-now c = let inv = test c .loop .inv in inside _ _ _ _ (c .loop-test .taken) (inv .0) (inv .1)
 
-mul-base : tie.Need-mul-base Inv-loop μ-loop
-mul-base c = omega (arith, c .before .before .pre .1)
-
 loop-holds : tie.Need-loop-holds Inv-loop μ-loop
 loop-holds c = let s = c .before .before in (omega arith, refl, s .pre .0, refl, none-back _ (s .args .slots .now))
-
-sub-base : tie.Need-sub-base Inv-loop μ-loop
-sub-base c = inside-now c .low
-
-add-x : tie.Need-add-x Inv-loop μ-loop
-add-x c = let s = entry (test c) in omega (arith, inside-now c)
-
-mul-x : tie.Need-mul-x Inv-loop μ-loop
-mul-x c = let s = entry (test c) in omega (arith, inside-now c)
 
 shared-slice-read-x : tie.Need-shared-slice-read-x Inv-loop μ-loop
 shared-slice-read-x c = let s = entry (test (c .before)) in omega (arith, inside-now (c .before))
@@ -94,9 +82,6 @@ loop-again c =
           (omega arith) (omega arith) (inv .1) (c .before2 .ensures) (inv .4),
     )
 
-same-length : tie.Need-same-length Inv-loop μ-loop
-same-length c = c .before .loop .inv .3
-
 returns : tie.Need-returns Inv-loop μ-loop
 returns c =
     let z : c .before .loop .k ≡ 0 = omega arith in
@@ -104,19 +89,6 @@ returns c =
 
 pub read-back-spec : {M : Type 1} → statement M
 read-back-spec = tie.close (tie.spec
-    Inv-loop
-    μ-loop
-    mul-base
-    loop-holds
-    (λ c. search needs)
-    sub-base
-    add-x
-    mul-x
-    shared-slice-read-x
-    (λ c. search needs)
-    (λ c. search needs)
-    (λ c κs. search needs)
-    (λ c. search needs)
-    loop-again
-    same-length
-    returns)
+    Inv-loop μ-loop (λ c. omega (arith, c .before .before .pre .1)) loop-holds (λ c. search needs) (λ c. inside-now c .low)
+    (λ c. omega (arith, entry (test c) .pre, inside-now c)) (λ c. omega (arith, entry (test c) .pre, inside-now c)) shared-slice-read-x
+    (λ c. search needs) (λ c. search needs) (λ c κs. search needs) (λ c. search needs) loop-again (λ c. c .before .loop .inv .3) returns)

@@ -92,20 +92,8 @@ loop-holds c =
       ran = ran-none _ _ _ _ _ (a .row .now) _ _ (c .before .before .start .ensures);
     }
 
-add-i : tie.Need-add-i Inv-loop μ-loop
-add-i c = let s = entry (c .before) in omega arith
-
-mul-due : tie.Need-mul-due Inv-loop μ-loop
-mul-due c = let s = entry (c .before) in omega arith
-
-shared-slice-read-due : tie.Need-shared-slice-read-due Inv-loop μ-loop
-shared-slice-read-due c = let s = entry (test c) in omega arith
-
 demand-low : (c : tie.After-shared-slice-known5 Inv-loop μ-loop) → let a = entry (test c) .args in at (a .demand .now) (a .l + test c .loop .k) < 65536
 demand-low c = omega (arith, c .shared-slice-known5 .given (entry (test c) .args .l + test c .loop .k))
-
-cast-due : tie.Need-cast-due Inv-loop μ-loop
-cast-due c = omega (arith, demand-low c)
 
 add-due : tie.Need-add-due Inv-loop μ-loop
 add-due c = let inv = test c .loop .inv in omega (arith, demand-low c, entry (test c) .pre .few)
@@ -166,9 +154,6 @@ loop-again c =
 same-length : tie.Need-same-length Inv-loop μ-loop
 same-length c = c .before .loop .inv .row-size ∙ begun (c .before) .start .ensures .size
 
-same-length-2 : tie.Need-same-length-2 Inv-loop μ-loop
-same-length-2 c = c .before .loop .inv .picks-size
-
 returns : tie.Need-returns Inv-loop μ-loop
 returns c =
     let inv = c .before .loop .inv in
@@ -177,21 +162,6 @@ returns c =
 
 pub run-spec : {M : Type 1} → statement M
 run-spec = tie.close (tie.spec
-    Inv-loop
-    μ-loop
-    start-requires
-    loop-holds
-    add-i
-    mul-due
-    shared-slice-read-due
-    cast-due
-    add-due
-    period-at-requires
-    advance-requires
-    add-base
-    (λ c. search needs)
-    (λ c. search needs)
-    loop-again
-    same-length
-    same-length-2
-    returns)
+    Inv-loop μ-loop start-requires loop-holds (λ c. omega (arith, entry (c .before) .pre)) (λ c. omega (arith, entry (c .before) .pre))
+    (λ c. omega (arith, entry (test c) .pre)) (λ c. omega (arith, demand-low c)) add-due period-at-requires advance-requires add-base
+    (λ c. search needs) (λ c. search needs) loop-again same-length (λ c. c .before .loop .inv .picks-size) returns)

@@ -30,9 +30,6 @@ loop-again c =
     let next = filled-more _ _ 0 startOf s (s - 1) _ (s - 1) marker (inv .2) (omega arith) (omega arith) (omega arith) in
     (omega arith, omega arith, next (later (s - 1) (omega arith)))
 
-same-length : tie.Need-same-length Inv-loop μ-loop
-same-length c = simp length-set (omega arith)
-
 returns : tie.Need-returns Inv-loop μ-loop
 returns c =
     let s : ℕ = c .before .loop .s in
@@ -41,15 +38,5 @@ returns c =
 
 pub start-spec : {M : Type 1} → statement M
 start-spec = tie.close (tie.spec
-    Inv-loop
-    μ-loop
-    (λ c. search needs)
-    loop-holds
-    (λ c. search needs)
-    (λ c. search needs)
-    (λ c. search needs)
-    (λ c. search needs)
-    loop-again
-    (λ c. search needs)
-    same-length
-    returns)
+    Inv-loop μ-loop (λ c. search needs) loop-holds (λ c. search needs) (λ c. search needs) (λ c. search needs) (λ c. search needs)
+    loop-again (λ c. search needs) (λ c. simp length-set (omega arith)) returns)

@@ -72,14 +72,5 @@ returns-2 c =
 
 pub state-after-spec : {M : Type 1} → statement M
 state-after-spec = tie.close (tie.spec
-    (λ c κs. search needs)
-    returns
-    (λ c κs. search needs)
-    (λ c. search needs)
-    (λ c. search needs)
-    (λ c. search needs)
-    (λ c. search needs)
-    offer-requires
-    with-load-requires
-    with-load-requires-2
-    returns-2)
+    (λ c κs. search needs) returns (λ c κs. search needs) (λ c. search needs) (λ c. search needs) (λ c. search needs) (λ c. search needs)
+    offer-requires with-load-requires with-load-requires-2 returns-2)

@@ -15,9 +15,6 @@ use Rattle.equal_runs.proofs.with_load.Tie as tie
 abbrev better : tie.Start → RunState
 better s = let a = s .args in cheaperOf (a .best) (offerOf (a .p) (at (a .row .now) (a .s - a .step)) (a .load) (a .hold))
 
-sub-offer : tie.Need-sub-offer
-sub-offer c = c .before .before .pre .1 (c .if1 .taken)
-
 offer-requires : tie.Need-offer-requires
 offer-requires c κs = let pre = c .before .before .before .pre in (pre .0 .low _ (omega arith), pre .2)
 
@@ -35,4 +32,6 @@ returns-2 c =
     sym (pick-no (decLt 0 (a .n)) (better s) (a .best) (λ (h : 0 < a .n). omega arith))
 
 pub with-load-spec : {M : Type 1} → statement M
-with-load-spec = tie.close (tie.spec sub-offer (λ c. search needs) (λ c. search needs) offer-requires (λ c κs. search needs) returns returns-2)
+with-load-spec = tie.close (tie.spec
+    (λ c. c .before .before .pre .1 (c .if1 .taken)) (λ c. search needs) (λ c. search needs) offer-requires (λ c κs. search needs) returns
+    returns-2)

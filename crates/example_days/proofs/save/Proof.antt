@@ -7,7 +7,8 @@ use Rattle.example_days.proofs.save.Tie as tie
 
 part-write-all-end : tie.Need-part-write-all-end
 part-write-all-end c =
-    omega (arith, written-fits _ _ _ _ _ (c .before .before .before .before .answer .given .1) (c .before .before .before .before .before .before .before .write .ensures))
+    let a = c .before .before .before .before in
+    omega (arith, written-fits _ _ _ _ _ (a .answer .given .1) (a .before .before .before .write .ensures))
 
 pub save-spec : {M : Type 1} → statement M
 save-spec =

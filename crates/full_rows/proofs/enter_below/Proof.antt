@@ -7,7 +7,8 @@ use Rattle.full_rows.proofs.enter_below.Statement.{statement}
 use Rattle.full_rows.proofs.enter_below.Tie as tie
 
 abbrev Inv-loop : tie.InvT-loop
-Inv-loop s costs from choices₀ start tail₀ before₀ before-end choices tail before = Queuing s (rowAt costs from) choices₀ start before-end before choices tail
+Inv-loop s costs from choices₀ start tail₀ before₀ before-end choices tail before =
+    Queuing s (rowAt costs from) choices₀ start before-end before choices tail
 
 abbrev μ-loop : tie.MeasureT-loop
 μ-loop s costs from choices₀ start tail₀ before₀ before-end choices tail before = before-end - before
@@ -18,8 +19,9 @@ loop-holds c = queuing-none (c .before .before .before .before .pre .0 .bounded)
 enter-requires : tie.Need-enter-requires Inv-loop μ-loop
 enter-requires c κs =
     let turn = c .before .before in
+    let inv = turn .loop .inv in
     let pre = turn .before .before .before .before .before .pre in
-    (pre .0, (turn .loop .inv .queued .queue, queuing-room (pre .1) (turn .before .smaller .ensures) (turn .loop .inv) (c .before .loop-test .taken)))
+    (pre .0, (inv .queued .queue, queuing-room (pre .1) (turn .before .smaller .ensures) inv (c .before .loop-test .taken)))
 
 loop-again : tie.Need-loop-again Inv-loop μ-loop
 loop-again c =

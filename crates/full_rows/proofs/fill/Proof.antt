@@ -34,7 +34,9 @@ sizes c = let kept = c .loop .inv .stepping in (kept .costCells, kept .choiceCel
 
 -- a turn's cells lie in both areas
 cells : (c : tie.In-loop Inv-loop μ-loop)
-    → let a = start (c .before) .args in let l = c .before .loop in (a .to + l .total < length (l .costs)) × (a .base + l .total < length (l .choices))
+    → let a = start (c .before) .args in
+    let l = c .before .loop in
+    (a .to + l .total < length (l .costs)) × (a .base + l .total < length (l .choices))
 cells c =
     let f = c .before .loop .inv in
     (omega (arith, f .ready .costCells, f .stepping .costCells), omega (arith, f .ready .choiceCells, f .stepping .choiceCells))

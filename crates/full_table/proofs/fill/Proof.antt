@@ -1,4 +1,5 @@
--- `full_table::fill` meets its contract. The invariant: the rows of the periods passed are filled, and the last of them begins at `from`. Assumes nothing.
+-- `full_table::fill` meets its contract. The invariant: the rows of the periods passed are filled, and the last of them begins at `from`.
+-- Assumes nothing.
 use mathlib.Core.Path.{_≡_, refl, _∙_}
 use Prim.Native.Nat.{_-_, _<_}
 use native.Mathlib.Omega.{arith}
@@ -17,7 +18,8 @@ Inv-loop demand capacity setup unit holding costs₀ choices₀ total width from
     × TableFilling (problemWith demand capacity setup unit holding) total costs choices from to base low high i
 
 abbrev μ-loop : tie.MeasureT-loop
-μ-loop demand capacity setup unit holding costs₀ choices₀ total width from₀ to₀ base₀ low₀ high₀ i₀ i-end costs choices from to base low high i = i-end - i
+μ-loop demand capacity setup unit holding costs₀ choices₀ total width from₀ to₀ base₀ low₀ high₀ i₀ i-end costs choices from to base low high i =
+    i-end - i
 
 -- the entry, from the loop's head
 abbrev start : tie.At-loop Inv-loop μ-loop → tie.Start Inv-loop μ-loop

@@ -12,10 +12,10 @@ begin c = c .before .before .before .before .before .before
 
 -- the two sums, where they are compared
 made-is : (c : tie.After-total2) → c .before .before .total .result ≡ sumTo (at (begin c .args .plan .now)) (begin c .args .i)
-made-is c = part-total (begin c .args .plan .now) (begin c .args .i) _ (begin c .pre .planned) (c .before .before .total .ensures)
+made-is c = part-total (begin c .args .plan .now) (begin c .args .i) _ (begin c .pre .planned) (c .before .before .total .ensures .is)
 
 needed-is : (c : tie.After-total2) → c .total2 .result ≡ sumTo (at (begin c .args .demand .now)) (begin c .args .i)
-needed-is c = part-total (begin c .args .demand .now) (begin c .args .i) _ (begin c .pre .demanded) (c .total2 .ensures)
+needed-is c = part-total (begin c .args .demand .now) (begin c .args .i) _ (begin c .pre .demanded) (c .total2 .ensures .is)
 
 returns : tie.Need-returns
 returns c = omega (arith, made-is (c .before), needed-is (c .before))

@@ -1,23 +1,15 @@
 -- `lines::refusal_line` meets its contract: its texts stand one after another. Assumes nothing.
-use Rattle.lines.specs.Text.{put-put}
 use borrow.Author.Needs.{needs}
+use Rattle.lines.specs.Text.{put-put}
 use Rattle.lines.proofs.refusal_line.Statement.{statement}
 use Rattle.lines.proofs.refusal_line.Tie as tie
 
 returns : tie.Need-returns
 returns c =
-    let number2 = c .before .before .before in
-    let text2 = number2 .before .before in
-    let number1 = text2 .before .before .before in
-    let text1 = number1 .before .before in
-    let period = text1 .before .before .before in
-    let all =
-    put-put (text1 .put .ensures)
-    (put-put (number1 .put-number .ensures .0) (put-put (text2 .put2 .ensures) (put-put (number2 .put-number2 .ensures .0) (c .put3 .ensures)))) in
-    rw (period .before .number .ensures, period .period .ensures) at all
+    let second = c .before .before .before in
+    let first = second .before .before .before .before in
+    let all = put-put (first .put-labelled .ensures .put) (put-put (second .put-labelled2 .ensures .put) (c .put .ensures)) in
+    rw (first .before .number .ensures, second .before .period .ensures) at all
 
 pub refusal-line-spec : {M : Type 1} → statement M
-refusal-line-spec =
-    tie.close
-    (tie.spec (λ c κs. search needs) (λ c κs. search needs) (λ c. search needs) (λ c κs. search needs) (λ c κs. search needs)
-    (λ c. search needs) (λ c κs. search needs) (λ c κs. search needs) (λ c. search needs) (λ c κs. search needs) returns)
+refusal-line-spec = tie.close (tie.spec (λ c. search needs) (λ c κs. search needs) (λ c. search needs) (λ c κs. search needs) (λ c. search needs) (λ c κs. search needs) (λ c. search needs) (λ c κs. search needs) (λ c. search needs) (λ c κs. search needs) returns)

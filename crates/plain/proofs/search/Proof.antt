@@ -2,6 +2,7 @@
 -- Assumes nothing.
 use Rattle.day.specs.Day.{dayOf}
 use Rattle.plain.specs.Search.{Chosen, chosen-more}
+use Rattle.plain.specs.Optimal.{chosen-optimal}
 use mathlib.Core.Path.{_≡_}
 use Prim.Native.Nat.{ℕ, _-_, _≤_}
 use native.Mathlib.Numerals.{add-one}
@@ -18,18 +19,21 @@ abbrev μ-loop : tie.MeasureT-loop
 
 loop-holds : tie.Need-loop-holds Inv-loop μ-loop
 loop-holds c =
-    (search needs, record { holds = λ f. let z : _≡_ {A = ℕ} 0 1 = cc in absurd (omega arith); least = λ j l. absurd (omega arith) })
+    (search needs, record { some = λ f. let z : _≡_ {A = ℕ} 0 1 = cc in absurd (omega arith); none = λ f j l. absurd (omega arith) })
 
 loop-again : tie.Need-loop-again Inv-loop μ-loop
 loop-again c =
-    let start = c .before .before .before .before .before in
-    (search needs, rw (add-one, c .better .ensures, c .before .weigh .ensures, c .before .before .before .plan-of .ensures) (chosen-more _ (start .loop .m) (start .loop .best) (start .loop .inv .1)))
+    let planned = c .before .before .before in
+    let start = planned .before .before in
+    let more = chosen-more _ (start .loop .m) (start .loop .best) (start .loop .inv .1) in
+    (search needs, rw (add-one, c .better .ensures, c .before .weigh .ensures, planned .plan-of .ensures) more)
 
 returns : tie.Need-returns Inv-loop μ-loop
 returns c =
     let start = c .before in
     let e : start .loop .m ≡ start .before .plans .result = omega arith in
-    rw (← start .before .plans .ensures, ← e) (start .loop .inv .1)
+    let chosen = rw (e, start .before .plans .ensures) at (start .loop .inv .1) in
+    record { chosen = chosen; tiny = λ t. chosen-optimal _ t _ chosen }
 
 pub search-spec : {M : Type 1} → statement M
 search-spec =

@@ -81,14 +81,5 @@ pub work-spec : {M : Type 1} → statement M
 work-spec =
     tie.close
     (tie.spec
-    fill-requires
-    read-back-requires
-    (λ c. search needs)
-    (λ c κs. search needs)
-    (λ c. search needs)
-    (λ c κs. search needs)
-    totals-requires
-    (λ c. search needs)
-    (λ c. search needs)
-    (λ c. search needs)
-    returns)
+    fill-requires read-back-requires (λ c. search needs) (λ c κs. search needs) (λ c. search needs) (λ c κs. search needs)
+    totals-requires (λ c. search needs) (λ c. search needs) (λ c. search needs) returns)

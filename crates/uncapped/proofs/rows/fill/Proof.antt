@@ -79,19 +79,5 @@ pub fill-spec : {M : Type 1} → statement M
 fill-spec =
     tie.close
     (tie.spec
-    Inv-loop
-    μ-loop
-    slice-write-costs
-    loop-holds
-    row-requires
-    (λ c. omega arith)
-    (λ c. omega arith)
-    slice-write-costs-2
-    cast-choices
-    (λ c. omega arith)
-    (λ c. omega arith)
-    (λ c. omega arith)
-    loop-again
-    same-length
-    same-length-2
-    returns)
+    Inv-loop μ-loop slice-write-costs loop-holds row-requires (λ c. omega arith) (λ c. omega arith) slice-write-costs-2
+    cast-choices (λ c. omega arith) (λ c. omega arith) (λ c. omega arith) loop-again same-length same-length-2 returns)

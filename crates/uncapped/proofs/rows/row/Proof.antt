@@ -44,17 +44,6 @@ pub row-spec : {M : Type 1} → statement M
 row-spec =
     tie.close
     (tie.spec
-    (λ c. search needs)
-    (λ c. search needs)
-    cast-made
-    (λ c. search needs)
-    (λ c. search needs)
-    (λ c. search needs)
-    (λ c. search needs)
-    (λ c. search needs)
-    (λ c. search needs)
-    making-cost-requires
-    add-t23
-    returns
-    cheapest-requires
+    (λ c. search needs) (λ c. search needs) cast-made (λ c. search needs) (λ c. search needs) (λ c. search needs)
+    (λ c. search needs) (λ c. search needs) (λ c. search needs) making-cost-requires add-t23 returns cheapest-requires
     returns-2)
