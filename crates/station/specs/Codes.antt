@@ -1,15 +1,18 @@
 -- What a C program sees of a call's answer: one code, and the call's out-array (include/yakkurem.h).
--- Main definitions: `codeOf`, and what is seen of each answer; `code-splits` takes a code apart. Assumes nothing.
-use mathlib.Core.Path.{_≡_, _∙_}
+-- Main definitions: `codeOf`, and what is seen of each answer. Main statements: `code-splits` takes a code apart; `place-holds`:
+-- where a lookup points the record's body stands. Assumes nothing.
+use mathlib.Core.Path.{_≡_, refl, _∙_}
 use mathlib.Core.List.{List, [], _∷_}
 use mathlib.Core.Option.{Option, none, some}
-use Prim.Native.Nat.{ℕ, _+_, _*_, _/_, _%_, _<_}
+use Prim.Native.Nat.{ℕ, _+_, _-_, _*_, _/_, _%_, _<_}
 use native.Mathlib.Nat.{add-mul-mod-self-left, mod-eq-of-lt, add-mul-div-left, div-eq-of-lt, zero-add}
 use native.Mathlib.Omega.{arith}
 use lib.IntN.{ℤ}
+use lib.ListN.{take, drop}
 use denote.Ref.{now}
 use Rattle.day.specs.declared.Refusal.{Refusal}
 use Rattle.day.specs.Refusals.{numberOf, periodOf}
+use Rattle.day.specs.File.{body, recordAt}
 use Rattle.day.specs.declared.Answer.{Answer}
 use Rattle.day.specs.declared.Answer.the-variants as answer
 use Rattle.day.specs.Outcome.{Path, Runs}
@@ -18,7 +21,9 @@ use Rattle.dayfile.specs.declared.ReadAnswer.the-variants as reader
 use Rattle.dayfile.specs.declared.WriteAnswer.{WriteAnswer}
 use Rattle.dayfile.specs.declared.WriteAnswer.the-variants as writer
 use Rattle.day.specs.Lent.{Lent, dayBefore, dayAfter, memoryBefore, memoryAfter}
-use Rattle.dayfile.specs.Answers.{Reading, Writing}
+use Rattle.dayfile.specs.Answers.{badLookup, Reading, Writing}
+use Rattle.dayfile.specs.Passed.{lookup-passed}
+use Rattle.dayfile.specs.Layout.{period-at}
 use Rattle.weigher.specs.declared.Rule.{Rule}
 use Rattle.weigher.specs.declared.Verdict.the-variants.{Holds, Broken}
 use Rattle.weigher.specs.declared.Weighed.{Weighed}
@@ -68,10 +73,20 @@ seenCompared before (compared.Refused r) = refused before r
 seenCompared before (compared.Broken r i) = broken before r i
 seenCompared before (compared.Difference v) = accepted (v ∷ [])
 
--- a lookup: the body's bytes
+-- a lookup: where the body of period i's record begins in the file, counted from 0, and how long it is
+abbrev pub placeOf : List ℕ → ℕ → List ℕ
+placeOf s i = (recordAt s (i - 1) + 1) ∷ 16 ∷ []
+
+pub place-holds : (s : List ℕ) (i : ℕ) → badLookup s i ≡ none → take 16 (drop (recordAt s (i - 1) + 1) s) ≡ body s (recordAt s (i - 1))
+place-holds s i e = rw (period-at s (i - 1) (omega (arith, lookup-passed s i e)) .kind) refl
+
 abbrev pub seenLookup : List ℕ → Option Refusal → List ℕ → Seen ℕ
-seenLookup before none bytes = accepted bytes
-seenLookup before (some r) bytes = refused before r
+seenLookup before none place = accepted place
+seenLookup before (some r) place = refused before r
+
+abbrev pub LookupShows : (file : Lent) → ℕ → (part : Lent) → ℕ → Type 0
+LookupShows file i part r =
+    let s = now (file .entry) in seen r (now (part .exit)) ≡ seenLookup (now (part .entry)) (badLookup s i) (placeOf s i)
 
 -- a path: cost and setups of the plan
 abbrev pub seenAnswer : List ℕ → Answer → Seen ℕ

@@ -1,15 +1,11 @@
 //! The library's calls as a C program has them: the answer as one code, its numbers in an out-array (include/yakkurem.h).
 ghost use mathlib.Core.Path.{_≡_};
-ghost use Prim.Native.Nat.{_-_};
-ghost use lib.ListN.{length};
 ghost use Rattle.day.specs.Refusals.{numberOf, periodOf};
-ghost use Rattle.day.specs.File as File;
 ghost use Rattle.day.specs.Paths.{full, uncapped, equal};
 ghost use Rattle.day.specs.Lent.{dayBefore};
-ghost use Rattle.dayfile.specs.Answers.{badLookup};
 ghost use Rattle.weigher.specs.Answers.{weighedOf, comparedOf, ruleNumber};
-ghost use Rattle.station.specs.Codes.{codeOf, seen, seenAnswer, seenWeighed, seenCompared, seenReading, seenLookup, seenWriting};
-ghost use Rattle.station.specs.Codes.{PathShows, ReadShows, WriteShows};
+ghost use Rattle.station.specs.Codes.{codeOf, seen, seenAnswer, seenWeighed, seenCompared, seenReading, seenWriting};
+ghost use Rattle.station.specs.Codes.{PathShows, ReadShows, LookupShows, WriteShows};
 use day::Answer;
 use day::Check;
 use day::Refusal;
@@ -106,20 +102,6 @@ fn written(a: WriteAnswer, count: &mut [u64; 1]) -> u64
             0
         }
     }
-}
-
-// A part of 16 bytes as an array.
-fn array(part: &[u8]) -> [u8; 16]
-    requires { ⌜ length (now part) ≡ 16 ⌝ }
-    ensures { λ r. ⌜ r ≡ now (part .entry) ⌝ }
-{
-    let mut bytes = [0; 16];
-    let mut k = 0;
-    while k < 16 {
-        bytes[k] = part[k];
-        k += 1;
-    }
-    bytes
 }
 
 // The plan of any day, by recursion (5); the answer is its cost and setups.
@@ -265,18 +247,20 @@ pub extern "C" fn yakkurem_read(
     read(a, periods)
 }
 
-// The body of a numbered period record, copied into the out-array: C can't be handed a part of the file.
+// Where the body of a numbered period record lies in the file; the answer is its first byte, counted from 0, and its length.
+// No byte is copied: the body is that part of the caller's own file.
 #[no_mangle]
-pub extern "C" fn yakkurem_lookup(file: &[u8], period: usize, body: &mut [u8; 16]) -> u64
-    ensures { λ r. ⌜
-        seen r (now (body .exit))
-        ≡ seenLookup (now (body .entry)) (badLookup (now (file .entry)) period)
-        (File.body (now (file .entry)) (File.recordAt (now (file .entry)) (period - 1))) ⌝ }
+pub extern "C" fn yakkurem_lookup(file: &[u8], period: usize, part: &mut [u64; 2]) -> u64
+    ensures { λ r. ⌜ LookupShows file period part r ⌝ }
 {
     if let Check::Refused(r) = dayfile::lookup::check(file, period) {
         return refused(r);
     }
-    *body = array(dayfile::lookup::body(file, period));
+    let at = dayfile::layout::record_at(file, period - 1);
+    *part = [
+        (at as u64) + 1,
+        dayfile::layout::body(file, at).len() as u64,
+    ];
     0
 }
 
