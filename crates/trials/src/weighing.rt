@@ -8,8 +8,8 @@ use weigher::Rule;
 use weigher::Verdict;
 use weigher::Weighed;
 
-fn broken(rule: Rule, period: usize) {
-    print::number(b" broken ", rule.number());
+fn broken(rule: Rule, period: u16) {
+    print::number(b" broken ", rule.number() as u64);
     print::number(b" period ", period as u64);
 }
 
