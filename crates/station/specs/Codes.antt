@@ -128,10 +128,10 @@ ReadShows file demand capacity setup unit holding periods r =
     periods
     r
 
-abbrev pub WriteShows : (demand capacity setup unit holding out bytes : Lent) → ℕ → Type 0
-WriteShows demand capacity setup unit holding out bytes r =
+abbrev pub WriteShows : (demand capacity setup unit holding out count : Lent) → ℕ → Type 0
+WriteShows demand capacity setup unit holding out count r =
     Shows
     (λ a. Writing (dayBefore demand capacity setup unit holding) (now (out .entry)) a (now (out .exit)))
     seenWriting
-    bytes
+    count
     r

@@ -92,13 +92,13 @@ fn read(a: ReadAnswer, periods: &mut [u64; 1]) -> u64
 }
 
 // Of a writing: the count of bytes.
-fn written(a: WriteAnswer, bytes: &mut [u64; 1]) -> u64
-    ensures { λ r. ⌜ seen r (now (bytes .exit)) ≡ seenWriting (now (bytes .entry)) a ⌝ }
+fn written(a: WriteAnswer, count: &mut [u64; 1]) -> u64
+    ensures { λ r. ⌜ seen r (now (count .exit)) ≡ seenWriting (now (count .entry)) a ⌝ }
 {
     match a {
         WriteAnswer::Refused(r) => refused(r),
         WriteAnswer::Bytes(n) => {
-            *bytes = [n as u64];
+            *count = [n as u64];
             0
         }
     }
@@ -273,10 +273,10 @@ pub extern "C" fn yakkurem_write(
     unit: &[u32],
     holding: &[u32],
     out: &mut [u8],
-    bytes: &mut [u64; 1],
+    count: &mut [u64; 1],
 ) -> u64
-    ensures { λ r. ⌜ WriteShows demand capacity setup unit holding out bytes r ⌝ }
+    ensures { λ r. ⌜ WriteShows demand capacity setup unit holding out count r ⌝ }
 {
     let a = dayfile_writer::write(demand, capacity, setup, unit, holding, out);
-    written(a, bytes)
+    written(a, count)
 }

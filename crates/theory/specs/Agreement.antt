@@ -36,8 +36,8 @@ abbrev given : Answer → Option Refusal
 given (Refused r) = some r
 given (Planned t) = none
 
-given-is : (P : Path) (d : Day) (m : Memory) (r : Answer) (after : Memory) → Roomy P d (sizesOf m) → first (P .own d) ≡ none → Runs P d m r after
-    → dayRefusal d ≡ given r
+given-is : (P : Path) (d : Day) (m : Memory) (r : Answer) (after : Memory) → Roomy P d (sizesOf m) → first (P .own d) ≡ none
+    → Runs P d m r after → dayRefusal d ≡ given r
 given-is P d m (Refused r) after room kind a = sym (roomy-refusal P d (sizesOf m) room kind) ∙ gives-is (a .0)
 given-is P d m (Planned t) after room kind a = sym (roomy-refusal P d (sizesOf m) room kind) ∙ a .0
 
@@ -45,7 +45,8 @@ given-is P d m (Planned t) after room kind a = sym (roomy-refusal P d (sizesOf m
 pub paths-agree : (P Q : Path) (d : Day) (m m′ : Memory) (r : Answer) (after : Memory) (q : Answer) (after′ : Memory)
     → Roomy P d (sizesOf m) → Roomy Q d (sizesOf m′) → first (P .own d) ≡ none → first (Q .own d) ≡ none
     → Runs P d m r after → Runs Q d m′ q after′ → Agree d r after q after′
-paths-agree P Q d m m′ r after q after′ room room′ kind kind′ a b = go r q a b (sym (given-is P d m r after room kind a) ∙ given-is Q d m′ q after′ room′ kind′ b)
+paths-agree P Q d m m′ r after q after′ room room′ kind kind′ a b =
+    go r q a b (sym (given-is P d m r after room kind a) ∙ given-is Q d m′ q after′ room′ kind′ b)
   where
     go : (r q : Answer) → Runs P d m r after → Runs Q d m′ q after′ → given r ≡ given q → Agree d r after q after′
     go (Refused r) (Refused q) a b e = Option·some-injective _ _ e

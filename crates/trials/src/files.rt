@@ -113,7 +113,7 @@ fn written_alike(
     holding: &[u32],
 ) -> bool {
     let mut out = [0u8; 1635];
-    match dayfile::writer::write(demand, capacity, setup, unit, holding, &mut out) {
+    match dayfile_writer::write(demand, capacity, setup, unit, holding, &mut out) {
         WriteAnswer::Refused(_) => false,
         WriteAnswer::Bytes(m) => {
             let end = text::least(m, 1635);
@@ -185,7 +185,7 @@ fn read_into(
     unit: &mut [u32],
     holding: &mut [u32],
 ) -> Fate {
-    let answer = dayfile::reader::read(file, demand, capacity, setup, unit, holding);
+    let answer = dayfile_reader::read(file, demand, capacity, setup, unit, holding);
     judge(file, answer, demand, capacity, setup, unit, holding)
 }
 
@@ -370,7 +370,7 @@ fn write_into(
     holding: &[u32],
     out: &mut [u8],
 ) {
-    let answer = dayfile::writer::write(demand, capacity, setup, unit, holding, out);
+    let answer = dayfile_writer::write(demand, capacity, setup, unit, holding, out);
     print_written(answer, out);
 }
 
@@ -404,7 +404,7 @@ pub fn round(
     let mut out = [FILL; 1637];
     print::text(name);
     print::text(b" file");
-    match dayfile::writer::write(demand, capacity, setup, unit, holding, &mut out) {
+    match dayfile_writer::write(demand, capacity, setup, unit, holding, &mut out) {
         WriteAnswer::Refused(r) => {
             print::refusal(r);
             print::unless(cells::bytes_left(&out, 0, false));

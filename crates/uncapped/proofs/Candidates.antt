@@ -17,7 +17,7 @@ use Rattle.theory.specs.Uncapped.{price, held}
 use Rattle.uncapped.specs.declared.rows.LastLot.{LastLot}
 use Rattle.uncapped.specs.declared.rows.Search.{Search}
 use Rattle.uncapped.specs.Bounds.{LowCosts, CandidateFits, maxMaking}
-use Rattle.uncapped.specs.Rows.{better, tried, Least, Searched, LastLotOf}
+use Rattle.uncapped.specs.Rows.{better, tried, Least, SearchedTo, LastLotOf}
 
 -- one candidate more, at its price
 better-least : (f : ℕ → ℕ) (m j : ℕ) (best : LastLot) (price : ℕ) → price ≡ f j → Least f m (suc j) best → Least f m j (better best j price)
@@ -54,8 +54,8 @@ module _ (p : Problem) (b : Bounded p) (costs : ℕ → ℕ) (m : ℕ) (inside :
   r = at (p .demand)
 
   -- The search goes on from l = j + 1 to j.
-  module _ (l j : ℕ) (s : Search) (e : l ≡ suc j) (le : l ≤ m) (done : Searched p costs m l s) where
-    before : Searched p costs m (suc j) s
+  module _ (l j : ℕ) (s : Search) (e : l ≡ suc j) (le : l ≤ m) (done : SearchedTo p costs m l s) where
+    before : SearchedTo p costs m (suc j) s
     before = rw e at done
 
     few : s .made + r j ≤ maxTotal
@@ -65,7 +65,7 @@ module _ (p : Problem) (b : Bounded p) (costs : ℕ → ℕ) (m : ℕ) (inside :
     candidate-fits low =
         record { below = omega (arith, low j (omega arith), b .few); held = omega (arith, before .low, b .few); made = few }
 
-    pub searched-more : Searched p costs m j (tried s j (costs j) (r j) (M .setup j) (M .unit j) (M .holding j))
+    pub searched-more : SearchedTo p costs m j (tried s j (costs j) (r j) (M .setup j) (M .unit j) (M .holding j))
     searched-more =
         record {
           lot = omega (arith, before .lot);
@@ -106,7 +106,7 @@ module _ (p : Problem) (b : Bounded p) (costs : ℕ → ℕ) (m : ℕ) (inside :
         amount : M .floor (suc m) - M .floor m ≡ r m
         amount = omega arith
 
-    pub last-searched : Searched p costs m m (record { made = r m; held = 0; best = last })
+    pub last-searched : SearchedTo p costs m m (record { made = r m; held = 0; best = last })
     last-searched =
         record {
           lot = omega arith;
@@ -131,7 +131,7 @@ module _ (p : Problem) (b : Bounded p) (costs : ℕ → ℕ) (m : ℕ) (inside :
         }
 
     -- else what the whole search finds is
-    pub searched-chosen : (r m ≡ 0 → ⊥) → (s : Search) → Searched p costs m 0 s → LastLotOf p costs m (s .best)
+    pub searched-chosen : (r m ≡ 0 → ⊥) → (s : Search) → SearchedTo p costs m 0 s → LastLotOf p costs m (s .best)
     searched-chosen some s done =
         let b = done .best in
         record {

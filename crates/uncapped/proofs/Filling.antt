@@ -18,7 +18,7 @@ use Rattle.uncapped.specs.Slots.{Begins, LastLots}
 use Rattle.uncapped.specs.Rows.{LastLotOf, RowsWritten}
 
 -- the areas hold the rows up to m; their cells past n are as they were
-pub record RowsTo (p : Problem) (m : ℕ) (costs₀ choices₀ costs choices : List ℕ) : Type 0 where
+pub record LotRowsTo (p : Problem) (m : ℕ) (costs₀ choices₀ costs choices : List ℕ) : Type 0 where
   pub cost : (l : ℕ) → l ≤ m → wagnerWhitin (modelOf p) l .cost ≡ at costs l
   pub low : LowCosts (at costs) m
   pub begins : Begins (at choices) m
@@ -35,7 +35,7 @@ module _ (p : Problem) (costs₀ choices₀ : List ℕ) where
   zeroth : wagnerWhitin M 0 ≡ record { cost = 0; plan = [] }
   zeroth = wagnerWhitin-zero M
 
-  pub rows-none : at costs₀ 0 ≡ 0 → RowsTo p 0 costs₀ choices₀ costs₀ choices₀
+  pub rows-none : at costs₀ 0 ≡ 0 → LotRowsTo p 0 costs₀ choices₀ costs₀ choices₀
   rows-none none =
       record {
         cost = upTo-zero (λ (l : ℕ). wagnerWhitin M l .cost ≡ at costs₀ l) (ap (λ (f : Solution). f .cost) zeroth ∙ sym none);
@@ -50,8 +50,8 @@ module _ (p : Problem) (costs₀ choices₀ : List ℕ) where
 
   pub rows-more : periods p < length costs₀ → periods p < length choices₀
       → (m k : ℕ) (costs choices : List ℕ) (r : LastLot) → k ≡ suc m → m < periods p
-      → RowsTo p m costs₀ choices₀ costs choices → LastLotOf p (at costs) m r
-      → RowsTo p k costs₀ choices₀ (set costs k (r .cost)) (set choices k (r .from))
+      → LotRowsTo p m costs₀ choices₀ costs choices → LastLotOf p (at costs) m r
+      → LotRowsTo p k costs₀ choices₀ (set costs k (r .cost)) (set choices k (r .from))
   rows-more room room′ m k costs choices r e inside f c = rw e (
       record {
         cost = upTo (λ (l : ℕ). wagnerWhitin M l .cost ≡ at costs′ l) m (λ l h. f .cost l h ∙ sym (old l h))
@@ -93,7 +93,7 @@ module _ (p : Problem) (costs₀ choices₀ : List ℕ) where
 
 -- the loop starts with the first cost set to 0, which is not past n
 pub rows-written : (p : Problem) (costs₀ choices₀ costs choices : List ℕ)
-    → RowsTo p (periods p) (set costs₀ 0 0) choices₀ costs choices → RowsWritten p costs₀ choices₀ costs choices
+    → LotRowsTo p (periods p) (set costs₀ 0 0) choices₀ costs choices → RowsWritten p costs₀ choices₀ costs choices
 rows-written p costs₀ choices₀ costs choices f =
     record {
       begins = f .begins;

@@ -62,8 +62,8 @@ module _ (demand slots₀ : List ℕ) (from last : ℕ) (ready : LotReady demand
         drop-set-here slots from made here ∙ rw (tail, amount) refl
 
 -- the slots from m on hold the end of the plan, whatever rows the choices tell
-abbrev pub Ends : (demand choices slots₀ : List ℕ) (m : ℕ) (slots : List ℕ) → Type 0
-Ends demand choices slots₀ m slots =
+abbrev pub PlanEnds : (demand choices slots₀ : List ℕ) (m : ℕ) (slots : List ℕ) → Type 0
+PlanEnds demand choices slots₀ m slots =
     let n = length demand in
     (rows : ℕ → List ℕ) → LastLots demand rows (at choices) n → rows m ++ drop m slots ≡ rows n ++ drop n slots₀
 
@@ -77,13 +77,13 @@ module _ (demand choices slots₀ : List ℕ) (m k : ℕ) (e : m ≡ suc k) (le 
 
   -- a lot more: what the slots hold from where it begins on is what the plan has there
   pub ends-more : (slots slots′ : List ℕ) → LotPut demand (froms m) k slots slots′
-      → Ends demand choices slots₀ m slots → Ends demand choices slots₀ (froms m) slots′
+      → PlanEnds demand choices slots₀ m slots → PlanEnds demand choices slots₀ (froms m) slots′
   ends-more slots slots′ put ends rows lots = go (rw e at put) (rw e at (ends rows lots))
     where
       go : LotPut demand (froms (suc k)) k slots slots′ → rows (suc k) ++ drop (suc k) slots ≡ rows (length demand) ++ drop (length demand) slots₀
           → rows (froms m) ++ drop (froms m) slots′ ≡ rows (length demand) ++ drop (length demand) slots₀
       go put p = rw (e, put, ← append-assoc, ← (lots .more k (omega arith))) p
 
-pub ends-all : (demand choices slots₀ slots : List ℕ) (m : ℕ) → m ≡ 0 → Ends demand choices slots₀ m slots
+pub ends-all : (demand choices slots₀ slots : List ℕ) (m : ℕ) → m ≡ 0 → PlanEnds demand choices slots₀ m slots
     → (rows : ℕ → List ℕ) → LastLots demand rows (at choices) (length demand) → slots ≡ rows (length demand) ++ drop (length demand) slots₀
 ends-all demand choices slots₀ slots m e ends rows lots = let q = lots .none in rw q at (rw e at (ends rows lots))

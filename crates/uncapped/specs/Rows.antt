@@ -1,7 +1,7 @@
 -- The search for a row of Wagner and Whitin (report, section 3): the candidates l for the last lot of the first m + 1 periods, from m down
 -- to 0. Candidate l makes in period l + 1 all that is demanded from there to period m + 1.
 -- What the areas hold once every row is found: cell m of the choice area says where the last lot of row m begins.
--- Main definitions: `Searched`, `LastLotOf`, `RowsWritten`. Assumes nothing.
+-- Main definitions: `SearchedTo`, `LastLotOf`, `RowsWritten`. Assumes nothing.
 use mathlib.Core.Path.{_≡_}
 use mathlib.Core.List.{List}
 use Prim.Native.Nat.{ℕ, suc, _+_, _*_, _≤_, _<_}
@@ -39,22 +39,22 @@ pub record Least (f : ℕ → ℕ) (m l : ℕ) (r : LastLot) : Type 0 where
   pub first : (j : ℕ) → l ≤ j → j < r .from → r .cost < f j
 
 -- the search has come down to candidate l: the lot of l, what holding it costs, the cheapest of l .. m
-pub record Searched (p : Problem) (costs : ℕ → ℕ) (m l : ℕ) (s : Search) : Type 0 where
+pub record SearchedTo (p : Problem) (costs : ℕ → ℕ) (m l : ℕ) (s : Search) : Type 0 where
   pub lot : s .made + demandTo p l ≡ demandTo p (suc m)
   pub kept : s .held + held (modelOf p) (suc m) l ≡ held (modelOf p) (suc m) (suc m)
   pub low : s .held + l * maxHolding ≤ m * maxHolding
   pub best : Least (price (modelOf p) costs (suc m)) m l (s .best)
 
 -- what the search for row m + 1 asks; and what the rest of it asks, once its last candidate is tried
-pub record RowReady (p : Problem) (costs : List ℕ) (m : ℕ) : Type 0 where
+pub record NextRowReady (p : Problem) (costs : List ℕ) (m : ℕ) : Type 0 where
   pub bounded : Bounded p
   pub inside : m < periods p
   pub cells : m < length costs
   pub low : LowCosts (at costs) m
 
 pub record RestReady (p : Problem) (costs : List ℕ) (m : ℕ) (s : Search) : Type 0 where
-  pub ready : RowReady p costs m
-  pub last : Searched p (at costs) m m s
+  pub ready : NextRowReady p costs m
+  pub last : SearchedTo p (at costs) m m s
 
 -- the last lot of row m + 1, given the costs of the rows before it
 pub record LastLotOf (p : Problem) (costs : ℕ → ℕ) (m : ℕ) (r : LastLot) : Type 0 where

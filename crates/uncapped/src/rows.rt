@@ -3,7 +3,7 @@
 ghost use mathlib.Core.Path.{_≡_};
 ghost use Rattle.day.specs.Sums.{at};
 ghost use Rattle.uncapped.specs.Bounds.{uncapacitated, CandidateFits};
-ghost use Rattle.uncapped.specs.Rows.{better, tried, Searched, RowReady, RestReady, LastLotOf, FillReady, RowsWritten};
+ghost use Rattle.uncapped.specs.Rows.{better, tried, SearchedTo, NextRowReady, RestReady, LastLotOf, FillReady, RowsWritten};
 
 // A row's cost, and how many periods come before its last lot.
 pub struct LastLot {
@@ -62,7 +62,7 @@ fn cheapest(
     last: Search,
 ) -> Search
     requires { ⌜ RestReady (uncapacitated (now demand) (now setup) (now unit) (now holding)) (now costs) m last ⌝ }
-    ensures { λ r. ⌜ Searched (uncapacitated (now (demand .entry)) (now (setup .entry)) (now (unit .entry)) (now (holding .entry)))
+    ensures { λ r. ⌜ SearchedTo (uncapacitated (now (demand .entry)) (now (setup .entry)) (now (unit .entry)) (now (holding .entry)))
         (at (now (costs .entry))) m 0 r ⌝ }
 {
     let mut s = last;
@@ -83,7 +83,7 @@ fn row(
     costs: &[u64],
     m: usize,
 ) -> LastLot
-    requires { ⌜ RowReady (uncapacitated (now demand) (now setup) (now unit) (now holding)) (now costs) m ⌝ }
+    requires { ⌜ NextRowReady (uncapacitated (now demand) (now setup) (now unit) (now holding)) (now costs) m ⌝ }
     ensures { λ r. ⌜ LastLotOf (uncapacitated (now (demand .entry)) (now (setup .entry)) (now (unit .entry)) (now (holding .entry)))
         (at (now (costs .entry))) m r ⌝ }
 {

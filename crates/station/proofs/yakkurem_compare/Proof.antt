@@ -8,4 +8,6 @@ use Rattle.station.proofs.yakkurem_compare.Tie as tie
 pub yakkurem-compare-spec : {M : Type 1} → statement M
 yakkurem-compare-spec =
     tie.close
-    (tie.spec (λ c κs. search needs) (λ c κs. search needs) (λ c. c .compared .ensures ∙ ap (seenCompared _) (c .before .before .compare .ensures)))
+    (tie.spec
+    (λ c κs. search needs) (λ c κs. search needs)
+    (λ c. c .compared .ensures ∙ ap (seenCompared _) (c .before .before .compare .ensures)))

@@ -8,4 +8,6 @@ use Rattle.station.proofs.yakkurem_weigh.Tie as tie
 pub yakkurem-weigh-spec : {M : Type 1} → statement M
 yakkurem-weigh-spec =
     tie.close
-    (tie.spec (λ c κs. search needs) (λ c κs. search needs) (λ c. c .weighed .ensures ∙ ap (seenWeighed _) (c .before .before .weigh .ensures)))
+    (tie.spec
+    (λ c κs. search needs) (λ c κs. search needs)
+    (λ c. c .weighed .ensures ∙ ap (seenWeighed _) (c .before .before .weigh .ensures)))

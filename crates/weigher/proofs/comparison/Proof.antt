@@ -72,17 +72,6 @@ pub comparison-spec : {M : Type 1} → statement M
 comparison-spec =
     tie.close
     (tie.spec
-    (λ c. search needs)
-    (λ c. search needs)
-    (λ c. search needs)
-    (λ c. search needs)
-    (λ c. search needs)
-    (λ c. search needs)
-    (λ c. search needs)
-    (λ c. search needs)
-    difference-requires
-    (λ c. compared (c .before .a .given .1) refl refl)
-    (λ c. compared (c .before .before .before .before .a2 .given .1) (c .before .b .given .1) refl)
-    returns-3
-    returns-4
-    returns-5)
+    (λ c. search needs) (λ c. search needs) (λ c. search needs) (λ c. search needs) (λ c. search needs) (λ c. search needs)
+    (λ c. search needs) (λ c. search needs) difference-requires (λ c. compared (c .before .a .given .1) refl refl)
+    (λ c. compared (c .before .before .before .before .a2 .given .1) (c .before .b .given .1) refl) returns-3 returns-4 returns-5)

@@ -27,8 +27,5 @@ pub totals-spec : {M : Type 1} → statement M
 totals-spec =
     tie.close
     (tie.spec
-    (λ c κs. c .before .before .before .before .before .before .pre .weighable)
-    (λ c. search needs)
-    (λ c. search needs)
-    (λ c. cc (holds (c .before .before .before), c .before .t .given .1))
-    returns-2)
+    (λ c κs. c .before .before .before .before .before .before .pre .weighable) (λ c. search needs) (λ c. search needs)
+    (λ c. cc (holds (c .before .before .before), c .before .t .given .1)) returns-2)

@@ -51,10 +51,6 @@ pub weigh-spec : {M : Type 1} → statement M
 weigh-spec =
     tie.close
     (tie.spec
-    (λ c κs. search needs)
-    (λ c. search needs)
-    returns
-    (λ c. search needs)
-    (λ c. rw (decides (c .before), lt-ltb _ _ (c .if1 .taken)) refl)
-    walk-requires
+    (λ c κs. search needs) (λ c. search needs) returns (λ c. search needs)
+    (λ c. rw (decides (c .before), lt-ltb _ _ (c .if1 .taken)) refl) walk-requires
     (λ c. rw (c .walk .ensures, decides (c .before .before), le-ltb _ _ (c .before .if1 .left)) refl))

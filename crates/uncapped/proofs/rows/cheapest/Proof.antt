@@ -4,13 +4,13 @@ use Prim.Native.Nat.{_-_, _≤_}
 use native.Mathlib.Omega.{arith}
 use Rattle.day.specs.Sums.{at}
 use Rattle.uncapped.specs.Bounds.{uncapacitated}
-use Rattle.uncapped.specs.Rows.{Searched}
+use Rattle.uncapped.specs.Rows.{SearchedTo}
 use Rattle.uncapped.proofs.Candidates.{candidate-fits, searched-more}
 use Rattle.uncapped.proofs.rows.cheapest.Statement.{statement}
 use Rattle.uncapped.proofs.rows.cheapest.Tie as tie
 
 abbrev Inv-loop : tie.InvT-loop
-Inv-loop demand setup unit holding costs m s₀ l₀ s l = (l ≤ m) × Searched (uncapacitated demand setup unit holding) (at costs) m l s
+Inv-loop demand setup unit holding costs m s₀ l₀ s l = (l ≤ m) × SearchedTo (uncapacitated demand setup unit holding) (at costs) m l s
 
 abbrev μ-loop : tie.MeasureT-loop
 μ-loop demand setup unit holding costs m s₀ l₀ s l = l
@@ -46,6 +46,6 @@ pub cheapest-spec : {M : Type 1} → statement M
 cheapest-spec =
     tie.close
     (tie.spec
-    Inv-loop μ-loop loop-holds (λ c. omega arith) (λ c. omega arith) (λ c. omega arith) (λ c. omega arith)
+    Inv-loop μ-loop loop-holds (λ c. omega arith) (λ c. omega arith) (λ c. omega arith) (λ c. omega arith) (λ c. omega arith)
     (λ c. omega arith) (λ c. omega arith) (λ c. omega arith) (λ c. omega arith) (λ c. omega arith) (λ c. omega arith)
-    (λ c. omega arith) candidate-requires (λ c. omega arith) loop-again returns)
+    candidate-requires (λ c. omega arith) loop-again returns)

@@ -6,13 +6,13 @@ use native.Mathlib.Omega.{arith}
 use lib.ListN.{length, set, length-set}
 use lib.Seq.{getD-set-same}
 use Rattle.uncapped.specs.Bounds.{uncapacitated}
-use Rattle.uncapped.proofs.Filling.{RowsTo, rows-none, rows-more, rows-written}
+use Rattle.uncapped.proofs.Filling.{LotRowsTo, rows-none, rows-more, rows-written}
 use Rattle.uncapped.proofs.rows.fill.Statement.{statement}
 use Rattle.uncapped.proofs.rows.fill.Tie as tie
 
 abbrev Inv-loop : tie.InvT-loop
 Inv-loop demand setup unit holding costs₀ choices₀ m₀ costs choices m =
-    (m ≤ length demand) × RowsTo (uncapacitated demand setup unit holding) m costs₀ choices₀ costs choices
+    (m ≤ length demand) × LotRowsTo (uncapacitated demand setup unit holding) m costs₀ choices₀ costs choices
 
 abbrev μ-loop : tie.MeasureT-loop
 μ-loop demand setup unit holding costs₀ choices₀ m₀ costs choices m = length demand - m

@@ -4,12 +4,12 @@ use Prim.Native.Nat.{_-_, _≤_}
 use native.Mathlib.Omega.{arith}
 use lib.ListN.{length}
 use Rattle.day.specs.Sums.{at}
-use Rattle.uncapped.proofs.ReadBack.{Ends, begins-less, ends-more, ends-all}
+use Rattle.uncapped.proofs.ReadBack.{PlanEnds, begins-less, ends-more, ends-all}
 use Rattle.uncapped.proofs.slots.read_back.Statement.{statement}
 use Rattle.uncapped.proofs.slots.read_back.Tie as tie
 
 abbrev Inv-loop : tie.InvT-loop
-Inv-loop demand choices slots₀ m₀ slots m = (m ≤ length demand) × (length slots ≡ length slots₀) × Ends demand choices slots₀ m slots
+Inv-loop demand choices slots₀ m₀ slots m = (m ≤ length demand) × (length slots ≡ length slots₀) × PlanEnds demand choices slots₀ m slots
 
 abbrev μ-loop : tie.MeasureT-loop
 μ-loop demand choices slots₀ m₀ slots m = m
@@ -66,5 +66,5 @@ pub read-back-spec : {M : Type 1} → statement M
 read-back-spec =
     tie.close
     (tie.spec
-    Inv-loop μ-loop loop-holds (λ c. omega arith) (λ c. omega arith) cast-from (λ c. omega arith) put-lot-requires
-    loop-less loop-again same-length returns)
+    Inv-loop μ-loop loop-holds (λ c. omega arith) (λ c. omega arith) cast-from (λ c. omega arith) put-lot-requires loop-less
+    loop-again same-length returns)
