@@ -6,7 +6,6 @@ use mathlib.Core.List.{List, [], _∷_, _++_}
 use Prim.Native.Nat.{ℕ, _+_, _-_, _≤_, min}
 use lib.ListN.{length, drop}
 use denote.Ref.{RefT, now}
-use denote.Triple.Both.{Both}
 use Rattle.day.specs.Sums.{listOf}
 use Rattle.day.specs.Day.{Day, dayOf}
 use Rattle.day.specs.File.{body, recordAt, number2, number4, periodsIn, walk, noSuchPeriod, field, dayIn, fileOf}
@@ -16,18 +15,6 @@ use Rattle.dayfile.specs.declared.ReadAnswer.{ReadAnswer}
 use Rattle.dayfile.specs.declared.ReadAnswer.the-variants.{Refused, Periods}
 use Rattle.dayfile.specs.declared.WriteAnswer.{WriteAnswer}
 use Rattle.dayfile.specs.declared.WriteAnswer.the-variants as Write
-
--- a lent table at both moments of a call; five of them as a day, when the call begins and when it ends
-abbrev pub Lent : Type 0
-Lent = Both (RefT (List ℕ)) (RefT (List ℕ))
-
-abbrev pub dayBefore : (demand capacity setup unit holding : Lent) → Day
-dayBefore demand capacity setup unit holding =
-    dayOf (now (demand .entry)) (now (capacity .entry)) (now (setup .entry)) (now (unit .entry)) (now (holding .entry))
-
-abbrev pub dayAfter : (demand capacity setup unit holding : Lent) → Day
-dayAfter demand capacity setup unit holding =
-    dayOf (now (demand .exit)) (now (capacity .exit)) (now (setup .exit)) (now (unit .exit)) (now (holding .exit))
 
 -- each table has at least n cells
 pub record Cells (n : ℕ) (tables : Day) : Type 0 where

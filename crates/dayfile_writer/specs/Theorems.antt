@@ -9,7 +9,7 @@ use borrow.Author.Tests.{le-ltb, eq-eqb}
 use lib.ListN.{length}
 use Rattle.day.specs.Sums.{length-listOf}
 use Rattle.day.specs.Day.{Day, periods, maxPeriods}
-use Rattle.day.specs.Refusals.{first, badCount, badLengths, badValue, badSlots, tableTests}
+use Rattle.day.specs.Refusals.{badCount, badLengths, badValue, badSlots, tableTests}
 use Rattle.day.specs.Tests.{first-split}
 use Rattle.day.specs.File.{number2, periodsIn, field, dayIn, fileOf}
 use Rattle.checks.specs.Passed.{SameLengths, tables-passed}

@@ -15,12 +15,13 @@ use Rattle.day.specs.Refusals.{numberOf, periodOf}
 use Rattle.day.specs.File.{body, recordAt}
 use Rattle.day.specs.declared.Answer.{Answer}
 use Rattle.day.specs.declared.Answer.the-variants as answer
-use Rattle.day.specs.Outcome.{memoryOf, Path, Runs}
+use Rattle.day.specs.Outcome.{Path, Runs}
 use Rattle.dayfile.specs.declared.ReadAnswer.{ReadAnswer}
 use Rattle.dayfile.specs.declared.ReadAnswer.the-variants as reader
 use Rattle.dayfile.specs.declared.WriteAnswer.{WriteAnswer}
 use Rattle.dayfile.specs.declared.WriteAnswer.the-variants as writer
-use Rattle.dayfile.specs.Answers.{Lent, dayBefore, dayAfter, badLookup, Reading, Writing}
+use Rattle.day.specs.Lent.{Lent, dayBefore, dayAfter, memoryBefore, memoryAfter}
+use Rattle.dayfile.specs.Answers.{badLookup, Reading, Writing}
 use Rattle.dayfile.specs.Passed.{lookup-passed}
 use Rattle.dayfile.specs.Layout.{period-at}
 use Rattle.weigher.specs.declared.Rule.{Rule}
@@ -111,11 +112,7 @@ pub record Shows {A : Type 0} (Given : A → Type 0) (show : List ℕ → A → 
 abbrev pub PathShows : Path → (demand capacity setup unit holding costs choices slots answer : Lent) → ℕ → Type 0
 PathShows P demand capacity setup unit holding costs choices slots answer r =
     Shows
-    (λ a.
-    Runs P (dayBefore demand capacity setup unit holding)
-    (memoryOf (now (costs .entry)) (now (choices .entry)) (now (slots .entry)))
-    a
-    (memoryOf (now (costs .exit)) (now (choices .exit)) (now (slots .exit))))
+    (λ a. Runs P (dayBefore demand capacity setup unit holding) (memoryBefore costs choices slots) a (memoryAfter costs choices slots))
     seenAnswer
     answer
     r

@@ -2,7 +2,7 @@
 ghost use mathlib.Core.Path.{_≡_};
 ghost use Rattle.day.specs.Refusals.{numberOf, periodOf};
 ghost use Rattle.day.specs.Paths.{full, uncapped, equal};
-ghost use Rattle.dayfile.specs.Answers.{dayBefore};
+ghost use Rattle.day.specs.Lent.{dayBefore};
 ghost use Rattle.weigher.specs.Answers.{weighedOf, comparedOf, ruleNumber};
 ghost use Rattle.station.specs.Codes.{codeOf, seen, seenAnswer, seenWeighed, seenCompared, seenReading, seenWriting};
 ghost use Rattle.station.specs.Codes.{PathShows, ReadShows, LookupShows, WriteShows};

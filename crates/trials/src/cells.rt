@@ -1,4 +1,6 @@
-//! Lent cells: every one holds the mark before a call.
+//! Lent cells, every one of which holds the mark before a call; and counts.
+ghost use Prim.Native.Nat.{_<_};
+
 pub const MARK: u16 = 119;
 
 // Whether a cell is not as the call must leave it: the first ones are free, or zero where they are to be cleared; the later ones keep
@@ -65,4 +67,22 @@ pub fn costs_left(cells: &[u64], free: usize, cleared: bool) -> bool {
         i += 1;
     }
     true
+}
+
+// One more of kind k.
+pub fn count(counts: &mut [u64; 16], k: usize)
+    requires { ⌜ k < 16 ⌝ }
+{
+    let n = counts[k];
+    if n < 1000000 {
+        counts[k] = n + 1;
+    }
+}
+
+pub fn count_if(counts: &mut [u64; 16], k: usize, more: bool)
+    requires { ⌜ k < 16 ⌝ }
+{
+    if more {
+        count(counts, k);
+    }
 }

@@ -148,14 +148,8 @@ fn judge(
 ) -> Fate {
     let n = text::least(periods(answer), demand.len());
     let kept = tables_kept(n, demand, capacity, setup, unit, holding);
-    if n == 0 || capacity.len() < n {
-        return Fate {
-            answer,
-            alike: n == 0,
-            kept,
-        };
-    }
-    if setup.len() < n || unit.len() < n || holding.len() < n {
+    let rates = text::least(setup.len(), text::least(unit.len(), holding.len()));
+    if text::least(capacity.len(), rates) < n {
         return Fate {
             answer,
             alike: false,
@@ -172,7 +166,7 @@ fn judge(
     );
     Fate {
         answer,
-        alike,
+        alike: alike || n == 0,
         kept,
     }
 }
@@ -221,9 +215,9 @@ fn print_fate(f: Fate) {
 }
 
 // The part that a lookup hands out, and what its companion says.
-fn look(name: &[u8], file: &[u8], period: usize) {
+fn look(line: &[u8], file: &[u8], period: usize) {
     let body = dayfile::lookup::body(file, period);
-    print::text(name);
+    print::text(text::name(line));
     print::number(b" lookup ", period as u64);
     match dayfile::lookup::check(file, period) {
         Check::Refused(r) => print::refusal(r),
@@ -233,33 +227,25 @@ fn look(name: &[u8], file: &[u8], period: usize) {
     print::end();
 }
 
-fn wide(x: u16) -> usize {
-    x as usize
-}
-
-fn size(x: u32) -> usize {
-    x as usize
-}
-
-fn look_all(name: &[u8], file: &[u8], periods: &[u16]) {
+fn look_all(line: &[u8], file: &[u8], periods: &[u16]) {
     let mut i = 0;
     while i < periods.len() {
-        look(name, file, wide(periods[i]));
+        look(line, file, text::wide(periods[i]));
         i += 1;
     }
 }
 
 // The file of field 1: read with as many cells as field 2 says, and the periods of field 3 looked up.
-pub fn file(name: &[u8], line: &[u8]) {
+pub fn file(line: &[u8]) {
     let mut file = [0u8; 1700];
     let mut asked = [0u16; 8];
     let mut room = [0u32; 1];
     let n = bytes(text::field(line, 1), &mut file);
     let k = text::amounts(text::field(line, 3), &mut asked);
     text::rates(text::field(line, 2), 1, &mut room);
-    print::text(name);
-    print_fate(read(&file[0..n], size(room[0])));
-    look_all(name, &file[0..n], &asked[0..k]);
+    print::text(text::name(line));
+    print_fate(read(&file[0..n], text::size(room[0])));
+    look_all(line, &file[0..n], &asked[0..k]);
 }
 
 // How a file fares: the number of its refusal, 0 where it is read and written to the same bytes, 15 for anything else.
@@ -276,26 +262,8 @@ fn number_of(f: Fate) -> usize
     }
 }
 
-// One more file that fares so.
 fn tally(file: &[u8], counts: &mut [u64; 16]) {
-    let k = number_of(read(file, 96));
-    let n = counts[k];
-    if n < 1000000 {
-        counts[k] = n + 1;
-    }
-}
-
-fn print_tally(name: &[u8], counts: [u64; 16]) {
-    print::text(name);
-    print::number(b" alike ", counts[0]);
-    print::number(b" refused 1: ", counts[1]);
-    print::number(b" 3: ", counts[3]);
-    print::number(b" 6: ", counts[6]);
-    print::number(b" 10: ", counts[10]);
-    print::number(b" 11: ", counts[11]);
-    print::number(b" 12: ", counts[12]);
-    print::number(b" other: ", counts[15]);
-    print::end();
+    cells::count(counts, number_of(read(file, 96)));
 }
 
 fn cuts(file: &[u8], counts: &mut [u64; 16]) {
@@ -307,12 +275,14 @@ fn cuts(file: &[u8], counts: &mut [u64; 16]) {
 }
 
 // The file of field 1, cut at every length.
-pub fn cut(name: &[u8], line: &[u8]) {
+pub fn cut(line: &[u8]) {
     let mut file = [0u8; 1700];
     let mut counts = [0u64; 16];
     let n = bytes(text::field(line, 1), &mut file);
     cuts(&file[0..n], &mut counts);
-    print_tally(name, counts);
+    print::text(text::name(line));
+    print::counts(counts);
+    print::end();
 }
 
 // With every value at one place, which is then as it was.
@@ -339,12 +309,14 @@ fn changes(file: &mut [u8], counts: &mut [u64; 16]) {
 }
 
 // The file of field 1, with every value at every place.
-pub fn change(name: &[u8], line: &[u8]) {
+pub fn change(line: &[u8]) {
     let mut file = [0u8; 1700];
     let mut counts = [0u64; 16];
     let n = bytes(text::field(line, 1), &mut file);
     changes(&mut file[0..n], &mut counts);
-    print_tally(name, counts);
+    print::text(text::name(line));
+    print::counts(counts);
+    print::end();
 }
 
 fn print_written(answer: WriteAnswer, out: &[u8]) {
@@ -376,7 +348,6 @@ fn write_into(
 
 // The writer, with as many bytes of room as field 6 says, at most 64.
 pub fn write(
-    name: &[u8],
     line: &[u8],
     demand: &[u16],
     capacity: &[u16],
@@ -387,14 +358,14 @@ pub fn write(
     let mut out = [FILL; 64];
     let mut asked = [0u32; 1];
     text::rates(text::field(line, 6), 1, &mut asked);
-    let room = text::least(size(asked[0]), 64);
-    print::text(name);
+    let room = text::least(text::size(asked[0]), 64);
+    print::text(text::name(line));
     write_into(demand, capacity, setup, unit, holding, &mut out[0..room]);
 }
 
 // A day's file: how long it is, and what the reader says of it.
 pub fn round(
-    name: &[u8],
+    line: &[u8],
     demand: &[u16],
     capacity: &[u16],
     setup: &[u32],
@@ -402,7 +373,7 @@ pub fn round(
     holding: &[u32],
 ) {
     let mut out = [FILL; 1637];
-    print::text(name);
+    print::text(text::name(line));
     print::text(b" file");
     match dayfile_writer::write(demand, capacity, setup, unit, holding, &mut out) {
         WriteAnswer::Refused(r) => {

@@ -10,10 +10,8 @@ mod weighing;
 
 use libc::STDIN_FILENO;
 
-// The trials of a day: which one, and what stands on the line after the tables.
+// The trials of a day, by the line's kind.
 fn day(
-    kind: &[u8],
-    name: &[u8],
     line: &[u8],
     demand: &[u16],
     capacity: &[u16],
@@ -21,26 +19,34 @@ fn day(
     unit: &[u32],
     holding: &[u32],
 ) {
+    let kind = text::kind(line);
     if check::same(kind, b"day") {
-        paths::all(name, demand, capacity, setup, unit, holding);
-        tiny::searched(name, demand, capacity, setup, unit, holding);
-        return files::round(name, demand, capacity, setup, unit, holding);
+        paths::all(line, demand, capacity, setup, unit, holding);
+        tiny::searched(line, demand, capacity, setup, unit, holding);
+        return files::round(line, demand, capacity, setup, unit, holding);
     }
     if check::same(kind, b"weigh") {
-        return weighing::weigh(name, line, demand, capacity, setup, unit, holding);
+        return weighing::weigh(line, demand, capacity, setup, unit, holding);
     }
     if check::same(kind, b"compare") {
-        return weighing::compare(name, line, demand, capacity, setup, unit, holding);
+        return weighing::compare(line, demand, capacity, setup, unit, holding);
     }
     if check::same(kind, b"write") {
-        return files::write(name, line, demand, capacity, setup, unit, holding);
+        return files::write(line, demand, capacity, setup, unit, holding);
     }
-    let path = paths::named(kind);
-    paths::lent(path, name, line, demand, capacity, setup, unit, holding);
+    paths::lent(
+        paths::named(kind),
+        line,
+        demand,
+        capacity,
+        setup,
+        unit,
+        holding,
+    );
 }
 
 // A line that begins with a day's five tables: demands; capacities; setup, unit and holding costs.
-fn tables(kind: &[u8], name: &[u8], line: &[u8]) {
+fn tables(line: &[u8]) {
     let mut demand = [0u16; 128];
     let mut capacity = [0u16; 128];
     let mut setup = [0u32; 128];
@@ -52,8 +58,6 @@ fn tables(kind: &[u8], name: &[u8], line: &[u8]) {
     let p = text::rates(text::field(line, 4), n, &mut unit);
     let h = text::rates(text::field(line, 5), n, &mut holding);
     day(
-        kind,
-        name,
         line,
         &demand[0..n],
         &capacity[0..c],
@@ -63,39 +67,32 @@ fn tables(kind: &[u8], name: &[u8], line: &[u8]) {
     );
 }
 
-fn trial(kind: &[u8], name: &[u8], line: &[u8]) {
-    if check::same(kind, b"file") {
-        return files::file(name, line);
-    }
-    if check::same(kind, b"cut") {
-        return files::cut(name, line);
-    }
-    if check::same(kind, b"change") {
-        return files::change(name, line);
-    }
-    if check::same(kind, b"made-up") {
-        return tiny::made_up(name, line);
-    }
-    tables(kind, name, line);
-}
-
 // A line: the kind of trial, its name, and fields. A line that begins with '#', and an empty one, says nothing.
-fn one_line(line: &[u8]) {
-    let first = text::find(line, 0, b'#', true);
-    if line.len() == 0 || first == 0 {
+fn trial(line: &[u8]) {
+    let kind = text::kind(line);
+    if line.len() == 0 || text::find(line, 0, b'#', true) == 0 {
         return;
     }
-    let end = text::find(line, 0, b';', true);
-    let kind = text::least(text::find(line, 0, b' ', true), end);
-    let name = text::least(kind + 1, end);
-    trial(&line[0..kind], &line[name..end], line);
+    if check::same(kind, b"file") {
+        return files::file(line);
+    }
+    if check::same(kind, b"cut") {
+        return files::cut(line);
+    }
+    if check::same(kind, b"change") {
+        return files::change(line);
+    }
+    if check::same(kind, b"made-up") {
+        return tiny::made_up(line);
+    }
+    tables(line);
 }
 
 fn lines(input: &[u8]) {
     let mut at = 0;
     while at < input.len() {
         let end = text::find(input, at, b'\n', true);
-        one_line(&input[at..end]);
+        trial(&input[at..end]);
         at = end + 1;
     }
 }

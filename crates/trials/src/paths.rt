@@ -57,16 +57,6 @@ fn cells_of(path: Path, n: usize, total: usize) -> Cells
     }
 }
 
-fn wide(x: u16) -> usize
-    ensures { λ r. ⌜ r ≤ 65535 ⌝ }
-{
-    x as usize
-}
-
-fn size(x: u32) -> usize {
-    x as usize
-}
-
 // The day's whole demand; 4,097 where it is more than 4,096.
 pub fn total(demand: &[u16]) -> usize
     ensures { λ r. ⌜ r ≤ 4097 ⌝ }
@@ -74,7 +64,7 @@ pub fn total(demand: &[u16]) -> usize
     let mut sum = 0;
     let mut i = 0;
     while i < demand.len() {
-        sum = text::least(sum + wide(demand[i]), 4097);
+        sum = text::least(sum + text::wide(demand[i]), 4097);
         i += 1;
     }
     sum
@@ -192,8 +182,8 @@ fn print_plan(t: Totals, plan: &[u16]) {
     print::number(b" starts ", t.setups);
 }
 
-fn print_run(name: &[u8], path: Path, run: Outcome, slots: &[u16], n: usize) {
-    print::text(name);
+fn print_run(line: &[u8], path: Path, run: Outcome, slots: &[u16], n: usize) {
+    print::text(text::name(line));
     name_of(path);
     let answer = run.answer;
     match answer {
@@ -210,7 +200,7 @@ fn print_run(name: &[u8], path: Path, run: Outcome, slots: &[u16], n: usize) {
 // One path in lent memory.
 fn shown(
     path: Path,
-    name: &[u8],
+    line: &[u8],
     demand: &[u16],
     capacity: &[u16],
     setup: &[u32],
@@ -231,13 +221,13 @@ fn shown(
         choices,
         slots,
     );
-    print_run(name, path, r, slots, demand.len());
+    print_run(line, path, r, slots, demand.len());
 }
 
 // One path in so many cells and slots.
 fn within(
     path: Path,
-    name: &[u8],
+    line: &[u8],
     demand: &[u16],
     capacity: &[u16],
     setup: &[u32],
@@ -255,7 +245,7 @@ fn within(
     let c = text::least(slots, 130);
     shown(
         path,
-        name,
+        line,
         demand,
         capacity,
         setup,
@@ -270,7 +260,7 @@ fn within(
 // One path in two cells and a slot more than it needs.
 fn roomy(
     path: Path,
-    name: &[u8],
+    line: &[u8],
     demand: &[u16],
     capacity: &[u16],
     setup: &[u32],
@@ -281,7 +271,7 @@ fn roomy(
     let slots = text::least(demand.len(), 128) + 1;
     within(
         path,
-        name,
+        line,
         demand,
         capacity,
         setup,
@@ -294,22 +284,21 @@ fn roomy(
 }
 
 pub fn all(
-    name: &[u8],
+    line: &[u8],
     demand: &[u16],
     capacity: &[u16],
     setup: &[u32],
     unit: &[u32],
     holding: &[u32],
 ) {
-    roomy(Path::Full, name, demand, capacity, setup, unit, holding);
-    roomy(Path::Uncapped, name, demand, capacity, setup, unit, holding);
-    roomy(Path::Equal, name, demand, capacity, setup, unit, holding);
+    roomy(Path::Full, line, demand, capacity, setup, unit, holding);
+    roomy(Path::Uncapped, line, demand, capacity, setup, unit, holding);
+    roomy(Path::Equal, line, demand, capacity, setup, unit, holding);
 }
 
 // One path in as many cost cells, choice cells and slots as field 6 says.
 pub fn lent(
     path: Path,
-    name: &[u8],
     line: &[u8],
     demand: &[u16],
     capacity: &[u16],
@@ -321,14 +310,14 @@ pub fn lent(
     text::rates(text::field(line, 6), 1, &mut memory);
     within(
         path,
-        name,
+        line,
         demand,
         capacity,
         setup,
         unit,
         holding,
-        size(memory[0]),
-        size(memory[1]),
-        size(memory[2]),
+        text::size(memory[0]),
+        text::size(memory[1]),
+        text::size(memory[2]),
     );
 }

@@ -20,14 +20,14 @@ pub fn refusal(r: Refusal) {
     number(b" period ", r.period() as u64);
 }
 
-fn wide(x: u16) -> u64 {
-    x as u64
+fn amount(x: u16) {
+    number(b" ", x as u64);
 }
 
 pub fn amounts(plan: &[u16]) {
     let mut k = 0;
     while k < plan.len() {
-        number(b" ", wide(plan[k]));
+        amount(plan[k]);
         k += 1;
     }
 }
@@ -57,5 +57,21 @@ pub fn bytes(part: &[u8]) {
 pub fn unless(kept: bool) {
     if !kept {
         text(b", WRONG CELLS");
+    }
+}
+
+fn one_count(k: usize, n: u64) {
+    if 0 < n {
+        number(b" ", k as u64);
+        number(b": ", n);
+    }
+}
+
+// How many there are of each kind.
+pub fn counts(of: [u64; 16]) {
+    let mut k = 0;
+    while k < 16 {
+        one_count(k, of[k]);
+        k += 1;
     }
 }

@@ -3,6 +3,16 @@ ghost use mathlib.Core.Path.{_≡_};
 ghost use Prim.Native.Nat.{_≤_, _<_};
 ghost use lib.ListN.{length};
 
+pub fn wide(x: u16) -> usize
+    ensures { λ r. ⌜ r ≤ 65535 ⌝ }
+{
+    x as usize
+}
+
+pub fn size(x: u32) -> usize {
+    x as usize
+}
+
 pub fn least(a: usize, b: usize) -> usize
     ensures { λ r. ⌜ (r ≤ a) × (r ≤ b) ⌝ }
 {
@@ -52,6 +62,23 @@ fn field_start(line: &[u8], k: usize) -> usize
 pub fn field(line: &[u8], k: usize) -> &[u8] {
     let from = field_start(line, k);
     let to = find(line, from, b';', true);
+    &line[from..to]
+}
+
+// The kind of a trial: a line's first word.
+pub fn kind(line: &[u8]) -> &[u8] {
+    let to = find(line, 0, b' ', true);
+    &line[0..to]
+}
+
+// Its name: from there to the first ';'.
+pub fn name(line: &[u8]) -> &[u8] {
+    let to = find(line, 0, b';', true);
+    let space = find(line, 0, b' ', true);
+    if to <= space {
+        return &line[to..to];
+    }
+    let from = space + 1;
     &line[from..to]
 }
 

@@ -8,8 +8,8 @@ use weigher::Rule;
 use weigher::Verdict;
 use weigher::Weighed;
 
-fn broken(rule: Rule, period: usize) {
-    print::number(b" broken ", rule.number());
+fn broken(rule: Rule, period: u16) {
+    print::number(b" broken ", rule.number() as u64);
     print::number(b" period ", period as u64);
 }
 
@@ -42,7 +42,6 @@ fn print_difference(d: i64) {
 
 // The plan of field 6.
 pub fn weigh(
-    name: &[u8],
     line: &[u8],
     demand: &[u16],
     capacity: &[u16],
@@ -52,7 +51,7 @@ pub fn weigh(
 ) {
     let mut plan = [0u16; 128];
     let n = text::amounts(text::field(line, 6), &mut plan);
-    print::text(name);
+    print::text(text::name(line));
     match weigher::weigh(demand, capacity, setup, unit, holding, &plan[0..n]) {
         Weighed::Refused(r) => print::refusal(r),
         Weighed::Judged(v) => print_verdict(v),
@@ -62,7 +61,6 @@ pub fn weigh(
 
 // The plans of fields 6 and 7.
 pub fn compare(
-    name: &[u8],
     line: &[u8],
     demand: &[u16],
     capacity: &[u16],
@@ -74,7 +72,7 @@ pub fn compare(
     let mut other = [0u16; 128];
     let n = text::amounts(text::field(line, 6), &mut plan);
     let m = text::amounts(text::field(line, 7), &mut other);
-    print::text(name);
+    print::text(text::name(line));
     match weigher::compare(
         demand,
         capacity,

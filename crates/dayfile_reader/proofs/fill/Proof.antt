@@ -1,11 +1,10 @@
 -- `dayfile_reader::fill` meets its contract. The loop's invariant: the first k cells of each table hold the numbers of the file's
 -- first k periods, and record k begins at `at`. The measure is how many periods are left. Assumes nothing.
 use mathlib.Core.Path.{_≡_, refl}
-use mathlib.Core.List.{List}
-use Prim.Native.Nat.{ℕ, _+_, _-_}
+use Prim.Native.Nat.{_-_}
 use native.Mathlib.Omega.{arith}
 use denote.Ref.{now}
-use Rattle.day.specs.Day.{Day, dayOf}
+use Rattle.day.specs.Day.{dayOf}
 use Rattle.dayfile.specs.Layout.{WholePeriod, body-part, period-body}
 use Rattle.dayfile_reader.specs.Tables.{cells-here, PeriodsRead, period-here, read-turn}
 use Rattle.dayfile_reader.proofs.fill.Statement.{statement}

@@ -1,5 +1,5 @@
 -- `dayfile_reader::tests` meets its contract: the file's refusal, or that of the room after it, or that of the values. Assumes nothing.
-use mathlib.Core.Path.{_≡_, refl, _∙_}
+use mathlib.Core.Path.{_≡_, refl}
 use mathlib.Core.List.{List, [], _∷_, _++_}
 use mathlib.Core.Option.{Option, none}
 use Prim.Native.Nat.{ℕ}

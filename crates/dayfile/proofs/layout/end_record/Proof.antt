@@ -1,6 +1,6 @@
 -- `dayfile::layout::end_record` meets its contract: each `return` by the tests before it. Assumes nothing.
 use mathlib.Core.Path.{_≡_, sym, _∙_}
-use mathlib.Core.Bool.{true, false, not, _&&_}
+use mathlib.Core.Bool.{false, not, _&&_}
 use mathlib.Core.List.{List}
 use Prim.Native.Nat.{ℕ, _≤_}
 use native.Mathlib.Omega.{arith}

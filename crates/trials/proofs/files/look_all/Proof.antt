@@ -6,10 +6,10 @@ use Rattle.trials.proofs.files.look_all.Statement.{statement}
 use Rattle.trials.proofs.files.look_all.Tie as tie
 
 abbrev Inv-loop : tie.InvT-loop
-Inv-loop name file periods i₀ i = i ≤ length periods
+Inv-loop line file periods i₀ i = i ≤ length periods
 
 abbrev μ-loop : tie.MeasureT-loop
-μ-loop name file periods i₀ i = length periods - i
+μ-loop line file periods i₀ i = length periods - i
 
 pub look-all-spec : {M : Type 1} → statement M
 look-all-spec =

@@ -6,10 +6,10 @@ use Rattle.trials.proofs.print.amounts.Statement.{statement}
 use Rattle.trials.proofs.print.amounts.Tie as tie
 
 abbrev Inv-loop : tie.InvT-loop
-Inv-loop plan k₀ t3 k = k ≤ length plan
+Inv-loop plan k₀ k = k ≤ length plan
 
 abbrev μ-loop : tie.MeasureT-loop
-μ-loop plan k₀ t3 k = length plan - k
+μ-loop plan k₀ k = length plan - k
 
 pub amounts-spec : {M : Type 1} → statement M
 amounts-spec =
@@ -20,8 +20,6 @@ amounts-spec =
     (λ c. search needs)
     (λ c. search needs)
     (λ c. search needs)
-    (λ c. search needs)
-    (λ c κs. search needs)
     (λ c κs. search needs)
     (λ c. search needs)
     (λ c. search needs)

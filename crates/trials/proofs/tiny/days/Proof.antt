@@ -5,10 +5,10 @@ use Rattle.trials.proofs.tiny.days.Statement.{statement}
 use Rattle.trials.proofs.tiny.days.Tie as tie
 
 abbrev Inv-loop : tie.InvT-loop
-Inv-loop capacities seed count t₀ i₀ t i = i ≤ count
+Inv-loop capacities seed days counts₀ s₀ i₀ counts s i = i ≤ days
 
 abbrev μ-loop : tie.MeasureT-loop
-μ-loop capacities seed count t₀ i₀ t i = count - i
+μ-loop capacities seed days counts₀ s₀ i₀ counts s i = days - i
 
 pub days-spec : {M : Type 1} → statement M
 days-spec =
@@ -16,7 +16,6 @@ days-spec =
     (tie.spec
     Inv-loop
     μ-loop
-    (λ c κs. search needs)
     (λ c. search needs)
     (λ c κs. search needs)
     (λ c. search needs)
