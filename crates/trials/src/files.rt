@@ -122,7 +122,7 @@ fn written_alike(
     }
 }
 
-// What the reader says of a file; whether what it read is written to the same bytes; whether all other cells were left alone.
+// What the reader says of a file; whether tables that it filled are written to the same bytes; whether it left all other cells alone.
 struct Fate {
     answer: ReadAnswer,
     alike: bool,
@@ -137,40 +137,6 @@ fn periods(answer: ReadAnswer) -> usize {
     }
 }
 
-fn judge(
-    file: &[u8],
-    answer: ReadAnswer,
-    demand: &[u16],
-    capacity: &[u16],
-    setup: &[u32],
-    unit: &[u32],
-    holding: &[u32],
-) -> Fate {
-    let n = text::least(periods(answer), demand.len());
-    let kept = tables_kept(n, demand, capacity, setup, unit, holding);
-    let rates = text::least(setup.len(), text::least(unit.len(), holding.len()));
-    if text::least(capacity.len(), rates) < n {
-        return Fate {
-            answer,
-            alike: false,
-            kept,
-        };
-    }
-    let alike = written_alike(
-        file,
-        &demand[0..n],
-        &capacity[0..n],
-        &setup[0..n],
-        &unit[0..n],
-        &holding[0..n],
-    );
-    Fate {
-        answer,
-        alike: alike || n == 0,
-        kept,
-    }
-}
-
 fn read_into(
     file: &[u8],
     demand: &mut [u16],
@@ -180,24 +146,38 @@ fn read_into(
     holding: &mut [u32],
 ) -> Fate {
     let answer = dayfile_reader::read(file, demand, capacity, setup, unit, holding);
-    judge(file, answer, demand, capacity, setup, unit, holding)
+    let n = periods(answer);
+    let kept = tables_kept(n, demand, capacity, setup, unit, holding);
+    if n != demand.len() {
+        return Fate {
+            answer,
+            alike: true,
+            kept,
+        };
+    }
+    let alike = written_alike(file, demand, capacity, setup, unit, holding);
+    Fate {
+        answer,
+        alike,
+        kept,
+    }
 }
 
-// The reader, with so many cells in the demand table and 97 in the others.
+// The reader, with so many cells in each table.
 fn read(file: &[u8], room: usize) -> Fate {
-    let mut demand = [MARK; 97];
-    let mut capacity = [MARK; 97];
-    let mut setup = [119u32; 97];
-    let mut unit = [119u32; 97];
-    let mut holding = [119u32; 97];
-    let k = text::least(room, 97);
+    let mut demand = [MARK; 98];
+    let mut capacity = [MARK; 98];
+    let mut setup = [119u32; 98];
+    let mut unit = [119u32; 98];
+    let mut holding = [119u32; 98];
+    let k = text::least(room, 98);
     read_into(
         file,
         &mut demand[0..k],
-        &mut capacity,
-        &mut setup,
-        &mut unit,
-        &mut holding,
+        &mut capacity[0..k],
+        &mut setup[0..k],
+        &mut unit[0..k],
+        &mut holding[0..k],
     )
 }
 
@@ -235,7 +215,7 @@ fn look_all(line: &[u8], file: &[u8], periods: &[u16]) {
     }
 }
 
-// The file of field 1: read with as many cells as field 2 says, and the periods of field 3 looked up.
+// The file of field 1: read into tables of as many cells as field 2 says, and the periods of field 3 looked up.
 pub fn file(line: &[u8]) {
     let mut file = [0u8; 1700];
     let mut asked = [0u16; 8];
@@ -263,7 +243,7 @@ fn number_of(f: Fate) -> usize
 }
 
 fn tally(file: &[u8], counts: &mut [u64; 16]) {
-    cells::count(counts, number_of(read(file, 96)));
+    cells::count(counts, number_of(read(file, 2)));
 }
 
 fn cuts(file: &[u8], counts: &mut [u64; 16]) {
@@ -274,7 +254,7 @@ fn cuts(file: &[u8], counts: &mut [u64; 16]) {
     }
 }
 
-// The file of field 1, cut at every length.
+// The file of field 1, of two periods, cut at every length.
 pub fn cut(line: &[u8]) {
     let mut file = [0u8; 1700];
     let mut counts = [0u64; 16];
@@ -319,21 +299,7 @@ pub fn change(line: &[u8]) {
     print::end();
 }
 
-fn print_written(answer: WriteAnswer, out: &[u8]) {
-    match answer {
-        WriteAnswer::Refused(r) => {
-            print::refusal(r);
-            print::unless(cells::bytes_left(out, 0, false));
-        }
-        WriteAnswer::Bytes(m) => {
-            let end = text::least(m, out.len());
-            print::bytes(&out[0..end]);
-            print::unless(cells::bytes_left(out, m, false));
-        }
-    }
-    print::end();
-}
-
+// The writer, and what the reader says of the file that it made.
 fn write_into(
     demand: &[u16],
     capacity: &[u16],
@@ -342,50 +308,34 @@ fn write_into(
     holding: &[u32],
     out: &mut [u8],
 ) {
-    let answer = dayfile_writer::write(demand, capacity, setup, unit, holding, out);
-    print_written(answer, out);
-}
-
-// The writer, with as many bytes of room as field 6 says, at most 64.
-pub fn write(
-    line: &[u8],
-    demand: &[u16],
-    capacity: &[u16],
-    setup: &[u32],
-    unit: &[u32],
-    holding: &[u32],
-) {
-    let mut out = [FILL; 64];
-    let mut asked = [0u32; 1];
-    text::rates(text::field(line, 6), 1, &mut asked);
-    let room = text::least(text::size(asked[0]), 64);
-    print::text(text::name(line));
-    write_into(demand, capacity, setup, unit, holding, &mut out[0..room]);
-}
-
-// A day's file: how long it is, and what the reader says of it.
-pub fn round(
-    line: &[u8],
-    demand: &[u16],
-    capacity: &[u16],
-    setup: &[u32],
-    unit: &[u32],
-    holding: &[u32],
-) {
-    let mut out = [FILL; 1637];
-    print::text(text::name(line));
-    print::text(b" file");
-    match dayfile_writer::write(demand, capacity, setup, unit, holding, &mut out) {
+    match dayfile_writer::write(demand, capacity, setup, unit, holding, out) {
         WriteAnswer::Refused(r) => {
             print::refusal(r);
-            print::unless(cells::bytes_left(&out, 0, false));
+            print::unless(cells::bytes_left(out, 0, false));
             print::end();
         }
         WriteAnswer::Bytes(m) => {
-            let end = text::least(m, 1637);
+            let end = text::least(m, out.len());
             print::number(b" bytes ", m as u64);
-            print::unless(cells::bytes_left(&out, m, false));
-            print_fate(read(&out[0..end], 97));
+            print::unless(cells::bytes_left(out, m, false));
+            print_fate(read(&out[0..end], demand.len()));
         }
     }
+}
+
+// With so many bytes of room.
+pub fn write(
+    line: &[u8],
+    room: usize,
+    demand: &[u16],
+    capacity: &[u16],
+    setup: &[u32],
+    unit: &[u32],
+    holding: &[u32],
+) {
+    let mut out = [FILL; 1640];
+    let end = text::least(room, 1640);
+    print::text(text::name(line));
+    print::text(b" file");
+    write_into(demand, capacity, setup, unit, holding, &mut out[0..end]);
 }

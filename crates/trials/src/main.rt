@@ -23,7 +23,7 @@ fn day(
     if check::same(kind, b"day") {
         paths::all(line, demand, capacity, setup, unit, holding);
         tiny::searched(line, demand, capacity, setup, unit, holding);
-        return files::round(line, demand, capacity, setup, unit, holding);
+        return files::write(line, 1640, demand, capacity, setup, unit, holding);
     }
     if check::same(kind, b"weigh") {
         return weighing::weigh(line, demand, capacity, setup, unit, holding);
@@ -32,7 +32,15 @@ fn day(
         return weighing::compare(line, demand, capacity, setup, unit, holding);
     }
     if check::same(kind, b"write") {
-        return files::write(line, demand, capacity, setup, unit, holding);
+        return files::write(
+            line,
+            text::size_at(line),
+            demand,
+            capacity,
+            setup,
+            unit,
+            holding,
+        );
     }
     paths::lent(
         paths::named(kind),

@@ -238,3 +238,10 @@ pub fn rates(s: &[u8], n: usize, table: &mut [u32]) -> usize
     }
     k
 }
+
+// The number of field 6.
+pub fn size_at(line: &[u8]) -> usize {
+    let mut sizes = [0u32; 1];
+    rates(field(line, 6), 1, &mut sizes);
+    size(sizes[0])
+}

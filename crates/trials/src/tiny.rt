@@ -178,11 +178,6 @@ pub fn made_up(line: &[u8]) {
     print::text(b"made-up ");
     print::text(text::name(line));
     print::text(text::field(line, 1));
-    print::number(b" planned ", counts[0]);
-    print::number(b" full ", counts[1]);
-    print::number(b" uncapped ", counts[2]);
-    print::number(b" equal ", counts[3]);
-    print::number(b" refused ", counts[4]);
-    print::number(b" cells ", counts[5]);
+    print::counts(counts);
     print::end();
 }
