@@ -1,16 +1,17 @@
 -- What the calls on day files answer, and what they leave in lent memory; document 01's order of their tests.
--- Main definitions: `Lookup`, `Reading` and `Writing`, the contracts of the calls. Assumes nothing.
+-- Main definitions: `Lookup`, `Reading` and `Writing`, the contracts of the calls; `readFigures`, `writeFigures`. Assumes nothing.
 use mathlib.Core.Path.{_≡_}
 use mathlib.Core.Option.{Option, none, some}
 use mathlib.Core.List.{List, [], _∷_, _++_}
 use Prim.Native.Nat.{ℕ, _+_, _-_, _≤_, min}
-use lib.ListN.{length, drop}
+use lib.ListN.{length, take, drop}
 use denote.Ref.{RefT, now}
 use Rattle.day.specs.Sums.{listOf}
-use Rattle.day.specs.Day.{Day, dayOf}
+use Rattle.day.specs.Day.{Day, dayOf, periods}
 use Rattle.day.specs.File.{body, recordAt, number2, number4, periodsIn, walk, noSuchPeriod, field, dayIn, fileOf}
-use Rattle.day.specs.Refusals.{first, badCount, badSlots, badValue, tableTests}
+use Rattle.day.specs.Refusals.{Gives, first, badCount, badSlots, badValue, tableTests}
 use Rattle.day.specs.declared.Refusal.{Refusal}
+use Rattle.day.specs.Figures.{Figures, acceptedWith, refusedWith}
 use Rattle.dayfile.specs.declared.ReadAnswer.{ReadAnswer}
 use Rattle.dayfile.specs.declared.ReadAnswer.the-variants.{Refused, Periods}
 use Rattle.dayfile.specs.declared.WriteAnswer.{WriteAnswer}
@@ -74,9 +75,29 @@ withPeriods s k tables =
 abbrev pub withDay : List ℕ → Day → Day
 withDay s tables = withPeriods s (periodsIn s) tables
 
--- refused, no cell changes; accepted, the count of periods is given and their numbers fill the tables' first cells
+-- a day at the tables' front, whose later cells stay; and the tables' first n cells as a day
+abbrev pub withTables : Day → Day → Day
+withTables d tables =
+    let n = periods d in
+    dayOf
+    (d .demand ++ drop n (tables .demand))
+    (d .capacity ++ drop n (tables .capacity))
+    (d .setup ++ drop n (tables .setup))
+    (d .unit ++ drop n (tables .unit))
+    (d .holding ++ drop n (tables .holding))
+
+abbrev pub firstOf : ℕ → Day → Day
+firstOf n tables =
+    dayOf (take n (tables .demand)) (take n (tables .capacity)) (take n (tables .setup)) (take n (tables .unit)) (take n (tables .holding))
+
+-- a reading's answer in figures: the count of periods
+abbrev pub readFigures : ReadAnswer → Figures ℕ
+readFigures (Refused r) = refusedWith r
+readFigures (Periods n) = acceptedWith (n ∷ [])
+
+-- refused, by number and period, no cell changes; accepted, the count of periods is given and their numbers fill the tables' first cells
 abbrev pub Reading : List ℕ → Day → ReadAnswer → Day → Type 0
-Reading s before (Refused r) after = (badRead s (shortest before) ≡ some r) × (after ≡ before)
+Reading s before (Refused r) after = Gives (badRead s (shortest before)) r × (after ≡ before)
 Reading s before (Periods n) after = (badRead s (shortest before) ≡ none) × (n ≡ periodsIn s) × (after ≡ withDay s before)
 
 -- a writing: 1, 2, 3, and 6 where the slice is shorter than the file
@@ -87,7 +108,12 @@ badWrite d room = first (tableTests d ++ (badSlots room (length (fileOf d)) ∷ 
 abbrev pub withFile : Day → List ℕ → List ℕ
 withFile d out = fileOf d ++ drop (length (fileOf d)) out
 
--- refused, no byte changes; accepted, the file is written and its length given
+-- a writing's answer in figures: the count of bytes
+abbrev pub writeFigures : WriteAnswer → Figures ℕ
+writeFigures (Write.Refused r) = refusedWith r
+writeFigures (Write.Bytes n) = acceptedWith (n ∷ [])
+
+-- refused, by number and period, no byte changes; accepted, the file is written and its length given
 abbrev pub Writing : Day → List ℕ → WriteAnswer → List ℕ → Type 0
-Writing d before (Write.Refused r) after = (badWrite d (length before) ≡ some r) × (after ≡ before)
+Writing d before (Write.Refused r) after = Gives (badWrite d (length before)) r × (after ≡ before)
 Writing d before (Write.Bytes n) after = (badWrite d (length before) ≡ none) × (n ≡ length (fileOf d)) × (after ≡ withFile d before)

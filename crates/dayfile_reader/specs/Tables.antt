@@ -1,6 +1,5 @@
 -- The lent tables: filled by the reader, period by period.
--- Main statements: `read-passed`, what an accepted reading tells; `read-turn`, a turn of the loop that fills; `day-in-front`, what it
--- leaves. Assumes nothing.
+-- Main statements: `read-passed`, what an accepted reading tells; `read-turn`, a turn of the loop that fills. Assumes nothing.
 use mathlib.Core.Path.{_≡_, refl, ap, _∙_}
 use mathlib.Core.List.{List, [], _∷_, _++_}
 use mathlib.Core.Option.{none}
@@ -80,22 +79,6 @@ same-cells s k before after e w =
       unit = with-length _ k _ (w .unit);
       holding = with-length _ k _ (w .holding);
     })
-
--- the first n cells of filled tables are the file's day
-with-front : (f : ℕ → ℕ) (n : ℕ) (l : List ℕ) → take (n - 0) (withFirst f n l) ≡ listOf f n
-with-front f n l = take-at (listOf f n) (drop n l) (n - 0) (rw length-listOf (omega arith))
-
-abbrev pub firstOf : ℕ → Day → Day
-firstOf n tables =
-    dayOf
-    (take (n - 0) (tables .demand))
-    (take (n - 0) (tables .capacity))
-    (take (n - 0) (tables .setup))
-    (take (n - 0) (tables .unit))
-    (take (n - 0) (tables .holding))
-
-pub day-in-front : (s : List ℕ) (n : ℕ) (before after : Day) → n ≡ periodsIn s → after ≡ withDay s before → firstOf n after ≡ dayIn s
-day-in-front s n before after e w = rw (e, w) (simp with-front)
 
 -- one period more
 periods-more : (s : List ℕ) (k : ℕ) (before : Day) → Cells (suc k) before
