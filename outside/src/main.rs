@@ -4,13 +4,12 @@
 //!
 //! A failure prints the smallest failing input that is found, with what was expected and what was seen.
 mod compare;
-mod input;
 mod itself;
-mod plain;
-mod random;
+mod published;
 mod shrink;
 
 use input::{Call, Input, Size, CALLS};
+use outside::{input, plain, random};
 use random::Random;
 use std::process::exit;
 use std::time::Instant;
@@ -143,8 +142,13 @@ fn main() {
     for call in [Call::Read, Call::Lookup] {
         run.try_input(&long_file(call));
     }
+    let published = published::inputs();
+    for input in &published {
+        run.try_input(input);
+    }
     let refused = (1..=13).map(|number| format!("{number}: {}", run.refused[number])).collect::<Vec<_>>().join(", ");
     println!("outside: seed {seed}, {} inputs of {} calls as the plain implementation has them", run.inputs, CALLS.len());
     println!("accepted {}, broken plans {}, refused {refused}", run.accepted, run.broken);
+    println!("published instances: {} inputs, each with the published plan and cost", published.len());
     eprintln!("{} seconds", start.elapsed().as_secs());
 }

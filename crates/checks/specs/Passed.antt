@@ -1,30 +1,31 @@
 -- What a caller of the tests learns. Main statements, in document 01's order of the tests:
---     passed, refused             an answer, as the refusal of the conditions that were tested
---     first-passed, first-refused the first refusal of a list from that of its first part: how the answers of several calls join
---     tables-passed               1, 2, 3: what `Limits` says of the tables
---     total-passed                4
---     memory-passed               5, 6
+--     tables-passed, day-passed             1, 2, 3: what `Limits` says of the tables; 4
 --     shortage-passed, shortage-refused     7: R ≤ C throughout; the first period in which it is not
---     equal-passed                8
---     binding-passed              9
+--     equal-passed                          8
+--     binding-passed                        9
+--     admitted                              all tests of a path: what its work relies on
 -- Assumes nothing.
-use mathlib.Core.Path.{_≡_, refl, sym, _∙_}
-use mathlib.Core.Bool.{Bool, true, false, not, _||_, true≢false}
-use mathlib.Core.List.{List, [], _∷_, _++_}
+use mathlib.Core.Path.{_≡_, refl, sym, ap, _∙_}
+use mathlib.Core.Bool.{Bool, false, not, _||_}
+use mathlib.Core.List.{List, [], _∷_}
 use mathlib.Core.Option.{Option, none, some, Option·none-ne-some, Option·some-ne-none, Option·some-injective}
-use Prim.Native.Nat.{ℕ, zero, suc, _+_, _-_, _*_, _≤_, _<_}
+use Prim.Native.Nat.{ℕ, zero, suc, _+_, _-_, _≤_, _<_}
 use native.Mathlib.Omega.{arith}
 use lib.Dec.{ltb, eqb}
 use lib.ListN.{length}
-use borrow.Author.Tests.{ltb-true, ltb-false, eqb-true, eqb-false, not-false}
+use borrow.Author.Tests.{ltb-true, ltb-false, le-ltb, eqb-true, eqb-false, eq-eqb, ne-eqb, not-false}
 use Rattle.day.specs.declared.Refusal.{Refusal}
-use Rattle.day.specs.declared.Refusal.the-variants.{PeriodCount, TableLength, AboveLimit, TotalDemand, ShortArea, FewSlots, Shortage, UnequalCapacities, BindingCapacity}
-use Rattle.day.specs.declared.Check.{Check}
-use Rattle.day.specs.declared.Check.the-variants.{Passed, Refused}
-use Rattle.day.specs.Sums.{at, sumTo}
-use Rattle.day.specs.Find.{find, none-found, some-found}
-use Rattle.day.specs.Day.{Day, periods, maxPeriods, maxDemand, maxCapacity, maxSetup, maxRate, maxTotal, demandTo, capacityTo, total}
-use Rattle.day.specs.Refusals.{refuse, refuseAt, anywhere, first, checked, badCount, badLengths, aboveLimit, badTables, badTotal, badAreas, badSlots, short, shortage, differs, unequal, binds, binding}
+use Rattle.day.specs.declared.Refusal.the-variants.{PeriodCount, TableLength, AboveLimit, TotalDemand, ShortArea, FewSlots}
+use Rattle.day.specs.declared.Refusal.the-variants.{Shortage, UnequalCapacities, BindingCapacity}
+use Rattle.day.specs.Sums.{at}
+use Rattle.day.specs.Find.{find, none-found, nothing-found, some-found}
+use Rattle.day.specs.Day.{Day, periods, maxPeriods, maxDemand, maxCapacity, maxSetup, maxRate, maxTotal}
+use Rattle.day.specs.Day.{demandTo, capacityTo, total}
+use Rattle.day.specs.Refusals.{numberOf, periodOf, refuseAt, anywhere, first, badCount, badLengths, aboveLimit, badValue, tableTests, badTotal, dayTests}
+use Rattle.day.specs.Refusals.{badAreas, badSlots, short, shortage, differs, unequal, binds, binding}
+use Rattle.day.specs.Tests.{first-split, first-passed, first-one, not-refused, nowhere, neither}
+use Rattle.day.specs.Outcome.{Path, Sizes, Roomy, memoryTests, pathTests, refusal}
+use Rattle.checks.specs.declared.Needed.{Needed}
 
 -- every table is as long as the demand table
 pub record SameLengths (d : Day) : Type 0 where
@@ -32,6 +33,11 @@ pub record SameLengths (d : Day) : Type 0 where
   pub setup : length (d .setup) ≡ periods d
   pub unit : length (d .unit) ≡ periods d
   pub holding : length (d .holding) ≡ periods d
+
+-- at most 96 periods in tables of one length
+pub record Readable (d : Day) : Type 0 where
+  pub few : periods d ≤ maxPeriods
+  pub lengths : SameLengths d
 
 -- the values of period k + 1 are within their limits
 pub record Within (d : Day) (k : ℕ) : Type 0 where
@@ -48,78 +54,22 @@ pub record Limits (d : Day) : Type 0 where
   pub lengths : SameLengths d
   pub within : (k : ℕ) → k < periods d → Within d k
 
--- the sum of a table of at most 96 16-bit numbers
-pub record TotalIs (table : List ℕ) (r : ℕ) : Type 0 where
-  pub is : r ≡ sumTo (at table) (length table)
-  pub low : r ≤ maxPeriods * maxCapacity
-
--- what tests 5 and 6 leave
-pub record Enough (costs costCells choices choiceCells slots n : ℕ) : Type 0 where
-  pub cost : costCells ≤ costs
-  pub choice : choiceCells ≤ choices
-  pub slot : n ≤ slots
-
--- what test 7 refuses: the first period k + 1 with R above C
+-- what test 7 refuses, by document 01's numbers: the first period k + 1 with R above C
 pub record FirstShort (d : Day) (r : Refusal) : Type 0 where
   pub k : ℕ
-  pub is : r ≡ Shortage (suc k)
+  pub number : numberOf r ≡ 7
+  pub period : periodOf r ≡ suc k
   pub inside : k < periods d
   pub above : capacityTo d (suc k) < demandTo d (suc k)
   pub earlier : (j : ℕ) → j < k → demandTo d (suc j) ≤ capacityTo d (suc j)
 
-passed≢refused : {r : Refusal} → Passed ≡ Refused r → ⊥
-passed≢refused e = let z : _≡_ {A = ℕ} 0 1 = cc in omega arith
-
--- what an answer says of the conditions that were tested
-pub passed : (o : Option Refusal) {answer : Check} → answer ≡ checked o → answer ≡ Passed → o ≡ none
-passed none is e = refl
-passed (some r) is e = absurd (passed≢refused (sym e ∙ is))
-
-pub refused : (o : Option Refusal) {answer : Check} {r : Refusal} → answer ≡ checked o → answer ≡ Refused r → o ≡ some r
-refused none is e = absurd (passed≢refused (sym is ∙ e))
-refused (some r) is e = cc
-
--- a list whose first part has a refusal, or none
-pub first-refused : (xs ys : List (Option Refusal)) {r : Refusal} → first xs ≡ some r → first (xs ++ ys) ≡ some r
-first-refused [] ys e = absurd (Option·none-ne-some _ e)
-first-refused (none ∷ xs) ys e = first-refused xs ys e
-first-refused (some r ∷ xs) ys e = e
-
-pub first-passed : (xs ys : List (Option Refusal)) → first xs ≡ none → first (xs ++ ys) ≡ first ys
-first-passed [] ys e = refl
-first-passed (none ∷ xs) ys e = first-passed xs ys e
-first-passed (some r ∷ xs) ys e = absurd (Option·some-ne-none _ e)
-
--- the last of a list
-pub first-one : (o : Option Refusal) → first (o ∷ []) ≡ o
-first-one none = refl
-first-one (some r) = refl
-
--- in a list without refusals every condition gives none
-abbrev EachNone : List (Option Refusal) → Type 0
-EachNone [] = Unit {0}
-EachNone (o ∷ rest) = (o ≡ none) × EachNone rest
-
-each-none : (os : List (Option Refusal)) → first os ≡ none → EachNone os
-each-none [] e = tt
-each-none (none ∷ rest) e = (refl, each-none rest e)
-each-none (some r ∷ rest) e = absurd (Option·some-ne-none _ e)
-
--- a condition that gives no refusal does not hold
-not-refused : (b : Bool) (r : Refusal) → refuse b r ≡ none → b ≡ false
-not-refused true r e = absurd (Option·some-ne-none _ e)
-not-refused false r e = refl
-
-nowhere : (r : ℕ → Refusal) (o : Option ℕ) → refuseAt r o ≡ none → o ≡ none
-nowhere r none e = refl
-nowhere r (some k) e = absurd (Option·some-ne-none _ e)
-
-neither : (a b : Bool) → (a || b) ≡ false → (a ≡ false) × (b ≡ false)
-neither true b e = absurd (true≢false e)
-neither false b e = (refl, e)
+-- what a path needs for n periods and R over the day
+pub record NeededBy (P : Path) (n R : ℕ) (r : Needed) : Type 0 where
+  pub costs : r .costs ≡ P .costCells n R
+  pub choices : r .choices ≡ P .choiceCells n R
 
 -- 1
-count-passed : (n : ℕ) → badCount n ≡ none → (1 ≤ n) × (n ≤ maxPeriods)
+pub count-passed : (n : ℕ) → badCount n ≡ none → (1 ≤ n) × (n ≤ maxPeriods)
 count-passed n e =
     let t = neither (eqb n 0) (ltb maxPeriods n) (not-refused _ PeriodCount e) in
     (positive n (eqb-false n 0 (t .0)), ltb-false maxPeriods n (t .1))
@@ -168,34 +118,46 @@ values-within d k e =
       holding = ltb-false _ _ (rcbp-h .1);
     }
 
--- 1, 2, 3, whatever is tested after them
-pub tables-passed : (d : Day) (rest : List (Option Refusal)) → first (badTables d rest) ≡ none → Limits d
-tables-passed d rest e =
-    let each = each-none (badTables d rest) e in
-    let n = count-passed (periods d) (each .0) in
+-- 1, 2, 3
+pub tables-passed : (d : Day) → first (tableTests d) ≡ none → Limits d
+tables-passed d e =
+    let one = first-split (badCount (periods d) ∷ []) (badLengths d ∷ badValue d ∷ []) e in
+    let two = first-split (badLengths d ∷ []) (badValue d ∷ []) (one .1) in
+    let n = count-passed (periods d) (rw first-one at (one .0)) in
+    let value = nowhere AboveLimit (find (aboveLimit d) (periods d)) (rw first-one at (two .1)) in
     record {
       nonempty = n .0;
       few = n .1;
-      lengths = lengths-passed d (each .1 .0);
-      within = λ k l. values-within d k (none-found (aboveLimit d) (periods d) (nowhere AboveLimit _ (each .1 .1 .0)) k l);
+      lengths = lengths-passed d (rw first-one at (two .0));
+      within = λ k l. values-within d k (none-found (aboveLimit d) (periods d) value k l);
     }
 
--- 4, after these
-pub total-passed : (d : Day) (rest : List (Option Refusal)) → first (badTables d (badTotal d ∷ rest)) ≡ none → total d ≤ maxTotal
-total-passed d rest e = ltb-false _ _ (not-refused _ TotalDemand (each-none (badTables d (badTotal d ∷ rest)) e .1 .1 .1 .0))
+-- what tests 1 to 4 leave
+pub record DayLimits (d : Day) : Type 0 where
+  pub limits : Limits d
+  pub total : total d ≤ maxTotal
+
+pub day-passed : (d : Day) → first (dayTests d) ≡ none → DayLimits d
+day-passed d e =
+    let t = first-split (tableTests d) (badTotal d ∷ []) e in
+    record {
+      limits = tables-passed d (t .0);
+      total = ltb-false _ _ (not-refused (ltb maxTotal (total d)) TotalDemand (rw first-one at (t .1)));
+    }
 
 -- 5, 6
-pub memory-passed :
-    (costs costCells choices choiceCells slots n : ℕ) (rest : List (Option Refusal))
-    → first (badAreas costs costCells choices choiceCells ∷ badSlots slots n ∷ rest) ≡ none
-    → Enough costs costCells choices choiceCells slots n
-memory-passed costs costCells choices choiceCells slots n rest e =
-    let each = each-none (badAreas costs costCells choices choiceCells ∷ badSlots slots n ∷ rest) e in
-    let t = neither (ltb costs costCells) (ltb choices choiceCells) (not-refused _ ShortArea (each .0)) in
+memory-passed : (P : Path) (d : Day) (s : Sizes) → first (memoryTests P d s) ≡ none → Roomy P d s
+memory-passed P d s e =
+    let n = periods d in
+    let R = total d in
+    let areas = badAreas (s .costs) (P .costCells n R) (s .choices) (P .choiceCells n R) in
+    let t = first-split (areas ∷ []) (badSlots (s .slots) n ∷ []) e in
+    let short = ltb (s .costs) (P .costCells n R) || ltb (s .choices) (P .choiceCells n R) in
+    let a = neither (ltb (s .costs) (P .costCells n R)) (ltb (s .choices) (P .choiceCells n R)) (not-refused short ShortArea (rw first-one at (t .0))) in
     record {
-      cost = ltb-false _ _ (t .0);
-      choice = ltb-false _ _ (t .1);
-      slot = ltb-false _ _ (not-refused _ FewSlots (each .1 .0));
+      costs = ltb-false _ _ (a .0);
+      choices = ltb-false _ _ (a .1);
+      slots = ltb-false _ _ (not-refused (ltb (s .slots) n) FewSlots (rw first-one at (t .1)));
     }
 
 -- 7: R_i ≤ C_i throughout
@@ -211,7 +173,8 @@ shortage-refused d r e = go (find (short d) (periods d)) refl e
         let f = some-found (short d) (periods d) k found in
         record {
           k = k;
-          is = sym (Option·some-injective _ _ s);
+          number = sym (ap numberOf (Option·some-injective _ _ s));
+          period = sym (ap periodOf (Option·some-injective _ _ s));
           inside = f .inside;
           above = ltb-true _ _ (f .passes);
           earlier = λ j l. ltb-false _ _ (f .first j l);
@@ -230,3 +193,43 @@ pub binding-passed : (d : Day) → binding d ≡ none → (k : ℕ) → k < peri
 binding-passed d e k l =
     let free = none-found (binds d) (periods d) (nowhere BindingCapacity _ e) k l in
     omega (arith, ltb-false (at (d .capacity) k) (total d - demandTo d k) free)
+
+-- what a path relies on that refuses nothing
+pub record Admitted (P : Path) (d : Day) (s : Sizes) : Type 0 where
+  pub day : DayLimits d
+  pub room : Roomy P d s
+  pub supplied : (k : ℕ) → k < periods d → demandTo d (suc k) ≤ capacityTo d (suc k)
+  pub own : first (P .own d) ≡ none
+
+pub admitted : (P : Path) (d : Day) (s : Sizes) → refusal P d s ≡ none → Admitted P d s
+admitted P d s e =
+    let one = first-split (dayTests d) (pathTests P d s) e in
+    let two = first-split (memoryTests P d s) (shortage d ∷ P .own d) (one .1) in
+    let three = first-split (shortage d ∷ []) (P .own d) (two .1) in
+    record {
+      day = day-passed d (one .0);
+      room = memory-passed P d s (two .0);
+      supplied = shortage-passed d (rw first-one at (three .0));
+      own = three .1;
+    }
+
+-- and the other way round: a day within the limits passes tests 1 to 3, and 4
+pub lengths-pass : (d : Day) → SameLengths d → badLengths d ≡ none
+lengths-pass d s = simp (eq-eqb _ _ (s .capacity), eq-eqb _ _ (s .setup), eq-eqb _ _ (s .unit), eq-eqb _ _ (s .holding))
+
+pub tables-pass : (d : Day) → Limits d → first (tableTests d) ≡ none
+tables-pass d l = rw (count, lengths-pass d (l .lengths), value) refl
+  where
+    count : badCount (periods d) ≡ none
+    count = rw (ne-eqb (periods d) 0 (λ e. omega (arith, l .nonempty)), le-ltb maxPeriods (periods d) (l .few)) refl
+
+    inside : (k : ℕ) → Within d k → aboveLimit d k ≡ false
+    inside k w =
+        simp (le-ltb _ _ (w .demand), le-ltb _ _ (w .capacity), le-ltb _ _ (w .setup), le-ltb _ _ (w .unit), le-ltb _ _ (w .holding))
+
+    value : badValue d ≡ none
+    value = ap (refuseAt AboveLimit) (nothing-found (aboveLimit d) (periods d) (λ k h. inside k (l .within k h)))
+
+pub day-passes : (d : Day) → DayLimits d → first (dayTests d) ≡ none
+day-passes d g =
+    first-passed (tableTests d) (badTotal d ∷ []) (tables-pass d (g .limits)) ∙ rw (le-ltb _ _ (g .total)) refl

@@ -1,16 +1,21 @@
 //! Document 01's tests on lent tables and memory, by its numbers: each alone, and in the order in which calls apply them.
-//! Every function answers what the condition says that it cites from Refusals of the crate day. What a caller learns from
-//! an answer is in specs/.
+//! Every function answers what the conditions say that it cites from the crate day. What a caller learns from an answer is in specs/.
 ghost use mathlib.Core.Path.{_≡_};
 ghost use mathlib.Core.Bool.{_||_};
 ghost use mathlib.Core.List.{[], _∷_};
-ghost use Prim.Native.Nat.{_≤_};
+ghost use Prim.Native.Nat.{_*_, _≤_};
 ghost use lib.Dec.{ltb};
 ghost use lib.ListN.{length};
-ghost use Rattle.day.specs.Day.{dayOf, maxPeriods, maxDemand, maxSetup, maxRate};
-ghost use Rattle.day.specs.Refusals.{checked, first, badCount, badLengths, badValue, badTables, badTotal, badAreas, badSlots, shortage, unequal, binding};
-ghost use Rattle.checks.specs.Passed.{SameLengths, TotalIs};
+ghost use Rattle.day.specs.Sums.{Term, at, sumTo};
+ghost use Rattle.day.specs.Day.{dayOf, maxPeriods, maxDemand, maxCapacity, maxSetup, maxRate};
+ghost use Rattle.day.specs.Lent.{dayBefore};
+ghost use Rattle.day.specs.Refusals.{checked, first, badCount, badLengths, badValue, tableTests, dayTests, badAreas, badSlots};
+ghost use Rattle.day.specs.Refusals.{shortage, unequal, binding};
+ghost use Rattle.day.specs.Outcome.{pathTests, refusal, sizes};
+ghost use Rattle.day.specs.Paths.{pathOf};
+ghost use Rattle.checks.specs.Passed.{Readable, NeededBy};
 use day::Check;
+use day::PathKind;
 use day::Refusal;
 
 // document 01's limits
@@ -35,14 +40,8 @@ pub fn count(n: usize) -> Check
 }
 
 // 2: every table is as long as the demand table
-pub fn lengths(
-    demand: &[u16],
-    capacity: &[u16],
-    setup: &[u32],
-    unit: &[u32],
-    holding: &[u32],
-) -> Check
-    ensures { λ r. ⌜ r ≡ checked (badLengths (dayOf (now (demand .entry)) (now (capacity .entry)) (now (setup .entry)) (now (unit .entry)) (now (holding .entry)))) ⌝ }
+fn lengths(demand: &[u16], capacity: &[u16], setup: &[u32], unit: &[u32], holding: &[u32]) -> Check
+    ensures { λ r. ⌜ r ≡ checked (badLengths (dayBefore demand capacity setup unit holding)) ⌝ }
 {
     let n = demand.len();
     if capacity.len() != n || setup.len() != n || unit.len() != n || holding.len() != n {
@@ -58,7 +57,7 @@ fn above_limit(demand: u16, setup: u32, unit: u32, holding: u32) -> bool
     MAX_DEMAND < demand || MAX_SETUP < setup || MAX_RATE < unit || MAX_RATE < holding
 }
 
-// 3, for tables of one length: the first period with a value above its limit
+// 3, for at most 96 periods in tables of one length: the first period with a value above its limit
 pub fn values(
     demand: &[u16],
     capacity: &[u16],
@@ -66,13 +65,13 @@ pub fn values(
     unit: &[u32],
     holding: &[u32],
 ) -> Check
-    requires { ⌜ SameLengths (dayOf (now demand) (now capacity) (now setup) (now unit) (now holding)) ⌝ }
-    ensures { λ r. ⌜ r ≡ checked (badValue (dayOf (now (demand .entry)) (now (capacity .entry)) (now (setup .entry)) (now (unit .entry)) (now (holding .entry)))) ⌝ }
+    requires { ⌜ Readable (dayOf (now demand) (now capacity) (now setup) (now unit) (now holding)) ⌝ }
+    ensures { λ r. ⌜ r ≡ checked (badValue (dayBefore demand capacity setup unit holding)) ⌝ }
 {
     let mut i = 0;
     while i < demand.len() {
         if above_limit(demand[i], setup[i], unit[i], holding[i]) {
-            return Check::Refused(Refusal::AboveLimit(i + 1));
+            return Check::Refused(Refusal::AboveLimit((i + 1) as u16));
         }
         i += 1;
     }
@@ -87,7 +86,7 @@ pub fn tables(
     unit: &[u32],
     holding: &[u32],
 ) -> Check
-    ensures { λ r. ⌜ r ≡ checked (first (badTables (dayOf (now (demand .entry)) (now (capacity .entry)) (now (setup .entry)) (now (unit .entry)) (now (holding .entry))) [])) ⌝ }
+    ensures { λ r. ⌜ r ≡ checked (first (tableTests (dayBefore demand capacity setup unit holding))) ⌝ }
 {
     if let Check::Refused(r) = count(demand.len()) {
         return Check::Refused(r);
@@ -101,7 +100,7 @@ pub fn tables(
 // R over the day; the sum needs more than 16 bits
 pub fn total(demand: &[u16]) -> u64
     requires { ⌜ length (now demand) ≤ maxPeriods ⌝ }
-    ensures { λ r. ⌜ TotalIs (now (demand .entry)) r ⌝ }
+    ensures { λ r. ⌜ Term (sumTo (at (now (demand .entry))) (length (now (demand .entry)))) (maxPeriods * maxCapacity) r ⌝ }
 {
     let mut sum: u64 = 0;
     let mut i = 0;
@@ -112,9 +111,9 @@ pub fn total(demand: &[u16]) -> u64
     sum
 }
 
-// 1, 2, 3, 4
+// 1, 2, 3, 4, which open every call on a day
 pub fn day(demand: &[u16], capacity: &[u16], setup: &[u32], unit: &[u32], holding: &[u32]) -> Check
-    ensures { λ r. ⌜ r ≡ checked (first (badTables (dayOf (now (demand .entry)) (now (capacity .entry)) (now (setup .entry)) (now (unit .entry)) (now (holding .entry))) (badTotal (dayOf (now (demand .entry)) (now (capacity .entry)) (now (setup .entry)) (now (unit .entry)) (now (holding .entry))) ∷ []))) ⌝ }
+    ensures { λ r. ⌜ r ≡ checked (first (dayTests (dayBefore demand capacity setup unit holding))) ⌝ }
 {
     if let Check::Refused(r) = tables(demand, capacity, setup, unit, holding) {
         return Check::Refused(r);
@@ -126,7 +125,7 @@ pub fn day(demand: &[u16], capacity: &[u16], setup: &[u32], unit: &[u32], holdin
 }
 
 // 5, 6: the cells and slots that are lent, and how many the call needs
-pub fn memory(
+fn memory(
     costs: usize,
     cost_cells: usize,
     choices: usize,
@@ -146,7 +145,7 @@ pub fn memory(
 }
 
 // 7, for tables of one length: the first period with R above C
-pub fn shortage(demand: &[u16], capacity: &[u16]) -> Check
+fn shortage(demand: &[u16], capacity: &[u16]) -> Check
     requires { ⌜ length (now capacity) ≡ length (now demand) ⌝ }
     requires { ⌜ length (now demand) ≤ maxPeriods ⌝ }
     ensures { λ r. ⌜ r ≡ checked (shortage (dayOf (now (demand .entry)) (now (capacity .entry)) [] [] [])) ⌝ }
@@ -159,14 +158,14 @@ pub fn shortage(demand: &[u16], capacity: &[u16]) -> Check
         available += capacity[i] as u64;
         i += 1;
         if available < demanded {
-            return Check::Refused(Refusal::Shortage(i));
+            return Check::Refused(Refusal::Shortage(i as u16));
         }
     }
     Check::Passed
 }
 
 // 8, for tables of one length: every capacity is as the first
-pub fn equal(demand: &[u16], capacity: &[u16]) -> Check
+fn equal(demand: &[u16], capacity: &[u16]) -> Check
     requires { ⌜ length (now capacity) ≡ length (now demand) ⌝ }
     ensures { λ r. ⌜ r ≡ checked (unequal (dayOf (now (demand .entry)) (now (capacity .entry)) [] [] [])) ⌝ }
 {
@@ -181,7 +180,7 @@ pub fn equal(demand: &[u16], capacity: &[u16]) -> Check
 }
 
 // 9, for tables of one length: the first capacity below what remains, R over the day less R before its period
-pub fn binding(demand: &[u16], capacity: &[u16]) -> Check
+fn binding(demand: &[u16], capacity: &[u16]) -> Check
     requires { ⌜ length (now capacity) ≡ length (now demand) ⌝ }
     requires { ⌜ length (now demand) ≤ maxPeriods ⌝ }
     ensures { λ r. ⌜ r ≡ checked (binding (dayOf (now (demand .entry)) (now (capacity .entry)) [] [] [])) ⌝ }
@@ -190,10 +189,97 @@ pub fn binding(demand: &[u16], capacity: &[u16]) -> Check
     let mut i = 0;
     while i < demand.len() {
         if (capacity[i] as u64) < remaining {
-            return Check::Refused(Refusal::BindingCapacity(i + 1));
+            return Check::Refused(Refusal::BindingCapacity((i + 1) as u16));
         }
         remaining -= demand[i] as u64;
         i += 1;
     }
     Check::Passed
+}
+
+// The tests that a path alone applies.
+fn own(kind: PathKind, demand: &[u16], capacity: &[u16]) -> Check
+    requires { ⌜ length (now capacity) ≡ length (now demand) ⌝ }
+    requires { ⌜ length (now demand) ≤ maxPeriods ⌝ }
+    ensures { λ r. ⌜ r ≡ checked (first (pathOf kind .own (dayOf (now (demand .entry)) (now (capacity .entry)) [] [] []))) ⌝ }
+{
+    match kind {
+        PathKind::Full => Check::Passed,
+        PathKind::Uncapped => binding(demand, capacity),
+        PathKind::Equal => equal(demand, capacity),
+    }
+}
+
+// How many cells of each area a path needs.
+pub struct Needed {
+    pub costs: usize,
+    pub choices: usize,
+}
+
+pub fn cells(kind: PathKind, n: usize, total: usize) -> Needed
+    requires { ⌜ (n ≤ maxPeriods) × (total ≤ maxPeriods * maxCapacity) ⌝ }
+    ensures { λ r. ⌜ NeededBy (pathOf kind) n total r ⌝ }
+{
+    match kind {
+        PathKind::Full => Needed {
+            costs: 2 * (total + 1),
+            choices: n * (total + 1),
+        },
+        PathKind::Uncapped => Needed {
+            costs: n + 1,
+            choices: n + 1,
+        },
+        PathKind::Equal => Needed {
+            costs: 6 * (n + 1),
+            choices: 4 * ((n + 1) * (n + 1)),
+        },
+    }
+}
+
+// 5, 6, 7, then the path's own, once 1 to 4 have passed
+fn room(
+    kind: PathKind,
+    demand: &[u16],
+    capacity: &[u16],
+    costs: usize,
+    choices: usize,
+    slots: usize,
+) -> Check
+    requires { ⌜ length (now capacity) ≡ length (now demand) ⌝ }
+    requires { ⌜ length (now demand) ≤ maxPeriods ⌝ }
+    ensures { λ r. ⌜
+        r ≡ checked (first (pathTests (pathOf kind)
+        (dayOf (now (demand .entry)) (now (capacity .entry)) [] [] [])
+        (sizes costs choices slots)))
+        ⌝ }
+{
+    let n = demand.len();
+    let needed = cells(kind, n, total(demand) as usize);
+    if let Check::Refused(r) = memory(costs, needed.costs, choices, needed.choices, slots, n) {
+        return Check::Refused(r);
+    }
+    if let Check::Refused(r) = shortage(demand, capacity) {
+        return Check::Refused(r);
+    }
+    own(kind, demand, capacity)
+}
+
+// A path's tests in order: 1 to 7, then its own
+pub fn path(
+    kind: PathKind,
+    demand: &[u16],
+    capacity: &[u16],
+    setup: &[u32],
+    unit: &[u32],
+    holding: &[u32],
+    costs: usize,
+    choices: usize,
+    slots: usize,
+) -> Check
+    ensures { λ r. ⌜ r ≡ checked (refusal (pathOf kind) (dayBefore demand capacity setup unit holding) (sizes costs choices slots)) ⌝ }
+{
+    if let Check::Refused(r) = day(demand, capacity, setup, unit, holding) {
+        return Check::Refused(r);
+    }
+    room(kind, demand, capacity, costs, choices, slots)
 }

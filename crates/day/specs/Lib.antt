@@ -7,12 +7,15 @@ pub mod Day
 pub mod Plan
 -- What is refused, and when; the day file's layout.
 pub mod Refusals
+pub mod Tests
 pub mod File
--- What a path answers, and what it leaves in lent memory.
+-- What a path needs, answers, and leaves in lent memory; the paths.
 pub mod Outcome
 pub mod Paths
+-- Answers in figures.
+pub mod Figures
+-- Lent tables and memory at both moments of a call, as contracts speak of them.
+pub mod Lent
 -- The marked days: a plain search over all plans, the table, its theorem.
 pub mod Search
 pub mod Marked
-
--- The marked days: a plain search over all plans, the table, its theorem.

@@ -1,15 +1,18 @@
--- Document 01's marked days: the table, and the theorem that each row's outcome is what the meaning says (demands 2 and 3).
+-- Document 01's marked days: the table, and the theorem that each row's outcome is what the meaning and the contracts' refusals say (demands 2 and 3).
 -- Main statement: `marked-right`. One test is computed over the table; what it gives is the proof. Assumes nothing.
-use mathlib.Core.Path.{_≡_}
+use mathlib.Core.Path.{_≡_, refl, _∙_}
 use mathlib.Core.List.{List, [], _∷_}
 use mathlib.Core.Logic.{Dec·and}
-use mathlib.Core.Option.{Option, some, Option·map}
+use mathlib.Core.Option.{Option, none, some, Option·map}
 use Prim.Native.Nat.{ℕ, _≤_, _<_}
 use native.Mathlib.Decide.{decLe, decLt, ℕ-discrete}
 use lib.ListN.{length, replicate}
+use Rattle.day.specs.declared.Refusal.{Refusal}
 use Rattle.day.specs.Sums.{at}
 use Rattle.day.specs.Day.{Day, periods, demandTo, capacityTo}
 use Rattle.day.specs.Plan.{Feasible, Optimal, cost, setups}
+use Rattle.day.specs.Refusals.{numberOf, periodOf, first}
+use Rattle.day.specs.Outcome.{Sizes, Path, Roomy, refusal, dayRefusal, roomy-refusal}
 use Rattle.day.specs.Search.{given, sure, both, iff?, implies?, both-below, below?, feasible?, smaller?, precedes?, optimal?, none?}
 
 -- what a row claims of its day: its plan, with cost and setups; what some other plan costs; or the period of refusal 7
@@ -19,7 +22,7 @@ pub data Claim : Type 0 where
   refused : (period : ℕ) → Claim
 
 -- needs; capacities; b; p; h, one value for all periods; the claims
-pub record Row : Type 0 where
+pub record MarkedRow : Type 0 where
   pub demand : List ℕ
   pub capacity : List ℕ
   pub setup : ℕ
@@ -27,11 +30,11 @@ pub record Row : Type 0 where
   pub holding : ℕ
   pub claims : List Claim
 
-abbrev row : (demand capacity : List ℕ) (b p h : ℕ) → List Claim → Row
+abbrev row : (demand capacity : List ℕ) (b p h : ℕ) → List Claim → MarkedRow
 row demand capacity b p h claims = record { demand = demand; capacity = capacity; setup = b; unit = p; holding = h; claims = claims }
 
 -- M1 to M12
-abbrev pub marked : List Row
+abbrev pub marked : List MarkedRow
 marked =
     row (0 ∷ []) (0 ∷ []) 5 1 1 (planned (0 ∷ []) 0 0 ∷ [])
     ∷ row (1 ∷ []) (1 ∷ []) 5 2 9 (planned (1 ∷ []) 7 1 ∷ [])
@@ -48,7 +51,7 @@ marked =
     ∷ []
 
 -- the day of a row
-abbrev pub dayOfRow : Row → Day
+abbrev pub dayOfRow : MarkedRow → Day
 dayOfRow r = record {
   demand = r .demand;
   capacity = r .capacity;
@@ -62,24 +65,33 @@ pub record Costs (d : Day) (x : List ℕ) (c : ℕ) : Type 0 where
   pub feasible : Feasible d (at x)
   pub cost : cost d (at x) ≡ c
 
--- the plan of the day, with its cost and setups
+-- what every path refuses whose kind of day this is, given room
+abbrev pub Given : Day → Option Refusal → Type 0
+Given d o = (P : Path) → first (P .own d) ≡ none → (s : Sizes) → Roomy P d s → refusal P d s ≡ o
+
+-- the plan of the day, with its cost and setups, and no path refuses it
 pub record PlannedAs (d : Day) (x : List ℕ) (c s : ℕ) : Type 0 where
+  pub given : Given d none
   pub amounts : length x ≡ periods d
   pub plan : Optimal d (at x)
   pub cost : cost d (at x) ≡ c
   pub setups : setups (periods d) (at x) ≡ s
 
--- there is no plan, and period i, counted from 1, is the first whose summed demand is above the summed capacity
+-- there is no plan, and period i, counted from 1, is the first whose summed demand is above the summed capacity: every path gives 7 with it
 pub record RefusedAt (d : Day) (i : ℕ) : Type 0 where
+  pub refusal : Refusal
+  pub given : Given d (some refusal)
+  pub number : numberOf refusal ≡ 7
+  pub period : periodOf refusal ≡ i
   pub none : (y : ℕ → ℕ) → Feasible d y → ⊥
   pub inside : i ≤ periods d
   pub short : capacityTo d i < demandTo d i
   pub before : (j : ℕ) → j < i → demandTo d j ≤ capacityTo d j
 
-abbrev pub Right : Day → Claim → Type 0
-Right d (planned x c s) = PlannedAs d x c s
-Right d (costs x c) = Costs d x c
-Right d (refused i) = RefusedAt d i
+abbrev pub ClaimHolds : Day → Claim → Type 0
+ClaimHolds d (planned x c s) = PlannedAs d x c s
+ClaimHolds d (costs x c) = Costs d x c
+ClaimHolds d (refused i) = RefusedAt d i
 
 abbrev pub All : {A : Type 0} → (A → Type 0) → List A → Type 0
 All P [] = Unit {0}
@@ -90,23 +102,49 @@ abbrev all? : {A : Type 0} {P : A → Type 0} → ((a : A) → Option (P a)) →
 all? p [] = some tt
 all? p (a ∷ rest) = both (p a) (all? p rest)
 
+-- what the day brings by itself is what every path gives
+brought : (d : Day) {o : Option Refusal} → dayRefusal d ≡ o → Given d o
+brought d e P kind s room = roomy-refusal P d s room kind ∙ e
+
+-- the tests of what it brings: nothing; 7 with period i
+abbrev none-brought? : (o : Option Refusal) → Option (o ≡ none)
+none-brought? none = some refl
+none-brought? (some q) = none
+
+abbrev brought? : (i : ℕ) (o : Option Refusal) → Option ((q : Refusal) × ((o ≡ some q) × ((numberOf q ≡ 7) × (periodOf q ≡ i))))
+brought? i none = none
+brought? i (some q) = Option·map (λ p. (q, (refl, p))) (both (sure (ℕ-discrete (numberOf q) 7)) (sure (ℕ-discrete (periodOf q) i)))
+
 -- the test of a claim
-abbrev right? : (d : Day) (c : Claim) → Option (Right d c)
+abbrev right? : (d : Day) (c : Claim) → Option (ClaimHolds d c)
 right? d (planned x c s) =
     Option·map
-    (λ p. record { amounts = p .0; plan = p .1 .0; cost = p .1 .1 .0; setups = p .1 .1 .1 })
+    (λ p. record { given = brought d (p .0); amounts = p .1 .0; plan = p .1 .1 .0; cost = p .1 .1 .1 .0; setups = p .1 .1 .1 .1 })
+    (both (none-brought? (dayRefusal d))
     (both (sure (ℕ-discrete (length x) (periods d)))
-    (both (optimal? d (at x)) (both (sure (ℕ-discrete (cost d (at x)) c)) (sure (ℕ-discrete (setups (periods d) (at x)) s)))))
+    (both (optimal? d (at x)) (both (sure (ℕ-discrete (cost d (at x)) c)) (sure (ℕ-discrete (setups (periods d) (at x)) s))))))
 right? d (costs x c) =
     Option·map (λ p. record { feasible = p .0; cost = p .1 }) (both (sure (feasible? d (at x))) (sure (ℕ-discrete (cost d (at x)) c)))
 right? d (refused i) =
     Option·map
-    (λ p. record { none = p .0; inside = p .1 .0; short = p .1 .1 .0; before = p .1 .1 .1 })
+    (λ p.
+    let q = p .0 in
+    record {
+      refusal = q .0;
+      given = brought d (q .1 .0);
+      number = q .1 .1 .0;
+      period = q .1 .1 .1;
+      none = p .1 .0;
+      inside = p .1 .1 .0;
+      short = p .1 .1 .1 .0;
+      before = p .1 .1 .1 .1;
+    })
+    (both (brought? i (dayRefusal d))
     (both (none? d)
     (both (sure (decLe i (periods d)))
-    (both (sure (decLt (capacityTo d i) (demandTo d i))) (sure (below? (λ j. decLe (demandTo d j) (capacityTo d j)) i)))))
+    (both (sure (decLt (capacityTo d i) (demandTo d i))) (sure (below? (λ j. decLe (demandTo d j) (capacityTo d j)) i))))))
 
 -- Every row's claims hold of the written meaning.
-pub marked-right : All (λ r. All (Right (dayOfRow r)) (r .claims)) marked
+pub marked-right : All (λ r. All (ClaimHolds (dayOfRow r)) (r .claims)) marked
 unfolding iff? implies? both-below below? Dec·and feasible? smaller? precedes? decLe decLt ℕ-discrete
 marked-right = given (all? (λ r. all? (right? (dayOfRow r)) (r .claims)) marked) tt

@@ -63,3 +63,15 @@ pub record Precedes (costs : (ℕ → ℕ) → ℕ) (n : ℕ) (x y : ℕ → ℕ
 pub record Optimal (d : Day) (x : ℕ → ℕ) : Type 0 where
   pub feasible : Feasible d x
   pub first : (y : ℕ → ℕ) → Feasible d y → Precedes (cost d) (periods d) x y
+
+-- a run (report: regeneration interval): the periods a + 1 to b lie between two moments with empty store, the charge being above 0 in between
+pub record Run (d : Day) (x : ℕ → ℕ) (a b : ℕ) : Type 0 where
+  pub ahead : a < b
+  pub inside : b ≤ periods d
+  pub empty : inventory d x a ≡ 0
+  pub emptied : inventory d x b ≡ 0
+  pub above : (i : ℕ) → a < i → i < b → 0 < inventory d x i
+
+-- a part-loaded period makes something, and less than its capacity
+abbrev pub PartLoaded : Day → (ℕ → ℕ) → ℕ → Type 0
+PartLoaded d x k = (0 < x k) × (x k < at (d .capacity) k)

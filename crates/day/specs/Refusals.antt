@@ -1,19 +1,22 @@
 -- What is refused, and when: document 01's conditions 1 to 9, each as a definition, and the number and period of each refusal.
--- A call's first refusal in order is `first` of a list of these. Conditions 10 to 13 are in `File`.
+-- A call's first refusal in order is `first` of a list of these; laws of such lists are in `Tests`. Conditions 10 to 13 are in `File`.
 -- Assumes nothing.
+use mathlib.Core.Path.{_≡_}
 use mathlib.Core.Bool.{Bool, true, false, not, _||_}
-use mathlib.Core.List.{List, [], _∷_}
+use mathlib.Core.List.{List, [], _∷_, _++_}
 use mathlib.Core.Option.{Option, none, some}
 use Prim.Native.Nat.{ℕ, suc, _+_, _-_}
 use lib.Dec.{eqb, ltb}
 use lib.ListN.{length}
 use Rattle.day.specs.declared.Refusal.{Refusal}
-use Rattle.day.specs.declared.Refusal.the-variants.{PeriodCount, TableLength, AboveLimit, TotalDemand, ShortArea, FewSlots, Shortage, UnequalCapacities, BindingCapacity, UnknownKind, TruncatedFile, WrongEnd, NoSuchPeriod}
+use Rattle.day.specs.declared.Refusal.the-variants.{PeriodCount, TableLength, AboveLimit, TotalDemand, ShortArea, FewSlots, Shortage}
+use Rattle.day.specs.declared.Refusal.the-variants.{UnequalCapacities, BindingCapacity, UnknownKind, TruncatedFile, WrongEnd, NoSuchPeriod}
 use Rattle.day.specs.declared.Check.{Check}
 use Rattle.day.specs.declared.Check.the-variants.{Passed, Refused}
 use Rattle.day.specs.Sums.{at}
 use Rattle.day.specs.Find.{find}
-use Rattle.day.specs.Day.{Day, periods, maxPeriods, maxDemand, maxCapacity, maxSetup, maxRate, maxTotal, demandTo, capacityTo, total}
+use Rattle.day.specs.Day.{Day, periods, maxPeriods, maxDemand, maxCapacity, maxSetup, maxRate, maxTotal}
+use Rattle.day.specs.Day.{demandTo, capacityTo, total}
 
 -- document 01's number of a refusal
 abbrev pub numberOf : Refusal → ℕ
@@ -66,6 +69,13 @@ abbrev pub first : List (Option Refusal) → Option Refusal
 first [] = none
 first (o ∷ rest) = orNext o (first rest)
 
+-- r is given where o is a call's first refusal in order: it has document 01's number and period of that one, which fix it (`gives-is`)
+pub record Gives (o : Option Refusal) (r : Refusal) : Type 0 where
+  pub first : Refusal
+  pub is : o ≡ some first
+  pub number : numberOf r ≡ numberOf first
+  pub period : periodOf r ≡ periodOf first
+
 -- what a call's tests answer
 abbrev pub checked : Option Refusal → Check
 checked none = Passed
@@ -79,7 +89,10 @@ badCount n = refuse (eqb n 0 || ltb maxPeriods n) PeriodCount
 abbrev pub badLengths : Day → Option Refusal
 badLengths d =
     refuse
-    (not (eqb (length (d .capacity)) (periods d)) || not (eqb (length (d .setup)) (periods d)) || not (eqb (length (d .unit)) (periods d)) || not (eqb (length (d .holding)) (periods d)))
+    (not (eqb (length (d .capacity)) (periods d))
+    || not (eqb (length (d .setup)) (periods d))
+    || not (eqb (length (d .unit)) (periods d))
+    || not (eqb (length (d .holding)) (periods d)))
     TableLength
 
 -- 3: a value above its limit
@@ -132,5 +145,9 @@ abbrev pub binding : Day → Option Refusal
 binding d = refuseAt BindingCapacity (find (binds d) (periods d))
 
 -- the tests that open every call on tables: 1, 2, 3
-abbrev pub badTables : Day → List (Option Refusal) → List (Option Refusal)
-badTables d rest = badCount (periods d) ∷ badLengths d ∷ badValue d ∷ rest
+abbrev pub tableTests : Day → List (Option Refusal)
+tableTests d = badCount (periods d) ∷ badLengths d ∷ badValue d ∷ []
+
+-- and those of a call on a day: 1, 2, 3, 4
+abbrev pub dayTests : Day → List (Option Refusal)
+dayTests d = tableTests d ++ (badTotal d ∷ [])

@@ -1,13 +1,13 @@
 -- Entries of tables and sums over the first periods.
 -- Index k is the report's period k + 1, and `sumTo f i` is the sum over the report's periods 1 to i.
 -- Assumes nothing.
-use mathlib.Core.Path.{_≡_, refl}
+use mathlib.Core.Path.{_≡_, refl, ap, ap₂}
 use mathlib.Core.List.{List, [], _∷_}
 use mathlib.Core.Logic.{⊎-elim}
-use Prim.Native.Nat.{ℕ, zero, suc, _+_, _≤_, _<_}
+use Prim.Native.Nat.{ℕ, zero, suc, _+_, _≤_, _<_, suc-le-suc}
 use native.Mathlib.Nat.{eq-or-lt-of-le, le-of-suc-le-suc}
 use native.Mathlib.Omega.{arith}
-use lib.ListN.{getD}
+use lib.ListN.{getD, length}
 use lib.Arith.{le-zero}
 
 -- entry k of a table, 0 past its end
@@ -18,6 +18,11 @@ at l k = getD l k 0
 abbrev pub sumTo : (ℕ → ℕ) → ℕ → ℕ
 sumTo f zero = 0
 sumTo f (suc i) = sumTo f i + f i
+
+-- r is the value, and at most `top`: what a sum of such terms needs so that it fits
+pub record Term (value top r : ℕ) : Type 0 where
+  pub is : r ≡ value
+  pub low : r ≤ top
 
 -- what holds below i and at i holds below i + 1
 pub below : (P : ℕ → Type 0) (i : ℕ) → ((k : ℕ) → k < i → P k) → P i → (k : ℕ) → k < suc i → P k
@@ -42,3 +47,15 @@ pub at-listOf : (f : ℕ → ℕ) (n k : ℕ) → k < n → at (listOf f n) k �
 at-listOf f zero k l = absurd (omega arith)
 at-listOf f (suc n) zero l = refl
 at-listOf f (suc n) (suc k) l = at-listOf (λ j. f (suc j)) n k (le-of-suc-le-suc l)
+
+pub length-listOf : (f : ℕ → ℕ) (n : ℕ) → length (listOf f n) ≡ n
+length-listOf f zero = refl
+length-listOf f (suc n) = ap suc (length-listOf (λ k. f (suc k)) n)
+
+-- a table is listed by its entries
+pub listOf-at : (n : ℕ) (l : List ℕ) (f : ℕ → ℕ) → length l ≡ n → ((k : ℕ) → k < n → f k ≡ at l k) → listOf f n ≡ l
+listOf-at zero [] f e h = refl
+listOf-at zero (x ∷ l) f e h = absurd (omega arith)
+listOf-at (suc n) [] f e h = absurd (omega arith)
+listOf-at (suc n) (x ∷ l) f e h =
+    ap₂ _∷_ (h 0 (omega arith)) (listOf-at n l (λ k. f (suc k)) (omega arith) (λ k lt. h (suc k) (suc-le-suc lt)))

@@ -7,13 +7,13 @@ ghost use Rattle.day.specs.Refusals.{numberOf, periodOf};
 pub enum Refusal {
     PeriodCount,
     TableLength,
-    AboveLimit(usize),
+    AboveLimit(u16),
     TotalDemand,
     ShortArea,
     FewSlots,
-    Shortage(usize),
+    Shortage(u16),
     UnequalCapacities,
-    BindingCapacity(usize),
+    BindingCapacity(u16),
     UnknownKind,
     TruncatedFile,
     WrongEnd,
@@ -21,7 +21,7 @@ pub enum Refusal {
 }
 
 impl Refusal {
-    pub fn number(self) -> u64
+    pub fn number(self) -> u8
         ensures { λ r. ⌜ r ≡ numberOf self ⌝ }
     {
         match self {
@@ -41,7 +41,7 @@ impl Refusal {
         }
     }
 
-    pub fn period(self) -> usize
+    pub fn period(self) -> u16
         ensures { λ r. ⌜ r ≡ periodOf self ⌝ }
     {
         match self {
@@ -66,6 +66,13 @@ impl Refusal {
 pub enum Check {
     Passed,
     Refused(Refusal),
+}
+
+// The paths (document 01, "Three paths, one plan"); `pathOf` gives what each needs and tests.
+pub enum PathKind {
+    Full,
+    Uncapped,
+    Equal,
 }
 
 // A plan's cost and its setups (document 01: starts).

@@ -1,6 +1,7 @@
 -- Laws of the layout.
 --     period-at, end-found            the records that `periodsIn` counts are whole periods, and the one after them is not
 --     walked-none, -more, -end        a walk over the period records, record by record
+--     day-in-front, with-day          the tables that a reading filled begin with the file's day
 --     laid-out; counted, walk-clean   the walk meets no fault exactly if the file is laid out as document 01 says
 -- Assumes nothing.
 use mathlib.Core.Path.{_≡_, refl, _∙_}
@@ -15,11 +16,16 @@ use lib.Arith.{le-zero}
 use lib.Dec.{eqb, leb, ltb}
 use lib.ListN.{length, take, drop, length-take, length-drop}
 use borrow.Author.Tests.{eqb-true, leb-true, leb-false, ltb-false, lt-ltb, le-ltb, le-leb, eq-eqb, not-true, not-false}
-use Rattle.day.specs.Sums.{at}
-use Rattle.day.specs.Find.{find, find-none, find-here, none-found, some-found}
-use Rattle.day.specs.Refusals.{first}
-use Rattle.day.specs.File.{periodKind, endKind, isKind, bodyLength, body, number2, next, recordAt, Layout, isPeriod, periodsIn, orZero, unknownKind, truncated, wrongEnd, walk}
-use Rattle.dayfile.specs.Passed.{first-none, refuse-none, or-false}
+use lib.Seq.{take-at}
+use Rattle.day.specs.Sums.{at, listOf, length-listOf}
+use Rattle.day.specs.Day.{Day, maxPeriods}
+use Rattle.day.specs.Find.{find, find-none, find-here, none-found, nothing-found, some-found}
+use Rattle.day.specs.Tests.{not-refused, neither}
+use Rattle.day.specs.File.{periodKind, endKind, isKind, bodyLength, body, number2, next, recordAt, Layout}
+use Rattle.day.specs.File.{isPeriod, periodsIn, orZero, unknownKind, truncated, wrongEnd, walk, field, dayIn}
+use Rattle.checks.specs.Passed.{SameLengths, Readable}
+use Rattle.dayfile.specs.Answers.{withFirst, withDay, withTables, firstOf}
+use Rattle.dayfile.specs.Passed.{each-passed}
 
 -- a body of a known kind has 2 bytes at least
 pub kind-length : (kind : ℕ) → isKind kind ≡ true → 2 ≤ bodyLength kind
@@ -103,7 +109,9 @@ walked-end s n p w f =
     rw (find-here (stops s) n (suc (length s)) (w .passed) (rw (← w .here, f) refl) (omega (arith, w .far, w .inside))) refl
 
 -- a record of a known kind that is no whole period, and to whose end the file reaches, is an end record
-end-kind : (s : List ℕ) (p : ℕ) → isPeriod s p ≡ false → next s p ≤ length s → (ltb p (length s) && not (isKind (at s p))) ≡ false → at s p ≡ endKind
+end-kind : (s : List ℕ) (p : ℕ) → isPeriod s p ≡ false → next s p ≤ length s
+    → (ltb p (length s) && not (isKind (at s p))) ≡ false
+    → at s p ≡ endKind
 end-kind s p f l e =
     go (eqb (at s p) periodKind) (eqb (at s p) endKind) refl f
     (rw (lt-ltb p (length s) (omega arith)) at e)
@@ -118,13 +126,12 @@ pub laid-out : (s : List ℕ) → walk s ≡ none → Layout s (periodsIn s)
 laid-out s e =
     let n = periodsIn s in
     let p = recordAt s n in
-    let known = first-none (unknownKind s p) (truncated s p ∷ wrongEnd s p n ∷ []) e in
-    let whole = first-none (truncated s p) (wrongEnd s p n ∷ []) (known .1) in
-    let right = or-false _ _ (refuse-none _ _ (first-none (wrongEnd s p n) [] (whole .1) .0)) in
-    let l = ltb-false _ _ (refuse-none _ _ (whole .0)) in
+    let each = each-passed (unknownKind s p ∷ truncated s p ∷ wrongEnd s p n ∷ []) e in
+    let l = ltb-false _ _ (not-refused _ _ (each .1 .0)) in
+    let right = neither _ _ (not-refused _ _ (each .1 .1 .0)) in
     record {
       periods = λ i l. period-at s i l .kind;
-      ends = end-kind s p (end-found s) l (refuse-none _ _ (known .0));
+      ends = end-kind s p (end-found s) l (not-refused _ _ (each .0));
       count = eqb-true _ _ (not-false _ (right .1));
       size = eqb-true _ _ (not-false _ (right .0));
     }
@@ -137,15 +144,11 @@ record-grows s i (suc n) h =
     (λ l. omega (arith, record-grows s i n (le-of-suc-le-suc l)))
     (eq-or-lt-of-le h)
 
-find-nothing : (P : ℕ → Bool) (n : ℕ) → ((i : ℕ) → i < n → P i ≡ false) → find P n ≡ none
-find-nothing P zero h = refl
-find-nothing P (suc n) h = find-none P n (find-nothing P n (λ i l. h i (omega arith))) (h n (omega arith))
-
 -- a file that is laid out so has that many periods, and its walk meets no fault
 pub counted : (s : List ℕ) (n : ℕ) → Layout s n → periodsIn s ≡ n
 counted s n w =
     walked-end s n (recordAt s n)
-    (record { here = refl; passed = find-nothing (stops s) n passed; far = record-far s n; inside = omega (arith, w .size) })
+    (record { here = refl; passed = nothing-found (stops s) n passed; far = record-far s n; inside = omega (arith, w .size) })
     (rw (w .ends) refl)
   where
     passed : (i : ℕ) → i < n → stops s i ≡ false
@@ -157,5 +160,29 @@ pub walk-clean : (s : List ℕ) (n : ℕ) → Layout s n → walk s ≡ none
 walk-clean s n w =
     let p = recordAt s n in
     let size : length s ≡ next s p = w .size in
-    rw (counted s n w, le-ltb (length s) (next s p) (omega arith), eq-eqb (length s) (next s p) size, eq-eqb (number2 (body s p) 0) n (w .count), lt-ltb p (length s) (omega arith), w .ends)
-    refl
+    let counts = eq-eqb (number2 (body s p) 0) n (w .count) in
+    rw (counted s n w, le-ltb (length s) (next s p) (omega arith), eq-eqb (length s) (next s p) size, counts) (
+    rw (lt-ltb p (length s) (omega arith), w .ends) refl
+    )
+
+-- the tables of a file's day are of one length
+pub day-lengths : (s : List ℕ) → SameLengths (dayIn s)
+day-lengths s = record {
+  capacity = simp length-listOf;
+  setup = simp length-listOf;
+  unit = simp length-listOf;
+  holding = simp length-listOf;
+}
+
+pub day-readable : (s : List ℕ) → periodsIn s ≤ maxPeriods → Readable (dayIn s)
+day-readable s l = record { few = rw length-listOf l; lengths = day-lengths s }
+
+-- tables that a reading filled: the file's day stands at their front
+with-front : (f : ℕ → ℕ) (n : ℕ) (l : List ℕ) → take n (withFirst f n l) ≡ listOf f n
+with-front f n l = take-at (listOf f n) (drop n l) n (length-listOf f n)
+
+pub day-in-front : (s : List ℕ) (n : ℕ) (before after : Day) → n ≡ periodsIn s → after ≡ withDay s before → firstOf n after ≡ dayIn s
+day-in-front s n before after e w = rw (e, w) (simp with-front)
+
+pub with-day : (s : List ℕ) (before : Day) → withDay s before ≡ withTables (dayIn s) before
+with-day s before = rw (length-listOf (field number2 0 s) (periodsIn s)) refl

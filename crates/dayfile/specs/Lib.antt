@@ -1,10 +1,7 @@
 -- The contracts of the calls.
 pub mod Answers
-pub mod Fields
--- Laws that their proofs cite: the lent tables, passed tests, the layout.
-pub mod Tables
+-- Laws that their proofs cite: passed tests, the layout.
 pub mod Passed
 pub mod Layout
--- The layout both ways, and demand 2's statements.
-pub mod RoundTrip
+-- Demand 2's statements on the lookup and on a file's size.
 pub mod Theorems

@@ -1,12 +1,11 @@
-// Records by kind and length, and the walk from the file's front to its end record.
+// Records by kind and length, the walk from the file's front to its end record, and the tests that open every call on a file.
 ghost use mathlib.Core.Path.{_≡_};
-ghost use mathlib.Core.List.{[]};
 ghost use Prim.Native.Nat.{_+_, _≤_, _<_};
 ghost use lib.ListN.{length};
-ghost use Rattle.day.specs.Refusals.{first};
-ghost use Rattle.day.specs.File.{isKind, bodyLength, next, recordAt, number2, number4, isPeriod, periodsIn, badEnd, walk};
-ghost use Rattle.dayfile.specs.Answers.{Below, BodyAt, answered, badFile};
-use crate::ReadAnswer;
+ghost use Rattle.day.specs.Sums.{Term};
+ghost use Rattle.day.specs.Refusals.{checked, first};
+ghost use Rattle.day.specs.File.{isKind, bodyLength, next, recordAt, number2, number4, isPeriod, periodsIn, badEnd};
+ghost use Rattle.dayfile.specs.Answers.{BodyAt, fileTests};
 use day::Check;
 use day::Refusal;
 
@@ -15,7 +14,7 @@ const PERIOD: u8 = 1;
 const END: u8 = 2;
 
 fn wide(x: u8) -> u32
-    ensures { λ r. ⌜ Below 256 x r ⌝ }
+    ensures { λ r. ⌜ Term x 255 r ⌝ }
 {
     x as u32
 }
@@ -23,7 +22,7 @@ fn wide(x: u8) -> u32
 // Numbers stand most significant byte first.
 pub fn number2(body: &[u8], at: usize) -> u32
     requires { ⌜ at + 1 < length (now body) ⌝ }
-    ensures { λ r. ⌜ Below 65536 (number2 (now (body .entry)) at) r ⌝ }
+    ensures { λ r. ⌜ Term (number2 (now (body .entry)) at) 65535 r ⌝ }
 {
     wide(body[at]) * 256 + wide(body[at + 1])
 }
@@ -43,7 +42,7 @@ fn is_kind(kind: u8) -> bool
 
 // How long a body the kind fixes.
 fn body_length(kind: u8) -> usize
-    ensures { λ r. ⌜ Below 17 (bodyLength kind) r ⌝ }
+    ensures { λ r. ⌜ Term (bodyLength kind) 16 r ⌝ }
 {
     if kind == PERIOD {
         return 16;
@@ -86,33 +85,9 @@ fn is_period(file: &[u8], at: usize) -> bool
     next(file, at) <= file.len()
 }
 
-// The tests of the record after `n` period records, which is to be the end record.
-fn end_record(file: &[u8], at: usize, n: usize) -> ReadAnswer
-    requires { ⌜ at ≤ length (now file) ⌝ }
-    ensures { λ r. ⌜ r ≡ answered (badEnd (now (file .entry)) at n) n ⌝ }
-{
-    if file.len() <= at {
-        return ReadAnswer::Refused(Refusal::TruncatedFile);
-    }
-    if !is_kind(file[at]) {
-        return ReadAnswer::Refused(Refusal::UnknownKind);
-    }
-    let end = next(file, at);
-    if file.len() < end {
-        return ReadAnswer::Refused(Refusal::TruncatedFile);
-    }
-    if file.len() != end {
-        return ReadAnswer::Refused(Refusal::WrongEnd);
-    }
-    if number2(body(file, at), 0) as usize != n {
-        return ReadAnswer::Refused(Refusal::WrongEnd);
-    }
-    ReadAnswer::Periods(n)
-}
-
-// 10, 11, 12: the count of periods, or the first fault from front to back.
-pub fn walk(file: &[u8]) -> ReadAnswer
-    ensures { λ r. ⌜ r ≡ answered (walk (now (file .entry))) (periodsIn (now (file .entry))) ⌝ }
+// How many period records the file begins with.
+pub fn periods(file: &[u8]) -> usize
+    ensures { λ r. ⌜ r ≡ periodsIn (now (file .entry)) ⌝ }
 {
     let mut at = 0;
     let mut n = 0;
@@ -120,25 +95,12 @@ pub fn walk(file: &[u8]) -> ReadAnswer
         at = next(file, at);
         n += 1;
     }
-    end_record(file, at, n)
+    n
 }
 
-// 10, 11, 12, then 1: what opens every call on a file.
-pub fn periods(file: &[u8]) -> ReadAnswer
-    ensures { λ r. ⌜ r ≡ answered (first (badFile (now (file .entry)) [])) (periodsIn (now (file .entry))) ⌝ }
-{
-    match walk(file) {
-        ReadAnswer::Refused(r) => ReadAnswer::Refused(r),
-        ReadAnswer::Periods(n) => match checks::count(n) {
-            Check::Refused(r) => ReadAnswer::Refused(r),
-            Check::Passed => ReadAnswer::Periods(n),
-        },
-    }
-}
-
-// Where the record of period `i` begins, counted from 0.
+// Where record `i` begins, counted from 0.
 pub fn record_at(file: &[u8], i: usize) -> usize
-    requires { ⌜ i < periodsIn (now file) ⌝ }
+    requires { ⌜ i ≤ periodsIn (now file) ⌝ }
     ensures { λ r. ⌜ r ≡ recordAt (now (file .entry)) i ⌝ }
 {
     let mut at = 0;
@@ -148,4 +110,38 @@ pub fn record_at(file: &[u8], i: usize) -> usize
         k += 1;
     }
     at
+}
+
+// 10, 11, 12, at the record after `n` period records, which is to be the end record.
+fn end_record(file: &[u8], at: usize, n: usize) -> Check
+    ensures { λ r. ⌜ r ≡ checked (badEnd (now (file .entry)) at n) ⌝ }
+{
+    if file.len() <= at {
+        return Check::Refused(Refusal::TruncatedFile);
+    }
+    if !is_kind(file[at]) {
+        return Check::Refused(Refusal::UnknownKind);
+    }
+    let end = next(file, at);
+    if file.len() < end {
+        return Check::Refused(Refusal::TruncatedFile);
+    }
+    if file.len() != end {
+        return Check::Refused(Refusal::WrongEnd);
+    }
+    if number2(body(file, at), 0) as usize != n {
+        return Check::Refused(Refusal::WrongEnd);
+    }
+    Check::Passed
+}
+
+// 10, 11, 12, then 1, which open every call on a file of `n` period records.
+pub fn tests(file: &[u8], n: usize) -> Check
+    requires { ⌜ n ≡ periodsIn (now file) ⌝ }
+    ensures { λ r. ⌜ r ≡ checked (first (fileTests (now (file .entry)))) ⌝ }
+{
+    if let Check::Refused(r) = end_record(file, record_at(file, n), n) {
+        return Check::Refused(r);
+    }
+    checks::count(n)
 }

@@ -1,9 +1,9 @@
 // The body of a numbered period record, and the refusal of such a lookup.
 ghost use mathlib.Core.Path.{_≡_};
 ghost use Rattle.day.specs.Refusals.{checked};
+ghost use Rattle.day.specs.Figures.{Checks};
 ghost use Rattle.day.specs.File.{noSuchPeriod};
 ghost use Rattle.dayfile.specs.Answers.{badLookup, Lookup};
-use crate::ReadAnswer;
 use crate::layout;
 use day::Check;
 use day::Refusal;
@@ -20,12 +20,13 @@ fn number(n: usize, period: usize) -> Check
 
 // Why a lookup is refused, or that it is not: 10, 11, 12, then 1, then 13.
 pub fn check(file: &[u8], period: usize) -> Check
-    ensures { λ r. ⌜ r ≡ checked (badLookup (now (file .entry)) period) ⌝ }
+    ensures { λ r. ⌜ Checks (badLookup (now (file .entry)) period) r ⌝ }
 {
-    match layout::periods(file) {
-        ReadAnswer::Refused(r) => Check::Refused(r),
-        ReadAnswer::Periods(n) => number(n, period),
+    let n = layout::periods(file);
+    if let Check::Refused(r) = layout::tests(file, n) {
+        return Check::Refused(r);
     }
+    number(n, period)
 }
 
 // The body of the record of `period`, counted from 1: that very part of the file's bytes. An empty part where `check` refuses.

@@ -1,133 +1,117 @@
 -- Laws of the call: what passed tests leave for the work, and what the work leaves is what an accepted call leaves.
 -- Assumes nothing.
 use mathlib.Core.Path.{_≡_, refl, sym, ap, _∙_}
-use mathlib.Core.List.{List, [], _∷_, _++_}
-use mathlib.Core.Option.{Option, none, some, Option·some-ne-none}
-use Prim.Native.Nat.{ℕ, _+_, _-_, _*_, _≤_, _<_}
-use native.Mathlib.Nat.{mul-le-mul}
+use mathlib.Core.List.{List, _++_}
+use Prim.Native.Nat.{ℕ, _-_, _≤_, _<_}
 use native.Mathlib.Omega.{arith}
 use lib.ListN.{length, drop, replicate, List·getD-append}
 use borrow.Rule.Slice.PartMut.{midOf, putMid, mid-len, same-len-mid, drop-put}
-use Rattle.day.specs.declared.Refusal.{Refusal}
-use Rattle.day.specs.declared.Check.{Check}
-use Rattle.day.specs.declared.Check.the-variants.{Passed, Refused}
 use Rattle.day.specs.declared.Totals.{Totals}
 use Rattle.day.specs.Sums.{at}
 use Rattle.day.specs.Day.{Day, periods, total}
-use Rattle.day.specs.Plan.{setups}
-use Rattle.day.specs.Refusals.{first, checked, badTables, badTotal, badAreas, badSlots, shortage, unequal}
-use Rattle.day.specs.Outcome.{Memory, Cleared, Accepted}
-use Rattle.day.specs.Paths.{refusal, equal}
-use Rattle.checks.specs.Passed.{Enough, passed, refused, first-refused, first-passed, first-one, tables-passed, memory-passed, shortage-passed, equal-passed}
-use Rattle.theory.specs.Base.{modelOf, optimal-iff}
-use Rattle.theory.specs.Cut.{cost-ext, optimal-ext}
-use Rattle.theory.specs.Recursion.{leads-optimal}
-use Rattle.florian_klein.specs.Rows.{Sized}
-use Rattle.equal.specs.Solved.{Ready, Solved}
+use Rattle.day.specs.Plan.{Optimal}
+use Rattle.day.specs.Tests.{first-one}
+use Rattle.day.specs.Outcome.{Memory, memoryOf, sizesOf, Cleared, Accepted}
+use Rattle.day.specs.Paths.{equal}
+use Rattle.checks.specs.declared.Needed.{Needed}
+use Rattle.checks.specs.Passed.{Admitted, NeededBy, equal-passed}
+use Rattle.weigher.specs.Verdict.{totalsOf}
+use Rattle.weigher.specs.Walk.{FeasiblePlan}
+use Rattle.theory.specs.Problem.{modelOf}
+use Rattle.theory.specs.Base.{problemOf, bounded, optimal-iff}
+use Rattle.theory.specs.Cut.{optimal-ext}
+use Rattle.equal_rows.specs.Rows.{areas}
+use Rattle.equal.specs.Solved.{Solvable, PlanFound}
 
--- a list without refusals has none in either part
-first-split : (xs ys : List (Option Refusal)) → first (xs ++ ys) ≡ none → (first xs ≡ none) × (first ys ≡ none)
-first-split [] ys e = (refl, e)
-first-split (none ∷ xs) ys e = first-split xs ys e
-first-split (some r ∷ xs) ys e = absurd (Option·some-ne-none _ e)
+-- a part of k cells at the front, lent
+abbrev pub front : ℕ → List ℕ → List ℕ
+front k l = midOf 0 (k - 0) l
 
--- a refusal of one group of tests, those before it passed, is that of the whole list
-pub group-refused : (before group after : List (Option Refusal)) {answer : Check} {r : Refusal}
-    → first before ≡ none → answer ≡ checked (first group) → answer ≡ Refused r → Refused r ≡ checked (first (before ++ (group ++ after)))
-group-refused before group after e is f = sym (ap checked (first-passed before (group ++ after) e ∙ first-refused group after (refused (first group) is f)))
+front-length : (k : ℕ) (l : List ℕ) → k ≤ length l → length (front k l) ≡ k
+front-length k l h = mid-len 0 k l h ∙ omega arith
 
--- groups that passed have passed together
-pub group-passed : (before group : List (Option Refusal)) {answer : Check} → first before ≡ none → answer ≡ checked (first group) → answer ≡ Passed → first (before ++ group) ≡ none
-group-passed before group e is f = first-passed before group e ∙ passed (first group) is f
+-- and given back
+abbrev pub back : (k : ℕ) (l part : List ℕ) → List ℕ
+back k l part = putMid 0 (k - 0) l part
 
--- the tests in the groups in which they are called: 1 to 4; 5 and 6
-abbrev pub tableTests : Day → List (Option Refusal)
-tableTests d = badTables d (badTotal d ∷ [])
+module _ (k : ℕ) (l part : List ℕ) (e : length part ≡ length (front k l)) where
+  back-length : length (back k l part) ≡ length l
+  back-length = same-len-mid 0 (k - 0) l part e
 
--- the cells that are needed for n periods
-abbrev pub costCells : ℕ → ℕ
-costCells n = 6 * (n + 1)
+  back-rest : k ≤ length l → drop k (back k l part) ≡ drop k l
+  back-rest h = drop-put 0 k l part (omega arith) h (e ∙ mid-len 0 k l h)
 
-abbrev pub choiceCells : ℕ → ℕ
-choiceCells n = 4 * ((n + 1) * (n + 1))
+  back-cleared : k ≤ length l → (l′ : List ℕ) → Cleared k (back k l part) l′ → Cleared k l l′
+  back-cleared h l′ c = c ∙ ap (λ (t : List ℕ). replicate k 0 ++ t) (back-rest h)
 
-pub cells-small : (n : ℕ) → n ≤ 96 → (n + 1) * (n + 1) ≤ 9409
-cells-small n h = omega (arith, mul-le-mul {n₁ = n + 1} {m₁ = n + 1} {n₂ = 97} {m₂ = 97} (omega arith) (omega arith))
+module _ (d : Day) (m : Memory) (ok : Admitted equal d (sizesOf m)) (r : Needed) (needed : NeededBy equal (periods d) 0 r) where
+  abbrev n : ℕ
+  n = periods d
 
-abbrev pub memoryTests : Day → Memory → List (Option Refusal)
-memoryTests d m =
-    badAreas (length (m .costs)) (costCells (periods d)) (length (m .choices)) (choiceCells (periods d)) ∷ badSlots (length (m .slots)) (periods d) ∷ []
+  pub costs-inside : r .costs ≤ length (m .costs)
+  costs-inside = omega (arith, needed .costs, ok .room .costs)
 
-module _ (d : Day) (m : Memory) where
-  abbrev memory : List (Option Refusal)
-  memory = memoryTests d m
+  pub choices-inside : r .choices ≤ length (m .choices)
+  choices-inside = omega (arith, needed .choices, ok .room .choices)
 
-  abbrev capacities : List (Option Refusal)
-  capacities = shortage d ∷ unequal d ∷ []
+  pub solvable : Solvable (problemOf d) (areas (front (r .costs) (m .costs)) (front (r .choices) (m .choices))) (front n (m .slots))
+  solvable =
+      record {
+        constant = record {
+          bounded = bounded d (ok .day .limits) (ok .day .total);
+          one = equal-passed d (rw first-one at (ok .own));
+          supplied = ok .supplied;
+        };
+        sized = record {
+          costs = front-length (r .costs) (m .costs) costs-inside ∙ needed .costs;
+          choices = front-length (r .choices) (m .choices) choices-inside ∙ needed .choices;
+        };
+        each = front-length n (m .slots) (ok .room .slots);
+      }
 
-  module _ (accepted : refusal equal d m ≡ none) where
-    later : (first memory ≡ none) × (first capacities ≡ none)
-    later = first-split memory capacities (first-split (tableTests d) (memory ++ capacities) accepted .1)
+  -- what the work left in the front parts fits what is to be cleared
+  pub costs-back : (costs : List ℕ) → length costs ≡ length (front (r .costs) (m .costs)) → r .costs ≤ length (back (r .costs) (m .costs) costs)
+  costs-back costs e = omega (arith, costs-inside, back-length (r .costs) (m .costs) costs e)
 
-    pub accepted-ready : Ready d
-    accepted-ready =
-        let last = first-split (shortage d ∷ []) (unequal d ∷ []) (later .1) in
+  pub choices-back : (choices : List ℕ) → length choices ≡ length (front (r .choices) (m .choices))
+      → r .choices ≤ length (back (r .choices) (m .choices) choices)
+  choices-back choices e = omega (arith, choices-inside, back-length (r .choices) (m .choices) choices e)
+
+  module _ (slots : List ℕ) (size : length slots ≡ length (front n (m .slots))) (found : PlanFound (problemOf d) slots) where
+    abbrev slots′ : List ℕ
+    slots′ = back n (m .slots) slots
+
+    same : (k : ℕ) → k < n → at slots k ≡ at slots′ k
+    same k h = sym (List·getD-append slots _ 0 k (omega (arith, size, front-length n (m .slots) (ok .room .slots))))
+
+    slots-optimal : Optimal d (at slots′)
+    slots-optimal = optimal-iff d (at slots′) .1 (optimal-ext (modelOf (problemOf d)) n (total d) (at slots) (at slots′) same found)
+
+    pub slots-feasible : FeasiblePlan d slots′
+    slots-feasible =
         record {
-          limits = tables-passed d (badTotal d ∷ memory ++ capacities) accepted;
-          one = equal-passed d (sym (first-one (unequal d)) ∙ last .1);
-          supplied = shortage-passed d (sym (first-one (shortage d)) ∙ last .0);
+          weighable = record {
+            few = ok .day .limits .few;
+            lengths = ok .day .limits .lengths;
+            amounts = omega (arith, ok .room .slots, back-length n (m .slots) slots size);
+          };
+          feasible = slots-optimal .feasible;
         }
 
-    pub accepted-enough : Enough (length (m .costs)) (costCells (periods d)) (length (m .choices)) (choiceCells (periods d)) (length (m .slots)) (periods d)
-    accepted-enough = memory-passed _ _ _ _ _ _ [] (later .0)
-
-    -- a part of k cells at the front
-    pub front-length : (k : ℕ) (l : List ℕ) → k ≤ length l → length (midOf 0 (k - 0) l) ≡ k
-    front-length k l h = mid-len 0 k l h ∙ omega arith
-
-    front-rest : (k : ℕ) (l part : List ℕ) → k ≤ length l → length part ≡ length (midOf 0 (k - 0) l) → drop k (putMid 0 (k - 0) l part) ≡ drop k l
-    front-rest k l part h e = drop-put 0 k l part (omega arith) h (e ∙ mid-len 0 k l h)
-
-    front-same-length : (k : ℕ) (l part : List ℕ) → length part ≡ length (midOf 0 (k - 0) l) → length (putMid 0 (k - 0) l part) ≡ length l
-    front-same-length k l part e = same-len-mid 0 (k - 0) l part e
-
-    pub front-holds : (k : ℕ) (l part : List ℕ) → k ≤ length l → length part ≡ length (midOf 0 (k - 0) l) → k ≤ length (putMid 0 (k - 0) l part)
-    front-holds k l part h e = omega (arith, front-same-length k l part e)
-
-    pub accepted-sized : Sized (periods d) (midOf 0 (costCells (periods d) - 0) (m .costs)) (midOf 0 (choiceCells (periods d) - 0) (m .choices))
-    accepted-sized =
+    -- The front parts as the work leaves them, and then cleared, are as an accepted call leaves its memory.
+    pub work-accepted : (t : Totals) (costs choices costs′ choices′ : List ℕ)
+        → length costs ≡ length (front (r .costs) (m .costs))
+        → length choices ≡ length (front (r .choices) (m .choices))
+        → Cleared (r .costs) (back (r .costs) (m .costs) costs) costs′
+        → Cleared (r .choices) (back (r .choices) (m .choices) choices) choices′
+        → t ≡ totalsOf d (at slots′)
+        → Accepted equal d t m (memoryOf costs′ choices′ slots′)
+    work-accepted t costs choices costs′ choices′ e f clear clear′ is =
         record {
-          costs′ = front-length (costCells (periods d)) (m .costs) (accepted-enough .cost);
-          choices′ = front-length (choiceCells (periods d)) (m .choices) (accepted-enough .choice);
+          plan = slots-optimal;
+          counts = rw is (record { cost = refl; setups = refl });
+          size = back-length n (m .slots) slots size;
+          rest = back-rest n (m .slots) slots size (ok .room .slots);
+          costs = rw (needed .costs) at (back-cleared (r .costs) (m .costs) costs e costs-inside costs′ clear);
+          choices = rw (needed .choices) at (back-cleared (r .choices) (m .choices) choices f choices-inside choices′ clear′);
         }
-
-    module _ (t : Totals) (costs choices slots costs′ choices′ : List ℕ)
-        (size : length slots ≡ length (midOf 0 (periods d - 0) (m .slots)))
-        (costs-size : length costs ≡ length (midOf 0 (costCells (periods d) - 0) (m .costs)))
-        (choices-size : length choices ≡ length (midOf 0 (choiceCells (periods d) - 0) (m .choices)))
-        (solved : Solved d (t .cost) slots)
-        (counted : t .setups ≡ setups (periods d) (at (putMid 0 (periods d - 0) (m .slots) slots)))
-        (clear : Cleared (costCells (periods d)) (putMid 0 (costCells (periods d) - 0) (m .costs) costs) costs′)
-        (clear′ : Cleared (choiceCells (periods d)) (putMid 0 (choiceCells (periods d) - 0) (m .choices) choices) choices′) where
-      abbrev n : ℕ
-      n = periods d
-
-      slots′ : List ℕ
-      slots′ = putMid 0 (n - 0) (m .slots) slots
-
-      same : (k : ℕ) → k < n → at slots k ≡ at slots′ k
-      unfolding slots′
-      same k h = sym (List·getD-append slots _ 0 k (omega (arith, size, front-length n (m .slots) (accepted-enough .slot))))
-
-      -- The front parts as the work leaves them, and then cleared, are as an accepted call leaves its memory.
-      pub work-accepted : Accepted d (costCells n) (choiceCells n) t m (record { costs = costs′; choices = choices′; slots = putMid 0 (n - 0) (m .slots) slots })
-      unfolding slots′
-      work-accepted =
-          record {
-            plan = optimal-iff d (at slots′) .1 (optimal-ext (modelOf d) n (total d) (at slots) (at slots′) same (leads-optimal (modelOf d) n (total d) (record { cost = t .cost; plan = slots }) (solved .plan)));
-            counts = record { cost = solved .plan .tells ∙ cost-ext (modelOf d) (at slots) (at slots′) n same; setups = counted };
-            size = front-same-length n (m .slots) slots size;
-            rest = front-rest n (m .slots) slots (accepted-enough .slot) size;
-            costs = clear ∙ ap (λ (l : List ℕ). replicate (costCells n) 0 ++ l) (front-rest (costCells n) (m .costs) costs (accepted-enough .cost) costs-size);
-            choices = clear′ ∙ ap (λ (l : List ℕ). replicate (choiceCells n) 0 ++ l) (front-rest (choiceCells n) (m .choices) choices (accepted-enough .choice) choices-size);
-          }

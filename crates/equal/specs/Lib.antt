@@ -1,2 +1,2 @@
--- What the work of the equal path starts from and ends with.
+-- What the work of the equal path asks and gives.
 pub mod Solved

@@ -1,54 +1,21 @@
 //! The equal path: Florian and Klein (report, section 3), for days with one capacity throughout.
-//! It tests, finds the plan row by row, hands out the last row, and clears its areas.
-ghost use mathlib.Core.Path.{_≡_};
-ghost use mathlib.Core.Option.{none};
-ghost use Prim.Native.Nat.{_+_, _*_, _≤_};
+//! It tests, finds the plan row by row, hands out the last row, clears its areas, and weighs the plan.
+ghost use Prim.Native.Nat.{ℕ};
 ghost use lib.ListN.{length};
-ghost use Rattle.day.specs.Sums.{at};
 ghost use Rattle.day.specs.Day.{dayOf};
-ghost use Rattle.day.specs.Refusals.{checked};
-ghost use Rattle.day.specs.Outcome.{Accepted};
-ghost use Rattle.day.specs.Paths.{Runs, refusal, equal};
-ghost use Rattle.florian_klein.specs.Rows.{Sized};
-ghost use Rattle.equal.specs.Solved.{Ready, Solved};
+ghost use Rattle.day.specs.Lent.{dayBefore, memoryBefore, memoryAfter};
+ghost use Rattle.day.specs.Outcome.{sizes, Accepted, Runs};
+ghost use Rattle.day.specs.Paths.{equal};
+ghost use Rattle.checks.specs.Passed.{Admitted};
+ghost use Rattle.theory.specs.Problem.{problemWith};
+ghost use Rattle.equal_rows.specs.Rows.{areas};
+ghost use Rattle.equal.specs.Solved.{Solvable, PlanFound};
 use day::Answer;
 use day::Check;
+use day::PathKind;
 use day::Totals;
 
-// Tests 1 to 7 in order, then 8.
-fn test(
-    demand: &[u16],
-    capacity: &[u16],
-    setup: &[u32],
-    unit: &[u32],
-    holding: &[u32],
-    costs: &[u64],
-    choices: &[u16],
-    slots: &[u16],
-) -> Check
-    ensures { λ r. ⌜ r ≡ checked (refusal equal (dayOf (now (demand .entry)) (now (capacity .entry)) (now (setup .entry)) (now (unit .entry)) (now (holding .entry))) (record { costs = now (costs .entry); choices = now (choices .entry); slots = now (slots .entry) })) ⌝ }
-{
-    if let Check::Refused(r) = checks::day(demand, capacity, setup, unit, holding) {
-        return Check::Refused(r);
-    }
-    let n = demand.len();
-    if let Check::Refused(r) = checks::memory(
-        costs.len(),
-        6 * (n + 1),
-        choices.len(),
-        4 * ((n + 1) * (n + 1)),
-        slots.len(),
-        n,
-    ) {
-        return Check::Refused(r);
-    }
-    if let Check::Refused(r) = checks::shortage(demand, capacity) {
-        return Check::Refused(r);
-    }
-    checks::equal(demand, capacity)
-}
-
-// The plan of the day into the slots, and its cost. Where nothing can be made, nothing is demanded.
+// The plan into the slots. Where nothing can be made, nothing is demanded. What is left in the areas is free.
 fn solve(
     demand: &[u16],
     capacity: &[u16],
@@ -58,28 +25,26 @@ fn solve(
     costs: &mut [u64],
     choices: &mut [u16],
     slots: &mut [u16],
-) -> u64
-    requires { ⌜ Ready (dayOf (now demand) (now capacity) (now setup) (now unit) (now holding)) × Sized (length (now demand)) (now costs) (now choices) × (length (now slots) ≡ length (now demand)) ⌝ }
-    ensures { λ r. ⌜ Solved (dayOf (now (demand .entry)) (now (capacity .entry)) (now (setup .entry)) (now (unit .entry)) (now (holding .entry))) r (now (slots .exit)) ⌝ }
+)
+    requires { ⌜
+        Solvable (problemWith (now demand) (now capacity) (now setup) (now unit) (now holding))
+        (areas (now costs) (now choices)) (now slots)
+        ⌝ }
+    ensures { λ _. ⌜
+        PlanFound
+        (problemWith (now (demand .entry)) (now (capacity .entry)) (now (setup .entry)) (now (unit .entry)) (now (holding .entry)))
+        (now (slots .exit))
+        ⌝ }
 {
     let n = demand.len();
-    if capacity[0] == 0 {
+    let full = capacity[0];
+    if full == 0 {
         areas::clear_choices(slots, n);
-        return 0;
+        return;
     }
-    florian_klein::rows(
-        demand,
-        capacity,
-        setup,
-        unit,
-        holding,
-        costs,
-        choices,
-        slots,
-    );
+    equal_rows::rows(demand, setup, unit, holding, full, costs, choices, slots);
     let from = n * n;
-    florian_klein::copy(&choices[from..from + n], slots);
-    costs[n]
+    equal_rows::copy(&choices[from..from + n], slots);
 }
 
 // The work, once the tests have passed.
@@ -93,13 +58,20 @@ fn work(
     choices: &mut [u16],
     slots: &mut [u16],
 ) -> Totals
-    requires { ⌜ refusal equal (dayOf (now demand) (now capacity) (now setup) (now unit) (now holding)) (record { costs = now costs; choices = now choices; slots = now slots }) ≡ none ⌝ }
-    ensures { λ r. ⌜ Accepted (dayOf (now (demand .entry)) (now (capacity .entry)) (now (setup .entry)) (now (unit .entry)) (now (holding .entry))) (6 * (length (now (demand .entry)) + 1)) (4 * ((length (now (demand .entry)) + 1) * (length (now (demand .entry)) + 1))) r (record { costs = now (costs .entry); choices = now (choices .entry); slots = now (slots .entry) }) (record { costs = now (costs .exit); choices = now (choices .exit); slots = now (slots .exit) }) ⌝ }
+    requires { ⌜ Admitted equal
+        (dayOf (now demand) (now capacity) (now setup) (now unit) (now holding))
+        (sizes (length (now costs)) (length (now choices)) (length (now slots))) ⌝ }
+    ensures { λ r. ⌜ Accepted equal
+        (dayBefore demand capacity setup unit holding)
+        r
+        (memoryBefore costs choices slots)
+        (memoryAfter costs choices slots) ⌝ }
 {
     let n = demand.len();
-    let cost_cells = 6 * (n + 1);
-    let choice_cells = 4 * ((n + 1) * (n + 1));
-    let cost = solve(
+    let needed = checks::cells(PathKind::Equal, n, 0);
+    let cost_cells = needed.costs;
+    let choice_cells = needed.choices;
+    solve(
         demand,
         capacity,
         setup,
@@ -109,13 +81,9 @@ fn work(
         &mut choices[0..choice_cells],
         &mut slots[0..n],
     );
-    let totals = Totals {
-        cost,
-        setups: areas::count(slots, n),
-    };
     areas::clear_costs(costs, cost_cells);
     areas::clear_choices(choices, choice_cells);
-    totals
+    weigher::totals(demand, capacity, setup, unit, holding, slots)
 }
 
 // The plan of a day with one capacity throughout, into the first n slots.
@@ -129,17 +97,22 @@ pub fn plan(
     choices: &mut [u16],
     slots: &mut [u16],
 ) -> Answer
-    ensures { λ r. ⌜ Runs equal (dayOf (now (demand .entry)) (now (capacity .entry)) (now (setup .entry)) (now (unit .entry)) (now (holding .entry))) (record { costs = now (costs .entry); choices = now (choices .entry); slots = now (slots .entry) }) r (record { costs = now (costs .exit); choices = now (choices .exit); slots = now (slots .exit) }) ⌝ }
+    ensures { λ r. ⌜ Runs equal
+        (dayBefore demand capacity setup unit holding)
+        (memoryBefore costs choices slots)
+        r
+        (memoryAfter costs choices slots) ⌝ }
 {
-    if let Check::Refused(r) = test(
+    if let Check::Refused(r) = checks::path(
+        PathKind::Equal,
         demand,
         capacity,
         setup,
         unit,
         holding,
-        costs,
-        choices,
-        slots,
+        costs.len(),
+        choices.len(),
+        slots.len(),
     ) {
         return Answer::Refused(r);
     }

@@ -12,7 +12,7 @@ fn save(
     holding: &[u32],
 ) {
     let mut file = [0u8; 1635];
-    let answer = dayfile::writer::write(demand, capacity, setup, unit, holding, &mut file);
+    let answer = dayfile_writer::write(demand, capacity, setup, unit, holding, &mut file);
     let WriteAnswer::Bytes(n) = answer else {
         io::write_all(STDOUT_FILENO, b"refused ");
         io::write_all(STDOUT_FILENO, name);
@@ -65,210 +65,34 @@ fn save_marked() {
     save_row(b"m12.day", &[0, 0], &[0, 0], 5, 1, 1);
 }
 
-// A day of quarter hours: 2 watt-hours each, 5 in a pass of half an hour every three hours; fuel is dearer in the cold of the night.
-const PASSES: [u16; 96] = [
-    5,
-    5,
-    2,
-    2,
-    2,
-    2,
-    2,
-    2,
-    2,
-    2,
-    2,
-    2,
-    5,
-    5,
-    2,
-    2,
-    2,
-    2,
-    2,
-    2,
-    2,
-    2,
-    2,
-    2,
-    5,
-    5,
-    2,
-    2,
-    2,
-    2,
-    2,
-    2,
-    2,
-    2,
-    2,
-    2,
-    5,
-    5,
-    2,
-    2,
-    2,
-    2,
-    2,
-    2,
-    2,
-    2,
-    2,
-    2,
-    5,
-    5,
-    2,
-    2,
-    2,
-    2,
-    2,
-    2,
-    2,
-    2,
-    2,
-    2,
-    5,
-    5,
-    2,
-    2,
-    2,
-    2,
-    2,
-    2,
-    2,
-    2,
-    2,
-    2,
-    5,
-    5,
-    2,
-    2,
-    2,
-    2,
-    2,
-    2,
-    2,
-    2,
-    2,
-    2,
-    5,
-    5,
-    2,
-    2,
-    2,
-    2,
-    2,
-    2,
-    2,
-    2,
-    2,
-    2,
-];
+// The needs of quarter hours: 2 watt-hours each, 5 in a pass of half an hour every three hours.
+fn passes() -> [u16; 96] {
+    let mut demand = [2u16; 96];
+    let mut i = 0;
+    while i < 8 {
+        demand[12 * i] = 5;
+        demand[12 * i + 1] = 5;
+        i += 1;
+    }
+    demand
+}
 
-const FUEL: [u32; 96] = [
-    1100,
-    1100,
-    1100,
-    1100,
-    1100,
-    1100,
-    1100,
-    1100,
-    1100,
-    1100,
-    1100,
-    1100,
-    1100,
-    1100,
-    1100,
-    1100,
-    1100,
-    1100,
-    1100,
-    1100,
-    1100,
-    1100,
-    1100,
-    1100,
-    1100,
-    1100,
-    1100,
-    1100,
-    900,
-    900,
-    900,
-    900,
-    900,
-    900,
-    900,
-    900,
-    900,
-    900,
-    900,
-    900,
-    900,
-    900,
-    900,
-    900,
-    900,
-    900,
-    900,
-    900,
-    900,
-    900,
-    900,
-    900,
-    900,
-    900,
-    900,
-    900,
-    900,
-    900,
-    900,
-    900,
-    900,
-    900,
-    900,
-    900,
-    900,
-    900,
-    900,
-    900,
-    900,
-    900,
-    900,
-    900,
-    900,
-    900,
-    900,
-    900,
-    900,
-    900,
-    900,
-    900,
-    900,
-    900,
-    900,
-    900,
-    900,
-    900,
-    900,
-    900,
-    900,
-    900,
-    900,
-    900,
-    900,
-    900,
-    900,
-    900,
-];
+// Fuel is dearer in the cold of the night, which is the first seven hours.
+fn fuel() -> [u32; 96] {
+    let mut unit = [900u32; 96];
+    let mut i = 0;
+    while i < 28 {
+        unit[i] = 1100;
+        i += 1;
+    }
+    unit
+}
 
 fn save_passes() {
-    let demand = PASSES;
+    let demand = passes();
     let capacity = [12u16; 96];
     let setup = [4000u32; 96];
-    let unit = FUEL;
+    let unit = fuel();
     let holding = [40u32; 96];
     save(b"passes.day", &demand, &capacity, &setup, &unit, &holding);
 }

@@ -1,90 +1,121 @@
 -- The work of the full path, in plain variables: the table in the front parts of both areas, the plan in the slots, the areas cleared.
 -- Assumes nothing.
-use mathlib.Core.Path.{_≡_, _∙_}
+use mathlib.Core.Path.{_≡_, refl, _∙_}
 use mathlib.Core.List.{List, _++_}
-use Prim.Native.Nat.{ℕ, _+_, _-_, _*_}
+use mathlib.Core.Option.{none}
+use Prim.Native.Nat.{ℕ, _-_}
 use native.Mathlib.Omega.{arith}
 use lib.ListN.{length, take, drop, length-append}
 use lib.Seq.{length-take-le, drop-at}
 use Rattle.day.specs.declared.Totals.{Totals}
-use Rattle.day.specs.Day.{Day, periods}
-use Rattle.day.specs.Outcome.{Memory, Cleared, Accepted}
+use Rattle.day.specs.Sums.{at}
+use Rattle.day.specs.Day as Day
+use Rattle.day.specs.Day.{Day}
+use Rattle.day.specs.Outcome.{Memory, memoryOf, sizesOf, refusal, Cleared, Accepted}
 use Rattle.day.specs.Paths.{full}
-use Rattle.theory.specs.Full.{back}
-use Rattle.table.specs.Table.{cellAt, Fillable, Filled, Readable, ReadBack}
-use Rattle.table.specs.Right.{back-length, filled-longer, filled-traced, filled-optimal, filled-cost, filled-setups}
-use Rattle.full.specs.Work.{Tested, Planned}
+use Rattle.checks.specs.declared.Needed.{Needed}
+use Rattle.checks.specs.Passed.{NeededBy, admitted}
+use Rattle.weigher.specs.Verdict.{totalsOf}
+use Rattle.weigher.specs.Walk.{FeasiblePlan}
+use Rattle.theory.specs.Problem.{Problem, periods}
+use Rattle.theory.specs.Base.{problemOf, bounded, optimal-iff}
+use Rattle.full_table.specs.Table.{cellAt, Fillable, TableFilled, Traceable, planRead}
+use Rattle.full_table.specs.Right.{back-length, filled-longer, filled-traced, filled-optimal}
+use Rattle.full.specs.Work.{Workable, PlanLeft}
 
 -- past a front that has been written, the list is as it was
 drop-front : (n k : ℕ) (front l : List ℕ) → k ≡ n → length front ≡ k → drop n (front ++ drop k l) ≡ drop n l
 drop-front n k front l e s = rw (← e) (drop-at front (drop k l) k s)
 
-module _ {d : Day} {m : Memory} {T : ℕ} (t : Tested d m T) where
+module _ {p : Problem} {T : ℕ} {c : Needed} {m : Memory} (w : Workable p T c m) where
   -- how many cells of each area are lent: a part from 0 to e has e - 0
   abbrev k : ℕ
-  k = 2 * (T + 1) - 0
+  k = c .costs - 0
 
   abbrev k′ : ℕ
-  k′ = periods d * (T + 1) - 0
+  k′ = c .choices - 0
 
-  pub front-fillable : Fillable d (take k (m .costs)) (take k′ (m .choices)) T
+  lent : length (take k (m .costs)) ≡ k
+  lent = length-take-le k (m .costs) (omega (arith, w .needed .costs, w .fillable .costCells))
+
+  lent′ : length (take k′ (m .choices)) ≡ k′
+  lent′ = length-take-le k′ (m .choices) (omega (arith, w .needed .choices, w .fillable .choiceCells))
+
+  pub front-fillable : Fillable p (take k (m .costs)) (take k′ (m .choices)) T
   front-fillable =
-      let f = t .fillable in
+      let f = w .fillable in
       record {
-        limits = f .limits;
-        is = f .is;
-        small = f .small;
+        bounded = f .bounded;
         supplied = f .supplied;
-        costCells = omega (arith, length-take-le k (m .costs) (omega (arith, f .costCells)));
-        choiceCells = omega (arith, length-take-le k′ (m .choices) (omega (arith, f .choiceCells)));
+        is = f .is;
+        costCells = omega (arith, lent, w .needed .costs);
+        choiceCells = omega (arith, lent′, w .needed .choices);
       }
 
-  module _ {front′ : List ℕ} {r : ℕ} (filled : Filled d front′ T r) (size′ : length front′ ≡ length (take k′ (m .choices))) where
-    cells : length front′ ≡ k′
-    cells = size′ ∙ length-take-le k′ (m .choices) (omega (arith, t .fillable .choiceCells))
+  module _ {front′ : List ℕ} (filled : TableFilled p T front′) (size′ : length front′ ≡ length (take k′ (m .choices))) where
+    abbrev cells : List ℕ
+    cells = front′ ++ drop k′ (m .choices)
 
-    longer : Filled d (front′ ++ drop k′ (m .choices)) T r
-    longer = filled-longer (t .fillable) filled (omega (arith, cells)) (drop k′ (m .choices))
+    longer : TableFilled p T cells
+    longer = filled-longer (w .fillable) filled (omega (arith, lent′, w .needed .choices)) (drop k′ (m .choices))
 
-    pub front-readable : Readable (front′ ++ drop k′ (m .choices)) (m .slots) (periods d) T
-    front-readable =
+    pub front-traceable : Traceable cells (m .slots) (periods p) T
+    front-traceable =
         record {
-          few = t .fillable .limits .few;
-          small = t .fillable .small;
-          choiceCells = omega (arith, length-append front′ (drop k′ (m .choices)), cells);
-          slotCells = t .slotCells;
-          traced = filled-traced (t .fillable) longer;
+          small = omega (arith, w .fillable .is, w .fillable .bounded .small);
+          choiceCells = omega (arith, length-append front′ (drop k′ (m .choices)), lent′, w .needed .choices);
+          slotCells = w .slotCells;
+          traced = filled-traced (w .fillable) longer;
         }
 
-    pub front-planned : (front : List ℕ) {slots′ : List ℕ} {s : ℕ} → length front ≡ length (take k (m .costs))
-        → ReadBack (front′ ++ drop k′ (m .choices)) (m .slots) (periods d) T slots′ s
-        → Planned d m T (record { cost = r; setups = s }) (record { costs = front ++ drop k (m .costs); choices = front′ ++ drop k′ (m .choices); slots = slots′ })
-    front-planned front size b =
-        let p = b .plan in
-        let rest = drop (periods d) (m .slots) in
-        let lent : length front ≡ k = size ∙ length-take-le k (m .costs) (omega (arith, t .fillable .costCells)) in
-        rw p
+    pub front-planned : (front : List ℕ) {slots′ : List ℕ} → length front ≡ length (take k (m .costs))
+        → slots′ ≡ planRead cells (periods p) T ++ drop (periods p) (m .slots)
+        → PlanLeft p c m (memoryOf (front ++ drop k (m .costs)) cells slots′)
+    front-planned front size e =
+        let rest = drop (periods p) (m .slots) in
+        rw e
         (record {
-          plan = filled-optimal (t .fillable) longer rest;
-          counts = record { cost = filled-cost (t .fillable) longer rest; setups = b .setups ∙ filled-setups (t .fillable) longer rest };
-          slots = drop-at (back (cellAt (front′ ++ drop k′ (m .choices)) T) (periods d) T) rest (periods d) (back-length (cellAt (front′ ++ drop k′ (m .choices)) T) (periods d) T);
-          costs = drop-front (2 * (T + 1)) k front (m .costs) (omega arith) lent;
-          choices = drop-front (periods d * (T + 1)) k′ front′ (m .choices) (omega arith) cells;
+          plan = filled-optimal (w .fillable) longer rest;
+          slots = drop-at (planRead cells (periods p) T) rest (periods p) (back-length (cellAt cells T) (periods p) T);
+          costs = drop-front (c .costs) k front (m .costs) (omega arith) (size ∙ lent);
+          choices = drop-front (c .choices) k′ front′ (m .choices) (omega arith) (size′ ∙ lent′);
         })
 
--- after the work both areas are cleared
-pub work-accepted : {d : Day} {m after : Memory} {T : ℕ} {r : Totals} {costs′ choices′ : List ℕ} → Tested d m T → Planned d m T r after
-    → length (after .slots) ≡ length (m .slots)
-    → Cleared (2 * (T + 1)) (after .costs) costs′
-    → Cleared (periods d * (T + 1)) (after .choices) choices′
-    → Accepted d (full .costCells d) (full .choiceCells d) r m (record { costs = costs′; choices = choices′; slots = after .slots })
-work-accepted {d} {m} {after} {T} t p size a b =
-    let q = t .fillable .is in
-    record {
-      plan = p .plan;
-      counts = p .counts;
-      size = size;
-      rest = p .slots;
-      costs = rw (← q) (rw (p .costs) at a);
-      choices = rw (← q) (rw (p .choices) at b);
-    }
+module _ {d : Day} {m : Memory} (ok : refusal full d (sizesOf m) ≡ none) where
+  pub workable : {T : ℕ} {c : Needed} → T ≡ Day.total d → NeededBy full (Day.periods d) T c → Workable (problemOf d) T c m
+  workable t n =
+      let a = admitted full d (sizesOf m) ok in
+      record {
+        fillable = record {
+          bounded = bounded d (a .day .limits) (a .day .total);
+          supplied = a .supplied;
+          is = t;
+          costCells = omega (arith, a .room .costs);
+          choiceCells = rw t (a .room .choices);
+        };
+        slotCells = a .room .slots;
+        needed = n;
+      }
+
+  module _ {c : Needed} {after : Memory} (left : PlanLeft (problemOf d) c m after) (size : length (after .slots) ≡ length (m .slots)) where
+    pub left-feasible : FeasiblePlan d (after .slots)
+    left-feasible =
+        let a = admitted full d (sizesOf m) ok in
+        record {
+          weighable = record { few = a .day .limits .few; lengths = a .day .limits .lengths; amounts = omega (arith, a .room .slots) };
+          feasible = optimal-iff d (at (after .slots)) .1 (left .plan) .feasible;
+        }
+
+    -- after the work both areas are cleared
+    pub work-accepted : {T : ℕ} {r : Totals} {costs′ choices′ : List ℕ} → T ≡ Day.total d → NeededBy full (Day.periods d) T c
+        → r ≡ totalsOf d (at (after .slots)) → Cleared (c .costs) (after .costs) costs′ → Cleared (c .choices) (after .choices) choices′
+        → Accepted full d r m (memoryOf costs′ choices′ (after .slots))
+    work-accepted t n e a b =
+        record {
+          plan = optimal-iff d (at (after .slots)) .1 (left .plan);
+          counts = rw e (record { cost = refl; setups = refl });
+          size = size;
+          rest = left .slots;
+          costs = rw (n .costs, t) at (rw (left .costs) at a);
+          choices = rw (n .choices, t) at (rw (left .choices) at b);
+        }

@@ -1,1 +1,2 @@
+-- What the full path's work asks and leaves.
 pub mod Work

@@ -2,46 +2,18 @@
 ghost use mathlib.Core.Path.{_≡_};
 ghost use mathlib.Core.Option.{none};
 ghost use Rattle.day.specs.Day.{dayOf};
-ghost use Rattle.day.specs.Refusals.{checked};
-ghost use Rattle.day.specs.Outcome.{Accepted};
-ghost use Rattle.day.specs.Paths.{refusal, Runs, full};
-ghost use Rattle.full.specs.Work.{Tested, Planned};
+ghost use Rattle.day.specs.Lent.{dayBefore, memoryBefore, memoryAfter};
+ghost use Rattle.day.specs.Outcome.{memoryOf, sizesOf, refusal, Accepted, Runs};
+ghost use Rattle.day.specs.Paths.{full};
+ghost use Rattle.theory.specs.Problem.{problemWith};
+ghost use Rattle.full.specs.Work.{Workable, PlanLeft};
+use checks::Needed;
 use day::Answer;
 use day::Check;
+use day::PathKind;
 use day::Totals;
 
-// 1 to 7, in order.
-fn test(
-    demand: &[u16],
-    capacity: &[u16],
-    setup: &[u32],
-    unit: &[u32],
-    holding: &[u32],
-    costs: &[u64],
-    choices: &[u16],
-    slots: &[u16],
-) -> Check
-    ensures { λ r. ⌜ r ≡ checked (refusal full (dayOf (now (demand .entry)) (now (capacity .entry)) (now (setup .entry)) (now (unit .entry)) (now (holding .entry))) (record { costs = now (costs .entry); choices = now (choices .entry); slots = now (slots .entry) })) ⌝ }
-{
-    if let Check::Refused(r) = checks::day(demand, capacity, setup, unit, holding) {
-        return Check::Refused(r);
-    }
-    let n = demand.len();
-    let width = checks::total(demand) as usize + 1;
-    if let Check::Refused(r) = checks::memory(
-        costs.len(),
-        2 * width,
-        choices.len(),
-        n * width,
-        slots.len(),
-        n,
-    ) {
-        return Check::Refused(r);
-    }
-    checks::shortage(demand, capacity)
-}
-
-// The plan into the slots, by the first cells of both areas; its cost and setups.
+// The plan into the slots, by the needed cells of both areas.
 fn fill_and_read(
     demand: &[u16],
     capacity: &[u16],
@@ -52,14 +24,20 @@ fn fill_and_read(
     choices: &mut [u16],
     slots: &mut [u16],
     total: usize,
-) -> Totals
-    requires { ⌜ Tested (dayOf (now demand) (now capacity) (now setup) (now unit) (now holding)) (record { costs = now costs; choices = now choices; slots = now slots }) total ⌝ }
-    ensures { λ r. ⌜ Planned (dayOf (now (demand .entry)) (now (capacity .entry)) (now (setup .entry)) (now (unit .entry)) (now (holding .entry))) (record { costs = now (costs .entry); choices = now (choices .entry); slots = now (slots .entry) }) total r (record { costs = now (costs .exit); choices = now (choices .exit); slots = now (slots .exit) }) ⌝ }
+    needed: Needed,
+)
+    requires { ⌜ Workable
+        (problemWith (now demand) (now capacity) (now setup) (now unit) (now holding))
+        total needed (memoryOf (now costs) (now choices) (now slots)) ⌝ }
+    ensures { λ _. ⌜ PlanLeft
+        (problemWith (now (demand .entry)) (now (capacity .entry)) (now (setup .entry)) (now (unit .entry)) (now (holding .entry)))
+        needed
+        (memoryBefore costs choices slots)
+        (memoryAfter costs choices slots) ⌝ }
 {
-    let n = demand.len();
-    let cost_cells = 2 * (total + 1);
-    let choice_cells = n * (total + 1);
-    let cost = table::fill(
+    let cost_cells = needed.costs;
+    let choice_cells = needed.choices;
+    full_table::fill(
         demand,
         capacity,
         setup,
@@ -69,10 +47,7 @@ fn fill_and_read(
         &mut choices[0..choice_cells],
         total,
     );
-    Totals {
-        cost,
-        setups: table::read_back(choices, slots, n, total),
-    }
+    full_table::read_back(choices, slots, demand.len(), total);
 }
 
 // The work, once the tests have passed.
@@ -86,11 +61,19 @@ fn work(
     choices: &mut [u16],
     slots: &mut [u16],
 ) -> Totals
-    requires { ⌜ refusal full (dayOf (now demand) (now capacity) (now setup) (now unit) (now holding)) (record { costs = now costs; choices = now choices; slots = now slots }) ≡ none ⌝ }
-    ensures { λ r. ⌜ Accepted (dayOf (now (demand .entry)) (now (capacity .entry)) (now (setup .entry)) (now (unit .entry)) (now (holding .entry))) (full .costCells (dayOf (now (demand .entry)) (now (capacity .entry)) (now (setup .entry)) (now (unit .entry)) (now (holding .entry)))) (full .choiceCells (dayOf (now (demand .entry)) (now (capacity .entry)) (now (setup .entry)) (now (unit .entry)) (now (holding .entry)))) r (record { costs = now (costs .entry); choices = now (choices .entry); slots = now (slots .entry) }) (record { costs = now (costs .exit); choices = now (choices .exit); slots = now (slots .exit) }) ⌝ }
+    requires { ⌜
+        refusal full
+        (dayOf (now demand) (now capacity) (now setup) (now unit) (now holding))
+        (sizesOf (memoryOf (now costs) (now choices) (now slots))) ≡ none ⌝ }
+    ensures { λ r. ⌜ Accepted full
+        (dayBefore demand capacity setup unit holding)
+        r
+        (memoryBefore costs choices slots)
+        (memoryAfter costs choices slots) ⌝ }
 {
     let total = checks::total(demand) as usize;
-    let totals = fill_and_read(
+    let needed = checks::cells(PathKind::Full, demand.len(), total);
+    fill_and_read(
         demand,
         capacity,
         setup,
@@ -100,9 +83,11 @@ fn work(
         choices,
         slots,
         total,
+        needed,
     );
-    areas::clear_costs(costs, 2 * (total + 1));
-    areas::clear_choices(choices, demand.len() * (total + 1));
+    let totals = weigher::totals(demand, capacity, setup, unit, holding, slots);
+    areas::clear_costs(costs, needed.costs);
+    areas::clear_choices(choices, needed.choices);
     totals
 }
 
@@ -117,17 +102,22 @@ pub fn plan(
     choices: &mut [u16],
     slots: &mut [u16],
 ) -> Answer
-    ensures { λ r. ⌜ Runs full (dayOf (now (demand .entry)) (now (capacity .entry)) (now (setup .entry)) (now (unit .entry)) (now (holding .entry))) (record { costs = now (costs .entry); choices = now (choices .entry); slots = now (slots .entry) }) r (record { costs = now (costs .exit); choices = now (choices .exit); slots = now (slots .exit) }) ⌝ }
+    ensures { λ r. ⌜ Runs full
+        (dayBefore demand capacity setup unit holding)
+        (memoryBefore costs choices slots)
+        r
+        (memoryAfter costs choices slots) ⌝ }
 {
-    if let Check::Refused(r) = test(
+    if let Check::Refused(r) = checks::path(
+        PathKind::Full,
         demand,
         capacity,
         setup,
         unit,
         holding,
-        costs,
-        choices,
-        slots,
+        costs.len(),
+        choices.len(),
+        slots.len(),
     ) {
         return Answer::Refused(r);
     }

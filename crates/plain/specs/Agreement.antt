@@ -1,8 +1,10 @@
--- When a path's answer agrees with what the plain search found. Assumes nothing.
+-- When a path's answer agrees with what the plain search found. Main definition: `Agreement`. Assumes nothing.
 use mathlib.Core.Path.{_≡_}
-use mathlib.Core.Bool.{true, false}
+use mathlib.Core.Bool.{Bool, true, false}
 use mathlib.Core.List.{List}
-use Prim.Native.Nat.{ℕ, _<_}
+use Prim.Native.Nat.{ℕ, _≤_, _<_}
+use native.Mathlib.Omega.{arith}
+use lib.ListN.{length}
 use Rattle.day.specs.declared.Totals.{Totals}
 use Rattle.day.specs.declared.Answer.{Answer}
 use Rattle.day.specs.declared.Answer.the-variants.{Refused, Planned}
@@ -10,9 +12,26 @@ use Rattle.day.specs.Sums.{at}
 use Rattle.day.specs.Refusals.{numberOf}
 use Rattle.plain.specs.declared.Best.{Best}
 
--- the first n amounts are alike
-abbrev pub SamePlan : ℕ → (plan slots : List ℕ) → Type 0
-SamePlan n plan slots = (k : ℕ) → k < n → at slots k ≡ at plan k
+-- an answer that is true exactly if A holds
+pub record Decides (A : Type 0) (r : Bool) : Type 0 where
+  pub holds : r ≡ true → A
+  pub fails : r ≡ false → A → ⊥
+
+pub decides-true : {A : Type 0} → A → Decides A true
+decides-true a = record { holds = λ _. a; fails = λ e. let z : _≡_ {A = ℕ} 0 1 = cc in absurd (omega arith) }
+
+pub decides-false : {A : Type 0} → (A → ⊥) → Decides A false
+decides-false h = record { holds = λ e. let z : _≡_ {A = ℕ} 0 1 = cc in absurd (omega arith); fails = λ _. h }
+
+-- what decides B decides A, if they are equivalent
+pub decides-iff : {A B : Type 0} (r : Bool) → (A → B) → (B → A) → Decides B r → Decides A r
+decides-iff r to from d = record { holds = λ e. from (d .holds e); fails = λ e a. d .fails e (to a) }
+
+-- the first n amounts, of at most four, are in the slots
+pub record SamePlan (n : ℕ) (plan slots : List ℕ) : Type 0 where
+  pub few : n ≤ 4
+  pub room : n ≤ length slots
+  pub alike : (k : ℕ) → k < n → at slots k ≡ at plan k
 
 -- the plan found, with its cost and setups
 pub record Same (best : Best) (n : ℕ) (t : Totals) (slots : List ℕ) : Type 0 where

@@ -1,4 +1,5 @@
--- What a made-up day's tables hold; what the search finds; when a path's answer agrees with it.
-pub mod Sizes
+-- Made-up days; what the search finds, and that it is the plan of the day; when a path's answer agrees with it.
+pub mod MadeUp
 pub mod Search
+pub mod Optimal
 pub mod Agreement

@@ -1,36 +1,45 @@
 //! For the programs that try the paths: a plain search over all plans of a tiny day, made-up tiny days, and the comparison of
 //! a path's answer with the search's. A tiny day has one to four periods and a demand of at most 8 in all.
 ghost use mathlib.Core.Path.{_≡_};
-ghost use mathlib.Core.Bool.{true};
-ghost use Prim.Native.Nat.{_+_, _*_, _/_, _%_, _^_};
-ghost use lib.ListN.{length};
 ghost use Rattle.day.specs.Day.{dayOf};
-ghost use Rattle.plain.specs.Sizes.{Sized};
-ghost use Rattle.plain.specs.Agreement.{SamePlan, Agreement};
-ghost use Rattle.plain.specs.Search.{planOf, plansOf, foundAs, betterOf, Chosen};
+ghost use Rattle.plain.specs.MadeUp.{nextOf, upperOf, capacityOf, drawnOf, MadeUp};
+ghost use Rattle.plain.specs.Agreement.{Decides, SamePlan, Agreement};
+ghost use Rattle.plain.specs.Search.{planOf, plansOf, foundAs, betterOf};
+ghost use Rattle.plain.specs.Optimal.{Searched};
 use day::Answer;
 use day::Totals;
 use weigher::Verdict;
 use weigher::Weighed;
 
 // One draw of the generator in document 02, 2.7: the next seed. The number drawn is its upper half.
-pub fn next(seed: u32) -> u32
-    ensures { λ r. ⌜ r ≡ (1664525 * seed + 1013904223) % 2 ^ 32 ⌝ }
+fn next(seed: u32) -> u32
+    ensures { λ r. ⌜ r ≡ nextOf seed ⌝ }
 {
     ((1664525 * (seed as u64) + 1013904223) % 4294967296) as u32
 }
 
-pub fn upper(seed: u32) -> u16
-    ensures { λ r. ⌜ r ≡ seed / 2 ^ 16 ⌝ }
+fn upper(seed: u32) -> u16
+    ensures { λ r. ⌜ r ≡ upperOf seed ⌝ }
 {
     (seed / 65536) as u16
 }
 
-// Which days are made up: of any capacities, of one capacity throughout, of capacities that cannot bind.
-pub enum Kind {
+// Which capacities a made-up day has: any, one throughout, or such as cannot bind.
+pub enum Capacities {
     Any,
     Equal,
     Unbound,
+}
+
+// The capacity of one period, from the one drawn for it and the one drawn for the day.
+fn capacity_of(capacities: Capacities, drawn: u16, common: u16) -> u16
+    ensures { λ r. ⌜ r ≡ capacityOf capacities drawn common ⌝ }
+{
+    match capacities {
+        Capacities::Any => drawn,
+        Capacities::Equal => common,
+        Capacities::Unbound => 8,
+    }
 }
 
 // One period of a made-up day, and the seed after its draws. Small numbers, so that ties are many.
@@ -43,7 +52,9 @@ struct Drawn {
     holding: u32,
 }
 
-fn draw(seed: u32) -> Drawn {
+fn draw(seed: u32, capacities: Capacities, common: u16) -> Drawn
+    ensures { λ r. ⌜ r ≡ drawnOf seed capacities common ⌝ }
+{
     let a = next(seed);
     let b = next(a);
     let c = next(b);
@@ -52,7 +63,7 @@ fn draw(seed: u32) -> Drawn {
     Drawn {
         seed: e,
         demand: upper(a) % 3,
-        capacity: upper(b) % 5,
+        capacity: capacity_of(capacities, upper(b) % 5, common),
         setup: (upper(c) % 4) as u32,
         unit: (upper(d) % 3) as u32,
         holding: (upper(e) % 3) as u32,
@@ -70,45 +81,24 @@ pub struct Tiny {
     pub holding: [u32; 4],
 }
 
-fn capacity_of(kind: Kind, drawn: u16, first: u16) -> u16 {
-    match kind {
-        Kind::Any => drawn,
-        Kind::Equal => first,
-        Kind::Unbound => 8,
-    }
-}
-
-pub fn make_up(seed: u32, kind: Kind) -> Tiny
-    ensures { λ r. ⌜ Sized r ⌝ }
+pub fn make_up(seed: u32, capacities: Capacities) -> Tiny
+    ensures { λ r. ⌜ MadeUp seed capacities r ⌝ }
 {
-    let mut demand = [0u16; 4];
-    let mut capacity = [0u16; 4];
-    let mut setup = [0u32; 4];
-    let mut unit = [0u32; 4];
-    let mut holding = [0u32; 4];
     let first = next(seed);
-    let n = 1 + (upper(first) % 4) as usize;
-    let mut s = next(first);
-    let common = upper(s) % 5;
-    let mut k = 0;
-    while k < 4 {
-        let p = draw(s);
-        s = p.seed;
-        demand[k] = p.demand;
-        capacity[k] = capacity_of(kind, p.capacity, common);
-        setup[k] = p.setup;
-        unit[k] = p.unit;
-        holding[k] = p.holding;
-        k += 1;
-    }
+    let second = next(first);
+    let common = upper(second) % 5;
+    let a = draw(second, capacities, common);
+    let b = draw(a.seed, capacities, common);
+    let c = draw(b.seed, capacities, common);
+    let d = draw(c.seed, capacities, common);
     Tiny {
-        seed: s,
-        n,
-        demand,
-        capacity,
-        setup,
-        unit,
-        holding,
+        seed: d.seed,
+        n: 1 + (upper(first) % 4) as usize,
+        demand: [a.demand, b.demand, c.demand, d.demand],
+        capacity: [a.capacity, b.capacity, c.capacity, d.capacity],
+        setup: [a.setup, b.setup, c.setup, d.setup],
+        unit: [a.unit, b.unit, c.unit, d.unit],
+        holding: [a.holding, b.holding, c.holding, d.holding],
     }
 }
 
@@ -128,8 +118,8 @@ fn plan_of(m: u32) -> [u16; 4]
     [
         (m % 9) as u16,
         (m / 9 % 9) as u16,
-        (m / 81 % 9) as u16,
-        (m / 729 % 9) as u16,
+        (m / 9 / 9 % 9) as u16,
+        (m / 9 / 9 / 9 % 9) as u16,
     ]
 }
 
@@ -182,7 +172,7 @@ fn better(best: Best, plan: [u16; 4], w: Weighed) -> Best
     best
 }
 
-// The plan of a tiny day: every plan with amounts up to 8 is weighed, in the order of their numbers.
+// The plan of a tiny day: every plan with amounts up to 8 is weighed, in the order of their numbers, and the first of the cheapest kept.
 pub fn search(
     demand: &[u16],
     capacity: &[u16],
@@ -190,7 +180,11 @@ pub fn search(
     unit: &[u32],
     holding: &[u32],
 ) -> Best
-    ensures { λ r. ⌜ Chosen (dayOf (now (demand .entry)) (now (capacity .entry)) (now (setup .entry)) (now (unit .entry)) (now (holding .entry))) (plansOf (length (now (demand .entry)))) r ⌝ }
+    ensures { λ r. ⌜
+        Searched
+        (dayOf (now (demand .entry)) (now (capacity .entry)) (now (setup .entry)) (now (unit .entry)) (now (holding .entry)))
+        r
+        ⌝ }
 {
     let mut best = Best {
         found: false,
@@ -211,7 +205,7 @@ pub fn search(
 
 // Whether the first n slots hold the plan found.
 fn same_plan(plan: [u16; 4], n: usize, slots: &[u16]) -> bool
-    ensures { λ r. ⌜ (r ≡ true → SamePlan n plan (now (slots .entry))) ⌝ }
+    ensures { λ r. ⌜ Decides (SamePlan n plan (now (slots .entry))) r ⌝ }
 {
     if 4 < n {
         return false;
@@ -229,9 +223,10 @@ fn same_plan(plan: [u16; 4], n: usize, slots: &[u16]) -> bool
     true
 }
 
-// Whether a path's answer on a day of n periods is what the search found: its plan, cost and setups, or refusal 7 where there is none.
+// Whether a path's answer on a day of n periods is what the search found: its plan, cost and setups, or refusal 7 where there is
+// none.
 pub fn agrees(best: Best, n: usize, answer: Answer, slots: &[u16]) -> bool
-    ensures { λ r. ⌜ (r ≡ true → Agreement best n answer (now (slots .entry))) ⌝ }
+    ensures { λ r. ⌜ Decides (Agreement best n answer (now (slots .entry))) r ⌝ }
 {
     match answer {
         Answer::Refused(r) => {

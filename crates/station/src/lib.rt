@@ -1,14 +1,13 @@
 //! The library's calls as a C program has them: the answer as one code, its numbers in an out-array (include/yakkurem.h).
 ghost use mathlib.Core.Path.{_≡_};
-ghost use Prim.Native.Nat.{_-_, _≤_, _<_};
-ghost use lib.ListN.{length};
-ghost use Rattle.day.specs.Day.{dayOf, maxPeriods};
 ghost use Rattle.day.specs.Refusals.{numberOf, periodOf};
-ghost use Rattle.day.specs.File as File;
 ghost use Rattle.day.specs.Paths.{full, uncapped, equal};
-ghost use Rattle.dayfile.specs.Answers.{badLookup};
-ghost use Rattle.weigher.specs.Answers.{weighedOf, comparedOf, ruleNumber};
-ghost use Rattle.station.specs.Codes.{codeOf, seen, seenWeighed, seenCompared, LowAnswer, seenAnswer, PathShows, ReadShows, seenLookup, WriteShows};
+ghost use Rattle.day.specs.Lent.{dayBefore};
+ghost use Rattle.day.specs.Figures.{answerFigures};
+ghost use Rattle.dayfile.specs.Answers.{readFigures, writeFigures};
+ghost use Rattle.weigher.specs.Answers.{Weighs, Compares, weighedFigures, comparedFigures, ruleNumber};
+ghost use Rattle.station.specs.Codes.{codeOf, seen, seenOf, Shows};
+ghost use Rattle.station.specs.Codes.{PathShows, ReadShows, LookupShows, WriteShows};
 use day::Answer;
 use day::Check;
 use day::Refusal;
@@ -20,36 +19,88 @@ use weigher::Verdict;
 use weigher::Weighed;
 
 // A number and a period as one code.
-fn code(number: u64, period: usize) -> u64
-    requires { ⌜ (number < 256) × (period ≤ maxPeriods) ⌝ }
+fn code(number: u8, period: u16) -> u64
     ensures { λ r. ⌜ r ≡ codeOf number period ⌝ }
 {
-    number + 256 * (period as u64)
+    (number as u64) + 256 * (period as u64)
 }
 
 fn refused(r: Refusal) -> u64
-    requires { ⌜ periodOf r ≤ maxPeriods ⌝ }
     ensures { λ c. ⌜ c ≡ codeOf (numberOf r) (periodOf r) ⌝ }
 {
     code(r.number(), r.period())
 }
 
-fn broken(rule: Rule, period: usize) -> u64
-    requires { ⌜ period ≤ maxPeriods ⌝ }
+fn broken(rule: Rule, period: u16) -> u64
     ensures { λ c. ⌜ c ≡ codeOf (ruleNumber rule) period ⌝ }
 {
     code(rule.number(), period)
 }
 
-// A path's answer: the cost and setups of its plan go to the out-array.
-fn answered(a: Answer, answer: &mut [u64; 2]) -> u64
-    requires { ⌜ LowAnswer a ⌝ }
-    ensures { λ r. ⌜ seen r (now (answer .exit)) ≡ seenAnswer (now (answer .entry)) a ⌝ }
+// What is shown of a path's answer: the cost and setups of its plan.
+fn planned(a: Answer, answer: &mut [u64; 2]) -> u64
+    ensures { λ r. ⌜ seen r (now (answer .exit)) ≡ seenOf (now (answer .entry)) (answerFigures a) ⌝ }
 {
     match a {
         Answer::Refused(r) => refused(r),
         Answer::Planned(t) => {
             *answer = [t.cost, t.setups];
+            0
+        }
+    }
+}
+
+// Of a weighing: the cost and setups of a plan that holds.
+fn weighed(w: Weighed, answer: &mut [u64; 2]) -> u64
+    ensures { λ r. ⌜ seen r (now (answer .exit)) ≡ seenOf (now (answer .entry)) (weighedFigures w) ⌝ }
+{
+    match w {
+        Weighed::Refused(r) => refused(r),
+        Weighed::Judged(v) => match v {
+            Verdict::Broken(rule, period) => broken(rule, period),
+            Verdict::Holds(totals) => {
+                *answer = [totals.cost, totals.setups];
+                0
+            }
+        },
+    }
+}
+
+// Of a comparison: the difference.
+fn compared(c: Compared, difference: &mut [i64; 1]) -> u64
+    ensures { λ r. ⌜ seen r (now (difference .exit)) ≡ seenOf (now (difference .entry)) (comparedFigures c) ⌝ }
+{
+    match c {
+        Compared::Refused(r) => refused(r),
+        Compared::Broken(rule, period) => broken(rule, period),
+        Compared::Difference(v) => {
+            *difference = [v];
+            0
+        }
+    }
+}
+
+// Of a reading: the count of periods.
+fn read(a: ReadAnswer, periods: &mut [u64; 1]) -> u64
+    ensures { λ r. ⌜ seen r (now (periods .exit)) ≡ seenOf (now (periods .entry)) (readFigures a) ⌝ }
+{
+    match a {
+        ReadAnswer::Refused(r) => refused(r),
+        ReadAnswer::Periods(n) => {
+            *periods = [n as u64];
+            0
+        }
+    }
+}
+
+// Of a writing: the count of bytes.
+fn written(a: WriteAnswer, count: &mut [u64; 1]) -> u64
+    ensures { λ r. ⌜ seen r (now (count .exit)) ≡ seenOf (now (count .entry)) (writeFigures a) ⌝ }
+{
+    match a {
+        WriteAnswer::Refused(r) => refused(r),
+        WriteAnswer::Bytes(n) => {
+            *count = [n as u64];
             0
         }
     }
@@ -68,7 +119,7 @@ pub extern "C" fn yakkurem_full(
     slots: &mut [u16],
     answer: &mut [u64; 2],
 ) -> u64
-    ensures { λ r. ⌜ PathShows full (dayOf (now (demand .entry)) (now (capacity .entry)) (now (setup .entry)) (now (unit .entry)) (now (holding .entry))) (record { costs = now (costs .entry); choices = now (choices .entry); slots = now (slots .entry) }) (record { costs = now (costs .exit); choices = now (choices .exit); slots = now (slots .exit) }) (now (answer .entry)) (seen r (now (answer .exit))) ⌝ }
+    ensures { λ r. ⌜ PathShows full demand capacity setup unit holding costs choices slots answer r ⌝ }
 {
     let a = full::plan(
         demand,
@@ -80,7 +131,7 @@ pub extern "C" fn yakkurem_full(
         choices,
         slots,
     );
-    answered(a, answer)
+    planned(a, answer)
 }
 
 // The plan of a day whose capacities can't bind; the answer is its cost and setups.
@@ -96,7 +147,7 @@ pub extern "C" fn yakkurem_uncapped(
     slots: &mut [u16],
     answer: &mut [u64; 2],
 ) -> u64
-    ensures { λ r. ⌜ PathShows uncapped (dayOf (now (demand .entry)) (now (capacity .entry)) (now (setup .entry)) (now (unit .entry)) (now (holding .entry))) (record { costs = now (costs .entry); choices = now (choices .entry); slots = now (slots .entry) }) (record { costs = now (costs .exit); choices = now (choices .exit); slots = now (slots .exit) }) (now (answer .entry)) (seen r (now (answer .exit))) ⌝ }
+    ensures { λ r. ⌜ PathShows uncapped demand capacity setup unit holding costs choices slots answer r ⌝ }
 {
     let a = uncapped::plan(
         demand,
@@ -108,7 +159,7 @@ pub extern "C" fn yakkurem_uncapped(
         choices,
         slots,
     );
-    answered(a, answer)
+    planned(a, answer)
 }
 
 // The plan of a day with one capacity throughout; the answer is its cost and setups.
@@ -124,7 +175,7 @@ pub extern "C" fn yakkurem_equal(
     slots: &mut [u16],
     answer: &mut [u64; 2],
 ) -> u64
-    ensures { λ r. ⌜ PathShows equal (dayOf (now (demand .entry)) (now (capacity .entry)) (now (setup .entry)) (now (unit .entry)) (now (holding .entry))) (record { costs = now (costs .entry); choices = now (choices .entry); slots = now (slots .entry) }) (record { costs = now (costs .exit); choices = now (choices .exit); slots = now (slots .exit) }) (now (answer .entry)) (seen r (now (answer .exit))) ⌝ }
+    ensures { λ r. ⌜ PathShows equal demand capacity setup unit holding costs choices slots answer r ⌝ }
 {
     let a = equal::plan(
         demand,
@@ -136,7 +187,7 @@ pub extern "C" fn yakkurem_equal(
         choices,
         slots,
     );
-    answered(a, answer)
+    planned(a, answer)
 }
 
 // Weighs a plan; the answer is its cost and setups.
@@ -150,18 +201,10 @@ pub extern "C" fn yakkurem_weigh(
     plan: &[u16],
     answer: &mut [u64; 2],
 ) -> u64
-    ensures { λ r. ⌜ seen r (now (answer .exit)) ≡ seenWeighed (now (answer .entry)) (weighedOf (dayOf (now (demand .entry)) (now (capacity .entry)) (now (setup .entry)) (now (unit .entry)) (now (holding .entry))) (now (plan .entry))) ⌝ }
+    ensures { λ r. ⌜ Shows (Weighs (dayBefore demand capacity setup unit holding) (now (plan .entry))) weighedFigures answer r ⌝ }
 {
-    match weigher::weigh(demand, capacity, setup, unit, holding, plan) {
-        Weighed::Refused(r) => refused(r),
-        Weighed::Judged(v) => match v {
-            Verdict::Broken(rule, period) => broken(rule, period),
-            Verdict::Holds(totals) => {
-                *answer = [totals.cost, totals.setups];
-                0
-            }
-        },
-    }
+    let w = weigher::weigh(demand, capacity, setup, unit, holding, plan);
+    weighed(w, answer)
 }
 
 // Weighs two plans; the answer is the first one's cost less the second's.
@@ -176,16 +219,12 @@ pub extern "C" fn yakkurem_compare(
     second: &[u16],
     difference: &mut [i64; 1],
 ) -> u64
-    ensures { λ r. ⌜ seen r (now (difference .exit)) ≡ seenCompared (now (difference .entry)) (comparedOf (dayOf (now (demand .entry)) (now (capacity .entry)) (now (setup .entry)) (now (unit .entry)) (now (holding .entry))) (now (first .entry)) (now (second .entry))) ⌝ }
+    ensures { λ r. ⌜
+        Shows (Compares (dayBefore demand capacity setup unit holding) (now (first .entry)) (now (second .entry)))
+        comparedFigures difference r ⌝ }
 {
-    match weigher::compare(demand, capacity, setup, unit, holding, first, second) {
-        Compared::Refused(r) => refused(r),
-        Compared::Broken(rule, period) => broken(rule, period),
-        Compared::Difference(v) => {
-            *difference = [v];
-            0
-        }
-    }
+    let c = weigher::compare(demand, capacity, setup, unit, holding, first, second);
+    compared(c, difference)
 }
 
 // Fills tables from a day file; the answer is the count of its periods.
@@ -199,40 +238,26 @@ pub extern "C" fn yakkurem_read(
     holding: &mut [u32],
     periods: &mut [u64; 1],
 ) -> u64
-    ensures { λ r. ⌜ ReadShows (now (file .entry)) (dayOf (now (demand .entry)) (now (capacity .entry)) (now (setup .entry)) (now (unit .entry)) (now (holding .entry))) (dayOf (now (demand .exit)) (now (capacity .exit)) (now (setup .exit)) (now (unit .exit)) (now (holding .exit))) (now (periods .entry)) (seen r (now (periods .exit))) ⌝ }
+    ensures { λ r. ⌜ ReadShows file demand capacity setup unit holding periods r ⌝ }
 {
-    match dayfile::reader::read(file, demand, capacity, setup, unit, holding) {
-        ReadAnswer::Refused(r) => refused(r),
-        ReadAnswer::Periods(n) => {
-            *periods = [n as u64];
-            0
-        }
-    }
+    let a = dayfile_reader::read(file, demand, capacity, setup, unit, holding);
+    read(a, periods)
 }
 
-// A part of 16 bytes as an array.
-fn array(part: &[u8]) -> [u8; 16]
-    requires { ⌜ length (now part) ≡ 16 ⌝ }
-    ensures { λ r. ⌜ r ≡ now (part .entry) ⌝ }
-{
-    let mut bytes = [0; 16];
-    let mut k = 0;
-    while k < 16 {
-        bytes[k] = part[k];
-        k += 1;
-    }
-    bytes
-}
-
-// The body of a numbered period record, copied into the out-array: C can't be handed a part of the file.
+// Where the body of a numbered period record lies in the file; the answer is its first byte, counted from 0, and its length.
+// No byte is copied: the body is that part of the caller's own file.
 #[no_mangle]
-pub extern "C" fn yakkurem_lookup(file: &[u8], period: usize, body: &mut [u8; 16]) -> u64
-    ensures { λ r. ⌜ seen r (now (body .exit)) ≡ seenLookup (now (body .entry)) (badLookup (now (file .entry)) period) (File.body (now (file .entry)) (File.recordAt (now (file .entry)) (period - 1))) ⌝ }
+pub extern "C" fn yakkurem_lookup(file: &[u8], period: usize, part: &mut [u64; 2]) -> u64
+    ensures { λ r. ⌜ LookupShows file period part r ⌝ }
 {
     if let Check::Refused(r) = dayfile::lookup::check(file, period) {
         return refused(r);
     }
-    *body = array(dayfile::lookup::body(file, period));
+    let at = dayfile::layout::record_at(file, period - 1);
+    *part = [
+        (at as u64) + 1,
+        dayfile::layout::body(file, at).len() as u64,
+    ];
     0
 }
 
@@ -247,13 +272,8 @@ pub extern "C" fn yakkurem_write(
     out: &mut [u8],
     count: &mut [u64; 1],
 ) -> u64
-    ensures { λ r. ⌜ WriteShows (dayOf (now (demand .entry)) (now (capacity .entry)) (now (setup .entry)) (now (unit .entry)) (now (holding .entry))) (now (out .entry)) (now (out .exit)) (now (count .entry)) (seen r (now (count .exit))) ⌝ }
+    ensures { λ r. ⌜ WriteShows demand capacity setup unit holding out count r ⌝ }
 {
-    match dayfile::writer::write(demand, capacity, setup, unit, holding, out) {
-        WriteAnswer::Refused(r) => refused(r),
-        WriteAnswer::Bytes(n) => {
-            *count = [n as u64];
-            0
-        }
-    }
+    let a = dayfile_writer::write(demand, capacity, setup, unit, holding, out);
+    written(a, count)
 }

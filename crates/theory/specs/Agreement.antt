@@ -1,12 +1,8 @@
 -- Any two paths agree on a day of both their kinds: the short paths give what the full path gives.
 -- Main statements, demand 3: `uncapped-agrees`, `equal-agrees`. Assumes nothing.
 use mathlib.Core.Path.{_≡_, refl, sym, ap, ap₂, _∙_}
-use mathlib.Core.List.{[], _∷_}
-use mathlib.Core.Option.{Option, none}
-use Prim.Native.Nat.{ℕ, _≤_, _<_}
-use native.Mathlib.Omega.{arith}
-use borrow.Author.Tests.{le-ltb}
-use lib.ListN.{length}
+use mathlib.Core.Option.{Option, none, some, Option·none-ne-some, Option·some-ne-none, Option·some-injective}
+use Prim.Native.Nat.{ℕ, _<_}
 use Rattle.day.specs.declared.Refusal.{Refusal}
 use Rattle.day.specs.declared.Totals.{Totals}
 use Rattle.day.specs.declared.Answer.{Answer}
@@ -14,17 +10,12 @@ use Rattle.day.specs.declared.Answer.the-variants.{Refused, Planned}
 use Rattle.day.specs.Sums.{at, sum-ext}
 use Rattle.day.specs.Day.{Day, periods}
 use Rattle.day.specs.Plan.{setupAt}
-use Rattle.day.specs.Refusals.{first, badTables, badTotal, shortage, unequal, binding}
-use Rattle.day.specs.Outcome.{Memory, Counts}
-use Rattle.day.specs.Paths.{Path, refusal, Runs, full, uncapped, equal}
+use Rattle.day.specs.Refusals.{first, unequal, binding}
+use Rattle.day.specs.Tests.{gives-is}
+use Rattle.day.specs.Outcome.{Memory, sizesOf, Path, Roomy, refusal, dayRefusal, roomy-refusal, Counts, Runs}
+use Rattle.day.specs.Paths.{full, uncapped, equal}
 use Rattle.day.specs.Search.{cost-alike}
 use Rattle.theory.specs.Demands.{plan-unique}
-
--- what a caller lends is long enough for the path
-pub record Roomy (P : Path) (d : Day) (m : Memory) : Type 0 where
-  pub costs : P .costCells d ≤ length (m .costs)
-  pub choices : P .choiceCells d ≤ length (m .choices)
-  pub slots : periods d ≤ length (m .slots)
 
 -- two answers on one day, with the slots that they left: the same refusal; or the same plan, cost and setups
 abbrev pub Agree : Day → Answer → Memory → Answer → Memory → Type 0
@@ -33,13 +24,6 @@ Agree d (Refused r) m (Planned t) m′ = ⊥
 Agree d (Planned t) m (Refused q) m′ = ⊥
 Agree d (Planned t) m (Planned u) m′ = ((k : ℕ) → k < periods d → at (m .slots) k ≡ at (m′ .slots) k) × (t ≡ u)
 
--- with room for it, a path refuses a day of its kind for what the day is, alone
-abbrev dayRefusal : Day → Option Refusal
-dayRefusal d = first (badTables d (badTotal d ∷ shortage d ∷ []))
-
-refusal-is : (P : Path) (d : Day) (m : Memory) → Roomy P d m → first (P .own d) ≡ none → refusal P d m ≡ dayRefusal d
-refusal-is P d m roomy kind = rw (kind, le-ltb _ _ (roomy .costs), le-ltb _ _ (roomy .choices), le-ltb _ _ (roomy .slots)) refl
-
 -- plans that are alike have the same totals
 same-totals : (d : Day) (x y : ℕ → ℕ) (t u : Totals) → ((k : ℕ) → k < periods d → x k ≡ y k) → Counts d x t → Counts d y u → t ≡ u
 same-totals d x y t u same c e =
@@ -47,39 +31,37 @@ same-totals d x y t u same c e =
     (c .cost ∙ cost-alike d x y same ∙ sym (e .cost))
     (c .setups ∙ sum-ext (λ k. setupAt (x k)) (λ k. setupAt (y k)) (periods d) (λ k l. ap setupAt (same k l)) ∙ sym (e .setups))
 
+-- the refusal that an answer gives
+abbrev given : Answer → Option Refusal
+given (Refused r) = some r
+given (Planned t) = none
+
+given-is : (P : Path) (d : Day) (m : Memory) (r : Answer) (after : Memory) → Roomy P d (sizesOf m) → first (P .own d) ≡ none
+    → Runs P d m r after → dayRefusal d ≡ given r
+given-is P d m (Refused r) after room kind a = sym (roomy-refusal P d (sizesOf m) room kind) ∙ gives-is (a .0)
+given-is P d m (Planned t) after room kind a = sym (roomy-refusal P d (sizesOf m) room kind) ∙ a .0
+
 -- Two paths, on a day of both their kinds and with room for both, accept together, and then give one plan, cost and setups.
 pub paths-agree : (P Q : Path) (d : Day) (m m′ : Memory) (r : Answer) (after : Memory) (q : Answer) (after′ : Memory)
-    → Roomy P d m → Roomy Q d m′ → first (P .own d) ≡ none → first (Q .own d) ≡ none
+    → Roomy P d (sizesOf m) → Roomy Q d (sizesOf m′) → first (P .own d) ≡ none → first (Q .own d) ≡ none
     → Runs P d m r after → Runs Q d m′ q after′ → Agree d r after q after′
-paths-agree P Q d m m′ (Refused r) after (Refused q) after′ room room′ kind kind′ a b =
-    let e = refusal-is P d m room kind in
-    let f = refusal-is Q d m′ room′ kind′ in
-    let g = a .0 in
-    let h = b .0 in
-    cc
-paths-agree P Q d m m′ (Refused r) after (Planned u) after′ room room′ kind kind′ a b =
-    let e = refusal-is P d m room kind in
-    let f = refusal-is Q d m′ room′ kind′ in
-    let g = a .0 in
-    let h = b .0 in
-    let z : _≡_ {A = ℕ} 0 1 = cc in
-    omega arith
-paths-agree P Q d m m′ (Planned t) after (Refused q) after′ room room′ kind kind′ a b =
-    let e = refusal-is P d m room kind in
-    let f = refusal-is Q d m′ room′ kind′ in
-    let g = a .0 in
-    let h = b .0 in
-    let z : _≡_ {A = ℕ} 0 1 = cc in
-    omega arith
-paths-agree P Q d m m′ (Planned t) after (Planned u) after′ room room′ kind kind′ a b =
-    let same = plan-unique d (at (after .slots)) (at (after′ .slots)) (a .1 .plan) (b .1 .plan) in
-    (same, same-totals d (at (after .slots)) (at (after′ .slots)) t u same (a .1 .counts) (b .1 .counts))
+paths-agree P Q d m m′ r after q after′ room room′ kind kind′ a b =
+    go r q a b (sym (given-is P d m r after room kind a) ∙ given-is Q d m′ q after′ room′ kind′ b)
+  where
+    go : (r q : Answer) → Runs P d m r after → Runs Q d m′ q after′ → given r ≡ given q → Agree d r after q after′
+    go (Refused r) (Refused q) a b e = Option·some-injective _ _ e
+    go (Refused r) (Planned u) a b e = Option·some-ne-none _ e
+    go (Planned t) (Refused q) a b e = Option·none-ne-some _ e
+    go (Planned t) (Planned u) a b e =
+        let same = plan-unique d (at (after .slots)) (at (after′ .slots)) (a .1 .plan) (b .1 .plan) in
+        (same, same-totals d (at (after .slots)) (at (after′ .slots)) t u same (a .1 .counts) (b .1 .counts))
 
-module _ (d : Day) (m m′ : Memory) (r : Answer) (after : Memory) (q : Answer) (after′ : Memory) (room′ : Roomy full d m′) (b : Runs full d m′ q after′) where
+module _ (d : Day) (m m′ : Memory) (r : Answer) (after : Memory) (q : Answer) (after′ : Memory)
+    (room′ : Roomy full d (sizesOf m′)) (b : Runs full d m′ q after′) where
   -- Demand 3: where capacities can't bind, the uncapped path accepts exactly when the full path does, with the same plan, cost and setups.
-  pub uncapped-agrees : Roomy uncapped d m → binding d ≡ none → Runs uncapped d m r after → Agree d r after q after′
+  pub uncapped-agrees : Roomy uncapped d (sizesOf m) → binding d ≡ none → Runs uncapped d m r after → Agree d r after q after′
   uncapped-agrees room kind a = paths-agree uncapped full d m m′ r after q after′ room room′ (rw kind refl) refl a b
 
   -- Demand 3: and so does the equal path where capacities are equal.
-  pub equal-agrees : Roomy equal d m → unequal d ≡ none → Runs equal d m r after → Agree d r after q after′
+  pub equal-agrees : Roomy equal d (sizesOf m) → unequal d ≡ none → Runs equal d m r after → Agree d r after q after′
   equal-agrees room kind a = paths-agree equal full d m m′ r after q after′ room room′ (rw kind refl) refl a b

@@ -1,50 +1,44 @@
--- The days of document 01 as models: N is R, H is h, and no ceiling binds.
--- Main statement: `optimal-iff`, a plan is the day's just where it is the model's. Assumes nothing.
+-- The days of document 01 as problems: the tables are the day's own, and sum (1) is the model's cost.
+-- Main statements: `optimal-iff`, a plan is the day's just where it is the model's; `bounded`, a day within the limits gives what the loops
+-- rely on. Assumes nothing.
 use mathlib.Core.Path.{_≡_, refl}
-use mathlib.Core.List.{List}
 use mathlib.Core.Logic.{_↔_}
-use Prim.Native.Nat.{ℕ, zero, suc, _≤_, _<_, min}
-use native.Mathlib.Decide.{decLt}
+use Prim.Native.Nat.{ℕ, suc, _≤_}
 use native.Mathlib.Omega.{arith}
-use lib.ListN.{length, List·getD-eq-default}
-use Rattle.day.specs.Sums.{at, sumTo, sum-grows}
-use Rattle.day.specs.Day.{Day, periods, demandTo, capacityTo, total}
+use Rattle.day.specs.Sums.{sum-grows}
+use Rattle.day.specs.Day.{Day, periods, total, maxTotal}
 use Rattle.day.specs.Plan.{Feasible, Optimal, cost}
-use Rattle.theory.specs.Model.{Model, Rising, Unlimited, FeasibleTo, OptimalTo, costTo}
-use Rattle.theory.specs.Model as Model
-use Rattle.theory.specs.Reachable.{high, high-open, Covered}
+use Rattle.checks.specs.Passed.{Limits}
+use Rattle.theory.specs.Model.{Model, FeasibleTo, OptimalTo, costTo}
+use Rattle.theory.specs.Problem.{Problem, problemWith, modelOf, Bounded}
 
-abbrev pub modelOf : Day → Model
-modelOf d = record {
-  floor = demandTo d;
-  ceiling = λ _. total d;
-  capacity = at (d .capacity);
-  setup = at (d .setup);
-  unit = at (d .unit);
-  holding = at (d .holding);
-}
-
--- no sum of a table is above that of all its entries
-sum-whole : (l : List ℕ) (i : ℕ) → sumTo (at l) i ≤ sumTo (at l) (length l)
-sum-whole l zero = omega arith
-sum-whole l (suc i) = go (sum-whole l i) (decLt i (length l))
-  where
-    go : sumTo (at l) i ≤ sumTo (at l) (length l) → Dec (i < length l) → sumTo (at l) (suc i) ≤ sumTo (at l) (length l)
-    go rec (yes h) = sum-grows (at l) (suc i) (length l) h
-    go rec (no h) = omega (arith, List·getD-eq-default l 0 {n = i} (omega arith))
+-- what the loops run on, for a day
+abbrev pub problemOf : Day → Problem
+problemOf d = problemWith (d .demand) (d .capacity) (d .setup) (d .unit) (d .holding)
 
 module _ (d : Day) where
   abbrev M : Model
-  M = modelOf d
+  M = modelOf (problemOf d)
 
   abbrev n : ℕ
   n = periods d
 
-  pub model-rising : Rising M
-  model-rising = record { nought = refl; rises = λ k. omega arith }
-
-  pub model-unlimited : Unlimited M
-  model-unlimited i j = sum-whole (d .demand) i
+  pub bounded : Limits d → total d ≤ maxTotal → Bounded (problemOf d)
+  bounded l small =
+      record {
+        nonempty = l .nonempty;
+        few = l .few;
+        capacities = l .lengths .capacity;
+        setups = l .lengths .setup;
+        units = l .lengths .unit;
+        holdings = l .lengths .holding;
+        demand = λ k h. l .within k h .demand;
+        capacity = λ k h. l .within k h .capacity;
+        setup = λ k h. l .within k h .setup;
+        unit = λ k h. l .within k h .unit;
+        holding = λ k h. l .within k h .holding;
+        small = small;
+      }
 
   -- sum (1) is the model's cost
   pub cost-is : (x : ℕ → ℕ) → cost d x ≡ costTo M x n
@@ -80,15 +74,3 @@ module _ (d : Day) where
               record { cheap = omega (arith, p .cheap, cost-is x, cost-is y); small = λ e. p .small (omega (arith, cost-is x, cost-is y)) };
         },
   )
-
-  -- the totals that can be reached after i periods end with the smaller of C and R over the day
-  pub high-is : (i : ℕ) → high M i ≡ min (capacityTo d i) (total d)
-  high-is = high-open M (total d) (λ _. refl)
-
-  -- the model is covered just where no period is short
-  pub covered-iff : Covered M n ↔ ((k : ℕ) → k < n → demandTo d (suc k) ≤ capacityTo d (suc k))
-  covered-iff = (λ c k l. omega (arith, c (suc k) l, high-is (suc k)), λ s j l. up s j l)
-    where
-      up : ((k : ℕ) → k < n → demandTo d (suc k) ≤ capacityTo d (suc k)) → (j : ℕ) → j ≤ n → demandTo d j ≤ high M j
-      up s zero l = omega arith
-      up s (suc j) l = omega (arith, s j l, high-is (suc j), sum-grows (at (d .demand)) (suc j) n l)

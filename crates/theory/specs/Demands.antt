@@ -17,46 +17,46 @@ use Rattle.checks.specs.Passed.{FirstShort, shortage-passed, shortage-refused}
 use Rattle.theory.specs.Order.{LastSmaller, smaller-means}
 use Rattle.theory.specs.Recursion as Recursion
 use Rattle.theory.specs.Reachable.{interval, feasible-covered}
-use Rattle.theory.specs.Base.{modelOf, model-rising, feasible-model, model-feasible, optimal-iff, covered-iff}
-
--- R ≤ C at every period
-abbrev pub Supplied : Day → Type 0
-Supplied d = (k : ℕ) → k < periods d → demandTo d (suc k) ≤ capacityTo d (suc k)
+use Rattle.theory.specs.Problem.{Problem, Supplied, modelOf, model-rising, covered-iff}
+use Rattle.theory.specs.Base.{problemOf, feasible-model, model-feasible, optimal-iff}
 
 module _ (d : Day) where
+  abbrev p : Problem
+  p = problemOf d
+
   -- Demand 2: whole amounts satisfy conditions (2) to (4) exactly if R ≤ C at every period.
-  pub feasible-iff : ((x : ℕ → ℕ) × Feasible d x) ↔ Supplied d
+  pub feasible-iff : ((x : ℕ → ℕ) × Feasible d x) ↔ Supplied p
   feasible-iff = (
-    λ p. covered-iff d .0 (feasible-covered (modelOf d) (model-rising d) (periods d) (total d) (p .0) (feasible-model d (p .0) (p .1))),
+    λ w. covered-iff p .0 (feasible-covered (modelOf p) (model-rising p) (periods d) (total d) (w .0) (feasible-model d (w .0) (w .1))),
     λ s.
-        let c = covered-iff d .1 s in
-        let w = interval (modelOf d) (model-rising d) (periods d) c (total d) (omega arith) (c (periods d) (omega arith)) in
+        let c = covered-iff p .1 s in
+        let w = interval (modelOf p) (model-rising p) (periods d) c (total d) (omega arith) (c (periods d) (omega arith)) in
         (w .0, model-feasible d (w .0) (w .1)),
   )
 
   -- Demand 3: where there is a plan at all, there is the plan.
   pub optimal-exists : (y : ℕ → ℕ) → Feasible d y → (x : ℕ → ℕ) × Optimal d x
   optimal-exists y f =
-      let w = Recursion.optimal-exists (modelOf d) (periods d) (total d) y (feasible-model d y f) in
+      let w = Recursion.optimal-exists (modelOf p) (periods d) (total d) y (feasible-model d y f) in
       (w .0, optimal-iff d (w .0) .1 (w .1))
 
   -- Demand 3: and it is one.
   pub plan-unique : (x y : ℕ → ℕ) → Optimal d x → Optimal d y → (k : ℕ) → k < periods d → x k ≡ y k
-  plan-unique x y o p = Recursion.optimal-unique (modelOf d) (periods d) (total d) x y (optimal-iff d x .0 o) (optimal-iff d y .0 p)
+  plan-unique x y o q = Recursion.optimal-unique (modelOf p) (periods d) (total d) x y (optimal-iff d x .0 o) (optimal-iff d y .0 q)
 
   -- Demand 3, in its words: every other plan that keeps the rules costs at least as much,
   -- and one that costs the same has the larger amount in the last period where they differ.
   pub plan-first : (x y : ℕ → ℕ) → Optimal d x → Feasible d y
       → (cost d x ≤ cost d y) × (cost d x ≡ cost d y → ((k : ℕ) → k < periods d → x k ≡ y k) ⊎ LastSmaller (periods d) x y)
-  plan-first x y o f = let p = o .first y f in (p .cheap, λ e. smaller-means (periods d) x y (p .small e))
+  plan-first x y o f = let q = o .first y f in (q .cheap, λ e. smaller-means (periods d) x y (q .small e))
 
   -- Demand 2: refusal 7 is given exactly if no plan exists.
   pub shortage-iff : (shortage d ≡ none) ↔ ((x : ℕ → ℕ) × Feasible d x)
   shortage-iff = (
     λ e. feasible-iff .1 (shortage-passed d e),
-    λ p.
+    λ w.
         ap (refuseAt Shortage)
-        (nothing-found (short d) (periods d) (λ k l. le-ltb (capacityTo d (suc k)) (demandTo d (suc k)) (feasible-iff .0 p k l))),
+        (nothing-found (short d) (periods d) (λ k l. le-ltb (capacityTo d (suc k)) (demandTo d (suc k)) (feasible-iff .0 w k l))),
   )
 
   -- Demand 2: and then it names the first period whose summed demand exceeds the summed capacity.

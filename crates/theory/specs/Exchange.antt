@@ -125,7 +125,8 @@ module _ (M : Model) (n : ℕ) (x : ℕ → ℕ) (from to : ℕ) (c : Movable M 
     where
       go : Dec (from < m) → Dec (m ≤ to) → M .floor m ≤ sumTo moved m
       go (yes a) (yes b) = omega (arith, c .spare m a b, moved-sum m, past-one from m)
-      go (yes a) (no b) = omega (arith, floor-below M (c .rising) n (M .floor n) x (c .feasible) m l, moved-sum m, past-after to m (omega arith), past-one from m)
+      go (yes a) (no b) =
+          omega (arith, floor-below M (c .rising) n (M .floor n) x (c .feasible) m l, moved-sum m, past-after to m (omega arith), past-one from m)
       go (no a) d = omega (arith, floor-below M (c .rising) n (M .floor n) x (c .feasible) m l, moved-sum m, past-before from m (omega arith))
 
   moved-total : sumTo moved n ≡ M .floor n
@@ -223,7 +224,8 @@ pub record Regeneration (M : Model) (x : ℕ → ℕ) (a b : ℕ) : Type 0 where
   pub never : (m : ℕ) → a < m → m < b → M .floor m < sumTo x m
 
 -- In a regeneration interval of the optimal plan at most one period is fractional.
-pub interval-one : (M : Model) → Rising M → Unlimited M → (n : ℕ) (x : ℕ → ℕ) → OptimalTo M n (M .floor n) x → (a b : ℕ) → Regeneration M x a b
+pub interval-one : (M : Model) → Rising M → Unlimited M → (n : ℕ) (x : ℕ → ℕ) → OptimalTo M n (M .floor n) x
+    → (a b : ℕ) → Regeneration M x a b
     → (i j : ℕ) → a ≤ i → i < b → a ≤ j → j < b → Fractional M n x i → Fractional M n x j → i ≡ j
 interval-one M rising unlimited n x best a b run i j ai ib aj jb pi pj = go (decLt i j) (decLt j i)
   where
@@ -241,7 +243,8 @@ last-run M rising X x n pos r = down (n - 1) (omega arith) (λ m u v. absurd (om
         → Dec (M .floor (suc i) < sumTo x (suc i)) → (a : ℕ) × Regeneration M x a n
     step i l above rec (yes h) =
         rec (λ m u v. ⊎-elim (λ (e : suc i ≡ m). rw (← e) h) (λ g. above m g v) (eq-or-lt-of-le u))
-    step i l above rec (no h) = (suc i, record { ahead = l; empty = omega (arith, floor-below M rising n X x r (suc i) (omega arith)); never = above })
+    step i l above rec (no h) =
+        (suc i, record { ahead = l; empty = omega (arith, floor-below M rising n X x r (suc i) (omega arith)); never = above })
 
     down : (i : ℕ) → i < n → ((m : ℕ) → i < m → m < n → M .floor m < sumTo x m) → (a : ℕ) × Regeneration M x a n
     down zero l above = (0, record { ahead = l; empty = omega (arith, rising .nought); never = above })

@@ -1,8 +1,7 @@
 -- The equal path (report, section 3; Florian and Klein): where all capacities are c, a regeneration interval of the optimal plan is made in full
 -- loads and at most one fractional load, what its demand leaves over when it is divided by c. Row m is the plan of (m, N m), with its cost.
--- Main definition: `florianKlein`. Main statement: `florianKlein-right`. Assumes nothing.
+-- Main statement: `florianKlein-cover`. Assumes nothing.
 use mathlib.Core.Path.{_≡_, refl, sym, ap, _∙_}
-use mathlib.Core.List.{[]}
 use mathlib.Core.Option.{Option, none, some}
 use mathlib.Core.Logic.{_⊎_, inl, inr, ⊎-elim, _≢_}
 use Prim.Native.Nat.{ℕ, zero, suc, _+_, _-_, _*_, _%_, _≤_, _<_}
@@ -12,13 +11,12 @@ use native.Mathlib.Omega.{arith}
 use lib.Arith.{digits-mod, le-zero}
 use Rattle.day.specs.Sums.{at, sumTo}
 use Rattle.theory.specs.Model.{Model, Rising, Unlimited, costTo, OptimalTo}
-use Rattle.theory.specs.Memo.{memo, memo-zero, memo-all}
 use Rattle.theory.specs.Stages.{Solution, Answers}
 use Rattle.theory.specs.Recursion.{both?}
 use Rattle.theory.specs.Reachable.{high, Covered}
 use Rattle.theory.specs.Exchange.{Fractional, Regeneration, interval-one}
 use Rattle.theory.specs.Candidates.{Some}
-use Rattle.theory.specs.Regeneration.{Kinds, tail, sum-tail, row, Right, Fits, cover, row-right}
+use Rattle.theory.specs.Regeneration.{Kinds, tail, sum-tail, Right, Fits, cover}
 
 -- nothing, a full load, or the fractional load, which comes on top of full loads
 abbrev pub Load : ℕ → ℕ → ℕ → ℕ → Type 0
@@ -41,16 +39,6 @@ Equal M c n = (k : ℕ) → k < n → M .capacity k ≡ c
 -- the intervals from l to m
 abbrev pub byLoads : Model → ℕ → ℕ → ℕ → Kinds
 byLoads M c l m = loads c ((M .floor m - M .floor l) % c)
-
--- row m + 1 from the rows before it
-abbrev pub next : Model → ℕ → (ℕ → Option Solution) → ℕ → Option Solution
-next M c rows m = row M (byLoads M c) rows (suc m)
-
-abbrev base : Option Solution
-base = some (record { cost = 0; plan = [] })
-
-unfoldable pub florianKlein : Model → ℕ → ℕ → Option Solution
-florianKlein M c = memo base (next M c)
 
 -- what is 0 or c from a to b sums to a multiple of c
 multiple : (x : ℕ → ℕ) (c a b : ℕ)
@@ -104,37 +92,16 @@ module _ (M : Model) (rising : Rising M) (unlimited : Unlimited M) (c m : ℕ) (
   run-loads k h =
       let p : ℕ = a + k in
       let s : sumTo (tail a x) (suc k) ≡ sumTo x (suc (a + k)) - M .floor a = omega (arith, sum-tail x a k, run .empty) in
-      ⊎-elim inl (λ r. inr (⊎-elim inl (λ t. let w = part-is (a + k) (omega arith) (omega arith) t in inr (w .0, rw s (w .1))) r)) (kind (a + k) (omega arith))
+      ⊎-elim inl
+      (λ r. inr (⊎-elim inl (λ t. let w = part-is (a + k) (omega arith) (omega arith) t in inr (w .0, rw s (w .1))) r))
+      (kind (a + k) (omega arith))
 
-module _ (M : Model) (rising : Rising M) (unlimited : Unlimited M) (c : ℕ) where
-  row-zero : Right M 0 base
-  row-zero =
-      record {
-        each = refl;
-        fits = record { total = omega (arith, rising .nought); within = λ k h. absurd (omega arith); served = λ k h. absurd (omega arith); under = λ k h. absurd (omega arith) };
-        tells = refl;
-        first = λ y r. record { cheap = omega arith; small = λ _ k h _. absurd (omega arith) };
-      }
-
-  pub florianKlein-cover : (m : ℕ) → Equal M c (suc m) → (o : Option Solution)
-      → Answers (Some (λ l. Fits M (byLoads M c l (suc m)) (suc m) l) (suc m)) (λ x. costTo M x (suc m)) (suc m) o → Right M (suc m) o
-  florianKlein-cover m caps = cover M rising unlimited (byLoads M c) (suc m) (omega arith) (λ x b l run k h. run-loads M rising unlimited c (suc m) caps x b l run k h)
-
-  -- What the step finds from right rows is right.
-  pub next-right : (m : ℕ) → Equal M c (suc m) → (rows : ℕ → Option Solution) → ((l : ℕ) → l ≤ m → Right M l (rows l)) → Right M (suc m) (next M c rows m)
-  next-right m caps rows right =
-      row-right M rising unlimited (byLoads M c) (suc m) (omega arith) rows (λ l h. right l (le-of-suc-le-suc h))
-      (λ x b l run k h. run-loads M rising unlimited c (suc m) caps x b l run k h)
-
-  -- Every row is right.
-  pub florianKlein-right : (n : ℕ) → Equal M c n → (m : ℕ) → m ≤ n → Right M m (florianKlein M c m)
-  unfolding florianKlein
-  florianKlein-right n caps = memo-all base (next M c) (Right M) n row-zero (λ m h rows right. next-right m (λ k l. caps k (omega arith)) rows right)
-
-  -- each row from those before it
-  pub florianKlein-zero : florianKlein M c 0 ≡ some (record { cost = 0; plan = [] })
-  unfolding florianKlein
-  florianKlein-zero = memo-zero base (next M c)
+-- What answers the plans whose intervals are made by loads answers all plans of (m + 1, N (m + 1)): what a loop over l ends with.
+pub florianKlein-cover : (M : Model) → Rising M → Unlimited M → (c m : ℕ) → Equal M c (suc m) → (o : Option Solution)
+    → Answers (Some (λ l. Fits M (byLoads M c l (suc m)) (suc m) l) (suc m)) (λ x. costTo M x (suc m)) (suc m) o → Right M (suc m) o
+florianKlein-cover M rising unlimited c m caps =
+    cover M rising unlimited (byLoads M c) (suc m) (omega arith)
+    (λ x b l run k h. run-loads M rising unlimited c (suc m) caps x b l run k h)
 
 -- With no capacity nothing is demanded, and every plan is all zeros.
 pub no-room : (M : Model) (n : ℕ) → Equal M 0 n → Covered M n → (m : ℕ) → m ≤ n → M .floor m ≡ 0

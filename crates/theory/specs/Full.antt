@@ -11,7 +11,7 @@ use Rattle.day.specs.Plan.{making}
 use Rattle.theory.specs.Model.{Model, Rising, production, costTo, OptimalTo}
 use Rattle.theory.specs.Cheapest.{cheapest, cheapest-right}
 use Rattle.theory.specs.Stages.{Solution}
-use Rattle.theory.specs.Recursion.{PlanOf, leads-optimal}
+use Rattle.theory.specs.Recursion.{PlanOf, leads-optimal, plan-none}
 use Rattle.theory.specs.Cut.{Spliced, cost-ext}
 use Rattle.theory.specs.Reachable.{high, Covered, Range, range-some, range-bounds, bounds-range, row-step}
 
@@ -62,7 +62,8 @@ full-step M rising k X rows right served under v range cheapest smallest =
     paid =
         let t : X ≡ sumTo (at (old .plan ++ (v ∷ []))) (suc k) = sym (best .feasible .total) in
         let h = ap (λ (t : ℕ). M .holding k * (t - M .floor (suc k))) t in
-        omega (arith, h, here v range .tells, cost-ext M (at (old .plan ++ (v ∷ []))) (at (old .plan)) k (s .low), ap (production M k) (s .high k (omega arith) (omega arith)))
+        let made = ap (production M k) (s .high k (omega arith) (omega arith)) in
+        omega (arith, h, here v range .tells, cost-ext M (at (old .plan ++ (v ∷ []))) (at (old .plan)) k (s .low))
 
 -- the plan that the last amounts `ch` say, read from its end
 abbrev pub back : (ℕ → ℕ → ℕ) → ℕ → ℕ → List ℕ
@@ -82,18 +83,13 @@ pub full-right : (M : Model) → Rising M → (D ch : ℕ → ℕ → ℕ) → D
     → (X : ℕ) → M .floor i ≤ X → X ≤ high M i → PlanOf M i X (record { cost = D i X; plan = back ch i X })
 full-right M rising D ch z zero cells X a b =
     let e : X ≡ 0 = omega arith in
-    record {
-      each = refl;
-      fits = record { total = sym e; within = λ k h. absurd (omega arith); served = λ k h. absurd (omega arith); under = λ k h. absurd (omega arith) };
-      tells = ap (D 0) e ∙ z;
-      first = λ y r. record { cheap = omega arith; small = λ _ k h _. absurd (omega arith) };
-    }
+    plan-none M X (D 0 X) e (ap (D 0) e ∙ z)
 full-right M rising D ch z (suc k) cells X a b =
     let c = cells k (omega arith) X a b in
     let t = c .tells in
     rw t
-    (full-step M rising k X (λ Y. record { cost = D k Y; plan = back ch k Y }) (full-right M rising D ch z k (λ j h. cells j (omega arith))) a (omega arith)
-    (ch k X) (c .range) (c .cheapest) (c .smallest))
+    (full-step M rising k X (λ Y. record { cost = D k Y; plan = back ch k Y })
+    (full-right M rising D ch z k (λ j h. cells j (omega arith))) a (omega arith) (ch k X) (c .range) (c .cheapest) (c .smallest))
 
 -- what the row step of one period needs to know: c, b, p, H, the totals that can be reached before it, and N after it
 pub record Stage : Type 0 where

@@ -23,7 +23,9 @@ pub mod WagnerWhitin
 -- What the equal path computes (Florian and Klein).
 pub mod FlorianKlein
 pub mod Loads
--- The days of document 01 as models; demands 2 and 3; agreement of paths.
+-- What the loops run on; the days of document 01 as such problems; demands 2 and 3; agreement of paths; the demands of the calls.
+pub mod Problem
 pub mod Base
 pub mod Demands
 pub mod Agreement
+pub mod Calls

@@ -36,7 +36,8 @@ module _ (M : Model) (l c part : ℕ) where
   unfoldable pub loadsTo : ℕ → ℕ → ℕ → Option Solution
   loadsTo zero j d = begin (both? (ℕ-discrete j 0) (ℕ-discrete d 0))
   loadsTo (suc k) j d =
-      better (better (moves k j d 0 (loadsTo k j d)) (given d (moves k j d part (loadsTo k j (d - 1))))) (given j (moves k j d c (loadsTo k (j - 1) d)))
+      better (better (moves k j d 0 (loadsTo k j d)) (given d (moves k j d part (loadsTo k j (d - 1)))))
+      (given j (moves k j d c (loadsTo k (j - 1) d)))
 
 -- each state from those before it
 pub loads-next : (M : Model) (l c part k j d : ℕ)
@@ -55,7 +56,10 @@ least-skip : (f : ℕ → Option Solution) (a b : ℕ) → a ≤ b → ((x : ℕ
 least-skip f a zero l h = let e : a ≡ 0 = omega arith in rw e refl
 least-skip f a (suc b) l h =
     ⊎-elim (λ (e : a ≡ suc b). rw e refl)
-    (λ g. ap (λ (o : Option Solution). better (least f b) o) (h (suc b) g (omega arith)) ∙ better-none (least f b) ∙ least-skip f a b (le-of-suc-le-suc g) (λ x u v. h x u (omega arith)))
+    (λ g.
+    ap (λ (o : Option Solution). better (least f b) o) (h (suc b) g (omega arith))
+    ∙ better-none (least f b)
+    ∙ least-skip f a b (le-of-suc-le-suc g) (λ x u v. h x u (omega arith)))
     (eq-or-lt-of-le l)
 
 -- a last try after such
@@ -201,7 +205,9 @@ pub record Back (M : Model) (l c part k j d : ℕ) (f : Solution) : Type 0 where
 pub loads-back : (M : Model) (l c part k j d : ℕ) (f : Solution) → loadsTo M l c part (suc k) j d ≡ some f → Back M l c part k j d f
 loads-back M l c part k j d f e =
     ⊎-elim
-    (λ p. ⊎-elim idle (λ q. some-part d refl q) (better-one (moves M l c part k j d 0 (loadsTo M l c part k j d)) (given d (moves M l c part k j d part (loadsTo M l c part k j (d - 1)))) f p))
+    (λ p.
+    ⊎-elim idle (λ q. some-part d refl q)
+    (better-one _ (given d (moves M l c part k j d part (loadsTo M l c part k j (d - 1)))) f p))
     (λ q. some-full j refl q)
     (better-one _ (given j (moves M l c part k j d c (loadsTo M l c part k (j - 1) d))) f (sym (loads-next M l c part k j d) ∙ e))
   where
@@ -246,7 +252,8 @@ byLoad-is M c pos rows m l h caps =
     W = M .floor m - M .floor l
 
 -- it answers the plans that fit
-pub byLoad-answers : (M : Model) → Rising M → Unlimited M → (c : ℕ) → 0 < c → (rows : ℕ → Option Solution) (m l : ℕ) → l < m → Equal M c m → Right M l (rows l)
+pub byLoad-answers : (M : Model) → Rising M → Unlimited M → (c : ℕ) → 0 < c → (rows : ℕ → Option Solution) (m l : ℕ) → l < m
+    → Equal M c m → Right M l (rows l)
     → Answers (Fits M (byLoads M c l m) m l) (λ x. costTo M x m) m (byLoad M c rows m l)
 byLoad-answers M rising unlimited c pos rows m l h caps right =
     subst (Answers (Fits M (byLoads M c l m) m l) (λ x. costTo M x m) m) (sym (byLoad-is M c pos rows m l h caps))

@@ -30,7 +30,8 @@ module _ {A : Type 0} (base : A) (next : (ℕ → A) → ℕ → A) where
   unfolding memo
   memo-zero = refl
 
-  pub memo-next : ((r s : ℕ → A) (m : ℕ) → ((l : ℕ) → l ≤ m → r l ≡ s l) → next r m ≡ next s m) → (m : ℕ) → memo (suc m) ≡ next memo m
+  pub memo-next : ((r s : ℕ → A) (m : ℕ) → ((l : ℕ) → l ≤ m → r l ≡ s l) → next r m ≡ next s m)
+      → (m : ℕ) → memo (suc m) ≡ next memo m
   unfolding memo
   memo-next ext m =
       pick-no (decLt (suc m) (suc m)) (tab m (suc m)) (next (tab m) m) (λ h. omega arith) ∙ ext (tab m) memo m (tab-is m)

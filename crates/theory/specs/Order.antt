@@ -95,26 +95,6 @@ pub smaller-ext : (n : ℕ) (x y x′ y′ : ℕ → ℕ)
 smaller-ext n x y x′ y′ e f s k lt alike =
     rw (← (e k lt), ← (f k lt)) (s k lt (λ j a b. e j b ∙ alike j a b ∙ sym (f j b)))
 
--- the test: from the last period down
-unfoldable pub smaller? : (n : ℕ) (x y : ℕ → ℕ) → Dec (Smaller n x y)
-smaller? zero x y = yes (λ k lt _. absurd (omega arith))
-smaller? (suc n) x y = go (decLt (x n) (y n)) (decLt (y n) (x n)) (smaller? n x y)
-  where
-    go : Dec (x n < y n) → Dec (y n < x n) → Dec (Smaller n x y) → Dec (Smaller (suc n) x y)
-    go (yes h) d r = yes (smaller-last n x y h)
-    go (no h) (yes g) r = no (λ s. omega (arith, smaller-at-last n x y s))
-    go (no h) (no g) (yes r) = yes (smaller-before n x y (omega arith) r)
-    go (no h) (no g) (no r) = no (λ s. r (smaller-down n x y (omega arith) s))
-
-pub smaller-else : (n : ℕ) (x y : ℕ → ℕ) → ¬ Smaller n x y → Smaller n y x
-smaller-else zero x y h = λ k lt _. absurd (omega arith)
-smaller-else (suc n) x y h = go (decLt (x n) (y n)) (decLt (y n) (x n)) (smaller-else n x y)
-  where
-    go : Dec (x n < y n) → Dec (y n < x n) → (¬ Smaller n x y → Smaller n y x) → Smaller (suc n) y x
-    go (yes l) d r = absurd (h (smaller-last n x y l))
-    go (no l) (yes g) r = smaller-last n y x g
-    go (no l) (no g) r = smaller-before n y x (omega arith) (r (λ s. h (smaller-before n x y (omega arith) s)))
-
 pub precedes-trans : (costs : (ℕ → ℕ) → ℕ) (n : ℕ) (x y z : ℕ → ℕ) → Precedes costs n x y → Precedes costs n y z → Precedes costs n x z
 precedes-trans costs n x y z p q =
     record {
@@ -123,7 +103,8 @@ precedes-trans costs n x y z p q =
     }
 
 -- those that precede each other are alike
-pub precedes-anti : (costs : (ℕ → ℕ) → ℕ) (n : ℕ) (x y : ℕ → ℕ) → Precedes costs n x y → Precedes costs n y x → (k : ℕ) → k < n → x k ≡ y k
+pub precedes-anti : (costs : (ℕ → ℕ) → ℕ) (n : ℕ) (x y : ℕ → ℕ) → Precedes costs n x y → Precedes costs n y x
+    → (k : ℕ) → k < n → x k ≡ y k
 precedes-anti costs n x y p q =
     let e : costs x ≡ costs y = le-antisymm (p .cheap) (q .cheap) in
     smaller-anti n x y (p .small e) (q .small (sym e))

@@ -1,13 +1,15 @@
 -- The totals that can be reached form an interval, and the row step of recursion (5) runs over it alone, with no mark for "unreachable".
 -- Main statements: `interval`, `feasible-covered`, `row-step`. Assumes nothing.
 use mathlib.Core.Path.{_≡_, refl, sym, ap, _∙_}
+use mathlib.Core.List.{[]}
 use Prim.Native.Nat.{ℕ, zero, suc, _+_, _-_, _*_, _≤_, _<_, min}
 use native.Mathlib.Decide.{decLt}
 use native.Mathlib.Omega.{arith}
-use Rattle.day.specs.Sums.{sumTo, below, sum-ext}
+use Rattle.day.specs.Sums.{at, sumTo, below, sum-ext}
 use Rattle.day.specs.Plan.{Smaller, Precedes}
 use Rattle.theory.specs.Model.{Model, Rising, production, costTo, FeasibleTo, OptimalTo}
 use Rattle.theory.specs.Order.{smaller-last, smaller-before, smaller-ext}
+use Rattle.theory.specs.Recursion.{plan-none}
 use Rattle.theory.specs.Cut.{Spliced, join, joined, cost-ext, feasible-less, floor-below}
 
 -- the highest total that can be reached, while the floor can be
@@ -51,8 +53,7 @@ module _ (M : Model) (rising : Rising M) where
 
   -- Every total from the floor to the highest is reached.
   pub interval : (i : ℕ) → Covered M i → (X : ℕ) → M .floor i ≤ X → X ≤ high M i → (x : ℕ → ℕ) × FeasibleTo M i X x
-  interval zero e X a b =
-      (λ _. 0, record { total = omega arith; within = λ k h. absurd (omega arith); served = λ k h. absurd (omega arith); under = λ k h. absurd (omega arith) })
+  interval zero e X a b = (at [], plan-none M X 0 (omega arith) refl .fits)
   interval (suc k) e X a b =
       let Y : ℕ = min X (high M k) in
       let r = interval k (λ j h. e j (omega arith)) Y (omega (arith, rising .rises k, e k (omega arith))) (omega arith) in
@@ -102,7 +103,8 @@ module _ (M : Model) (rising : Rising M) where
         let r = feasible-more k (X - v) v (plans (X - v)) z s (b .feasible) (range .room) (omega arith) (omega arith) in
         record { feasible = rw e at r; first = λ y q. ahead (rw e at r) b y q }
       where
-        paid : (y : ℕ → ℕ) → FeasibleTo M (suc k) X y → costTo M y (suc k) ≡ costTo M y k + production M k (y k) + M .holding k * (X - M .floor (suc k))
+        paid : (y : ℕ → ℕ) → FeasibleTo M (suc k) X y
+            → costTo M y (suc k) ≡ costTo M y k + production M k (y k) + M .holding k * (X - M .floor (suc k))
         paid y q = rw (q .total) (omega arith)
 
         mine : costTo M z k + production M k (z k) ≡ price v
@@ -129,7 +131,8 @@ module _ (M : Model) (rising : Rising M) where
             smaller-before k z y (here ∙ sym e)
             (smaller-ext k (plans (X - v)) y z y (λ j h. sym (s .low j h)) (λ j h. refl) (p .small (omega (arith, mine))))
 
-        ahead : FeasibleTo M (suc k) X z → OptimalTo M k (X - v) (plans (X - v)) → (y : ℕ → ℕ) → FeasibleTo M (suc k) X y → Precedes (λ x. costTo M x (suc k)) (suc k) z y
+        ahead : FeasibleTo M (suc k) X z → OptimalTo M k (X - v) (plans (X - v))
+            → (y : ℕ → ℕ) → FeasibleTo M (suc k) X y → Precedes (λ x. costTo M x (suc k)) (suc k) z y
         ahead r b y q =
             let c = paid z r in
             let d = paid y q in

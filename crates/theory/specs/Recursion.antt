@@ -1,6 +1,7 @@
 -- Recursion (5) for a model: the states are the totals made, and what it gives is the optimal plan.
 -- Main statements: `bestTo-right`, `optimal-exists`, `optimal-unique`. Assumes nothing.
 use mathlib.Core.Path.{_≡_, refl, sym, _∙_}
+use mathlib.Core.List.{[]}
 use mathlib.Core.Option.{Option, none, some}
 use Prim.Native.Nat.{ℕ, suc, _+_, _-_, _*_, _≤_, _<_}
 use native.Mathlib.Decide.{decLe}
@@ -55,6 +56,21 @@ found M i X (some f) y a r = (f, refl, a)
 
 pub leads-optimal : (M : Model) (i X : ℕ) (f : Solution) → PlanOf M i X f → OptimalTo M i X (at (f .plan))
 leads-optimal M i X f l = record { feasible = l .fits; first = l .first }
+
+-- the plan of no periods, at no cost
+pub plan-none : (M : Model) (X cost : ℕ) → X ≡ 0 → cost ≡ 0 → PlanOf M 0 X (record { cost = cost; plan = [] })
+plan-none M X cost e z =
+    record {
+      each = refl;
+      fits = record {
+        total = sym e;
+        within = λ k h. absurd (omega arith);
+        served = λ k h. absurd (omega arith);
+        under = λ k h. absurd (omega arith);
+      };
+      tells = z;
+      first = λ y r. record { cheap = omega arith; small = λ _ k h _. absurd (omega arith) };
+    }
 
 -- where something reaches X, there is an optimal plan
 pub optimal-exists : (M : Model) (i X : ℕ) (y : ℕ → ℕ) → FeasibleTo M i X y → (x : ℕ → ℕ) × OptimalTo M i X x

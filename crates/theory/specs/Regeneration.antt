@@ -18,7 +18,7 @@ use Rattle.theory.specs.Totals.{Totals, stages, Makes, costs, totals-ans
 use Rattle.theory.specs.Recursion.{both?, PlanOf, AnswerOf, optimal-exists}
 use Rattle.theory.specs.Cut.{cost-ext, feasible-ext, feasible-less, floor-grows}
 use Rattle.theory.specs.Exchange.{Regeneration, last-run}
-use Rattle.theory.specs.Candidates.{firstOf, Some, firstOf-answers}
+use Rattle.theory.specs.Candidates.{Some}
 
 -- which amounts an interval may have: `Kind k X x`, where after its period k it has made X, and x in that period
 pub record Kinds : Type 1 where
@@ -159,10 +159,6 @@ module _ (M : Model) (rising : Rising M) (unlimited : Unlimited M) (l i : ℕ) (
 abbrev pub candidate : Model → (ℕ → ℕ → Kinds) → (ℕ → Option Solution) → ℕ → ℕ → Option Solution
 candidate M K rows m l = glue (rows l) (bestTo (stages (runs M l (K l m))) (m - l) (M .floor m - M .floor l))
 
--- row m: the first of the candidates
-abbrev pub row : Model → (ℕ → ℕ → Kinds) → (ℕ → Option Solution) → ℕ → Option Solution
-row M K rows m = firstOf m (candidate M K rows m) m
-
 -- o is the plan of (m, N m), or nothing, and then there is none
 abbrev pub Right : Model → ℕ → Option Solution → Type 0
 Right M m o = AnswerOf M m (M .floor m) o
@@ -204,14 +200,15 @@ module _ (M : Model) (rising : Rising M) (unlimited : Unlimited M) where
         runsTo : ℕ → Option Solution
         runsTo n = bestTo (stages (runs M l (K l m))) (m - l) (M .floor n - M .floor l)
 
-        move : (n : ℕ) → l + (m - l) ≡ n
-            → Answers (λ y. FeasibleTo M l (M .floor l) y × Makes (runs M l (K l m)) (m - l) (M .floor n - M .floor l) (tail l y)) (λ x. costTo M x n) n (glue (rows l) (runsTo n))
+        -- the candidate answers at l + (m - l), and so at m, which it is
+        Answered : ℕ → Type 0
+        Answered n =
+            Answers (λ y. FeasibleTo M l (M .floor l) y × Makes (runs M l (K l m)) (m - l) (M .floor n - M .floor l) (tail l y))
+            (λ x. costTo M x n) n (glue (rows l) (runsTo n))
+
+        move : (n : ℕ) → l + (m - l) ≡ n → Answered n
         move n e =
-            subst
-            (λ (n : ℕ).
-            Answers (λ y. FeasibleTo M l (M .floor l) y × Makes (runs M l (K l m)) (m - l) (M .floor n - M .floor l) (tail l y)) (λ x. costTo M x n) n
-            (glue (rows l) (runsTo n)))
-            e
+            subst Answered e
             (glue-answers M rising unlimited l (m - l) (K l m) (rows l) (runsTo (l + (m - l))) a
             (totals-answers (runs M l (K l m)) (m - l) (M .floor (l + (m - l)) - M .floor l)))
 
@@ -244,9 +241,3 @@ module _ (M : Model) (rising : Rising M) (unlimited : Unlimited M) where
         covers m (Some (λ l. Fits M (K l m) m l) m) o a
         (λ y q. fits-feasible (q .0) (q .1) y (q .2))
         (λ x b. let w = last-run M rising (M .floor m) x m pos (b .feasible) in (w .0, w .1 .ahead, run-fits shape x b (w .0) (w .1)))
-
-    -- So the first of the candidates is the optimal plan.
-    pub row-right : 0 < m → (rows : ℕ → Option Solution) → ((l : ℕ) → l < m → Right M l (rows l)) → Shaped → Right M m (row M K rows m)
-    row-right pos rows right shape =
-        cover pos shape (row M K rows m)
-        (firstOf-answers (λ x. costTo M x m) m (λ l. Fits M (K l m) m l) (candidate M K rows m) m (λ l h. candidate-answers rows l h (right l h)))

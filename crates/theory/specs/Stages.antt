@@ -123,7 +123,8 @@ module _ (M : Stages) where
         let other = spends y e in
         record {
           cheap = omega (arith, l .cheap);
-          small = λ q. smaller-before k (at p) y (here ∙ sym e) (λ j lt alike. rw (← (same j lt)) (l .small (omega arith) j lt (λ i a b. same i b ∙ alike i a b)));
+          small = λ q. smaller-before k (at p) y (here ∙ sym e)
+              (λ j lt alike. rw (← (same j lt)) (l .small (omega arith) j lt (λ i a b. same i b ∙ alike i a b)));
         }
 
     extend-leads : (f : Solution)
@@ -158,7 +159,8 @@ pub answers-iff : {Q Q′ : (ℕ → ℕ) → Type 0} (costs : (ℕ → ℕ) →
     → Answers Q costs n o
     → Answers Q′ costs n o
 answers-iff costs n none to from a = λ y q. a y (from y q)
-answers-iff costs n (some f) to from a = record { each = a .each; fits = to (at (f .plan)) (a .fits); tells = a .tells; first = λ y q. a .first y (from y q) }
+answers-iff costs n (some f) to from a =
+    record { each = a .each; fits = to (at (f .plan)) (a .fits); tells = a .tells; first = λ y q. a .first y (from y q) }
 
 -- the same costs in other words
 pub answers-costs : {Q : (ℕ → ℕ) → Type 0} {costs costs′ : (ℕ → ℕ) → ℕ} (n : ℕ) (o : Option Solution)
@@ -226,7 +228,8 @@ module _ (P : (ℕ → ℕ) → Type 0) (costs : (ℕ → ℕ) → ℕ) (k : ℕ
       → Answers (UpTo m) costs (suc k) a
       → Answers (Just (suc m)) costs (suc k) b
       → Answers (UpTo (suc m)) costs (suc k) (better a b)
-  better-answers m none b la lb = answers-iff costs (suc k) b (λ y q. (q .0, omega arith)) (λ y q. ⊎-elim (λ e. e) (λ l. absurd (la y l)) (split m y q)) lb
+  better-answers m none b la lb =
+      answers-iff costs (suc k) b (λ y q. (q .0, omega arith)) (λ y q. ⊎-elim (λ e. e) (λ l. absurd (la y l)) (split m y q)) lb
   better-answers m (some a) none la lb =
       answers-iff costs (suc k) (some a) (λ y q. (q .0, omega arith)) (λ y q. ⊎-elim (λ e. absurd (lb y e)) (λ l. l) (split m y q)) la
   better-answers m (some a) (some b) la lb = choose-leads m a b (decLt (b .cost) (a .cost)) la lb
@@ -268,4 +271,6 @@ pub extend-one : {A : Type 0} (d : Dec A) (x c : ℕ) (o : Option Solution) (f :
     → (g : Solution) × (o ≡ some g) × (f .plan ≡ g .plan ++ (x ∷ []))
 extend-one (no _) x c o f e = let z : _≡_ {A = ℕ} 0 1 = cc in absurd (omega arith)
 extend-one (yes _) x c none f e = let z : _≡_ {A = ℕ} 0 1 = cc in absurd (omega arith)
-extend-one (yes _) x c (some g) f e = let q : _≡_ {A = Solution} (record { cost = g .cost + c; plan = g .plan ++ (x ∷ []) }) f = cc in (g, refl, sym (ap (λ (h : Solution). h .plan) q))
+extend-one (yes _) x c (some g) f e =
+    let q : _≡_ {A = Solution} (record { cost = g .cost + c; plan = g .plan ++ (x ∷ []) }) f = cc in
+    (g, refl, sym (ap (λ (h : Solution). h .plan) q))

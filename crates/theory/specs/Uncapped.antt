@@ -1,4 +1,5 @@
--- Where no capacity can bind, a regeneration interval is made in its first period: the plan of (m, N m) by a search over where the inventory was last empty.
+-- Where no capacity can bind, a regeneration interval is made in its first period: the plan of (m, N m) by a search over where the
+-- inventory was last empty.
 -- Main statements: `copy-step`, `run-step`. Assumes nothing.
 use mathlib.Core.Path.{_≡_, refl, sym, ap, _∙_}
 use mathlib.Core.Logic.{⊎-elim}
@@ -103,7 +104,9 @@ copy-step M rising unlimited m same x z b t =
     last y r = omega (arith, floor-below M rising (suc m) (M .floor (suc m)) y r m (omega arith), r .total)
 
     before : (y : ℕ → ℕ) → FeasibleTo M (suc m) (M .floor (suc m)) y → FeasibleTo M m (M .floor m) y
-    before y r = let e : sumTo y m ≡ M .floor m = omega (arith, last y r, r .total) in rw e at (feasible-less M m (suc m) (M .floor (suc m)) y (omega arith) r)
+    before y r =
+        let e : sumTo y m ≡ M .floor m = omega (arith, last y r, r .total) in
+        rw e at (feasible-less M m (suc m) (M .floor (suc m)) y (omega arith) r)
 
     paid : (y : ℕ → ℕ) → FeasibleTo M (suc m) (M .floor (suc m)) y → costTo M y (suc m) ≡ costTo M y m
     paid y r =
@@ -170,7 +173,9 @@ module _ (M : Model) (rising : Rising M) (unlimited : Unlimited M) (m : ℕ) (ro
     (earliest : (j : ℕ) → j < l → price M costs (suc m) l < price M costs (suc m) j)
     (z : ℕ → ℕ) (t : Through M l (suc m) (plans l) z) where
   mine : FeasibleTo M (suc m) (M .floor (suc m)) z
-  mine = through-feasible M rising unlimited l (suc m) (omega arith) (plans l) z (right l inside .feasible .total) t (room l (omega arith)) (right l inside .feasible)
+  mine =
+      let r = right l inside .feasible in
+      through-feasible M rising unlimited l (suc m) (omega arith) (plans l) z (r .total) t (room l (omega arith)) r
 
   -- of two that cost the same and go through l and a later a, the first makes nothing in period a
   sooner : (x : ℕ → ℕ) (a : ℕ) → a ≤ m → l ≤ a → Through M a (suc m) (plans a) x → Smaller (suc m) z x

@@ -1,4 +1,5 @@
--- The uncapped path (report, section 3; Wagner and Whitin): a row for each m, found from the rows before it. Row m is the plan of (m, N m), with its cost.
+-- The uncapped path (report, section 3; Wagner and Whitin): a row for each m, found from the rows before it. Row m is the plan of
+-- (m, N m), with its cost.
 -- Main definition: `wagnerWhitin`. Main statement: `wagnerWhitin-right`. Assumes nothing.
 use mathlib.Core.Path.{_≡_, refl, sym, ap, _∙_}
 use mathlib.Core.List.{List, [], _∷_, _++_}
@@ -13,7 +14,7 @@ use Rattle.theory.specs.Basics.{pick}
 use Rattle.theory.specs.Cheapest.{cheapest, Cheapest, cheapest-right, cheapest-unique, cheapest-ext}
 use Rattle.theory.specs.Memo.{memo, memo-zero, memo-next, memo-all}
 use Rattle.theory.specs.Stages.{Solution}
-use Rattle.theory.specs.Recursion.{PlanOf, leads-optimal}
+use Rattle.theory.specs.Recursion.{PlanOf, leads-optimal, plan-none}
 use Rattle.theory.specs.Uncapped.{Uncapped, uncapped-less, Through, rest, price, through-cost, copy-step, run-step}
 
 -- where the inventory is last empty before m + 1
@@ -95,50 +96,57 @@ module _ (M : Model) where
   Row m f = PlanOf M m (M .floor m) f
 
   module _ (rising : Rising M) (unlimited : Unlimited M) where
-    row-zero : Row 0 (record { cost = 0; plan = [] })
-    row-zero =
-        record {
-          each = refl;
-          fits = record { total = omega (arith, rising .nought); within = λ k h. absurd (omega arith); served = λ k h. absurd (omega arith); under = λ k h. absurd (omega arith) };
-          tells = refl;
-          first = λ y r. record { cheap = omega arith; small = λ _ k h _. absurd (omega arith) };
-        }
-
     -- What the step finds from right rows is right.
-    pub next-right : (m : ℕ) → Uncapped M (suc m) → (rows : ℕ → Solution) → ((l : ℕ) → l ≤ m → Row l (rows l)) → Row (suc m) (next M rows m)
+    pub next-right : (m : ℕ) → Uncapped M (suc m) → (rows : ℕ → Solution) → ((l : ℕ) → l ≤ m → Row l (rows l))
+        → Row (suc m) (next M rows m)
     next-right m room rows right = go (ℕ-discrete (M .floor (suc m)) (M .floor m))
       where
         costs : ℕ → ℕ
         costs l = rows l .cost
 
-        row : (l : ℕ) → l ≤ m → OptimalTo M (suc m) (M .floor (suc m)) (at (rows l .plan ++ lot M m l)) → Row (suc m) (through M m l (rows l))
+        before : ℕ → ℕ → ℕ
+        before l = at (rows l .plan)
+
+        longer : ℕ → ℕ → ℕ
+        longer l = at (rows l .plan ++ lot M m l)
+
+        passes : (l : ℕ) → l ≤ m → Through M l (suc m) (before l) (longer l)
+        passes l h = through-list l m (rows l .plan) (right l h .each) h
+
+        best : (l : ℕ) (h : l ≤ m) → OptimalTo M l (M .floor l) (before l)
+        best l h = leads-optimal M l (M .floor l) (rows l) (right l h)
+
+        row : (l : ℕ) → l ≤ m → OptimalTo M (suc m) (M .floor (suc m)) (longer l) → Row (suc m) (through M m l (rows l))
         row l h b =
+            let r = right l h in
             record {
-              each = length-append (rows l .plan) (lot M m l) ∙ omega (arith, right l h .each, length-replicate {A = ℕ} (m - l) 0);
+              each = length-append (rows l .plan) (lot M m l) ∙ omega (arith, r .each, length-replicate {A = ℕ} (m - l) 0);
               fits = b .feasible;
-              tells = sym (through-cost M rising unlimited l (suc m) (omega arith) (at (rows l .plan)) (at (rows l .plan ++ lot M m l)) (right l h .fits .total)
-                  (through-list l m (rows l .plan) (right l h .each) h) costs (right l h .tells));
+              tells = sym
+                  (through-cost M rising unlimited l (suc m) (omega arith) (before l) (longer l) (r .fits .total) (passes l h) costs (r .tells));
               first = b .first;
             }
 
-        best : (l : ℕ) (h : l ≤ m) → OptimalTo M l (M .floor l) (at (rows l .plan))
-        best l h = leads-optimal M l (M .floor l) (rows l) (right l h)
+        RowBy : ℕ → Type 0
+        RowBy l = Row (suc m) (through M m l (rows l))
 
-        go : (d : Dec (M .floor (suc m) ≡ M .floor m)) → Row (suc m) (through M m (pick d m (cheapest (price M costs (suc m)) m)) (rows (pick d m (cheapest (price M costs (suc m)) m))))
+        go : (d : Dec (M .floor (suc m) ≡ M .floor m)) → RowBy (pick d m (cheapest (price M costs (suc m)) m))
         go (yes e) =
-            row m (omega arith)
-            (copy-step M rising unlimited m e (at (rows m .plan)) (at (rows m .plan ++ lot M m m)) (best m (omega arith)) (through-list m m (rows m .plan) (right m (omega arith) .each) (omega arith)))
+            let h : m ≤ m = omega arith in
+            row m h (copy-step M rising unlimited m e (before m) (longer m) (best m h) (passes m h))
         go (no e) =
             let c = cheapest-right (price M costs (suc m)) m in
             let l = cheapest (price M costs (suc m)) m in
             row l (c .inside)
-            (run-step M rising unlimited m room (omega (arith, rising .rises m)) (λ j. at (rows j .plan)) costs best (λ j h. right j h .tells) l (c .inside) (c .least) (c .first)
-            (at (rows l .plan ++ lot M m l)) (through-list l m (rows l .plan) (right l (c .inside) .each) (c .inside)))
+            (run-step M rising unlimited m room (omega (arith, rising .rises m)) before costs best (λ j h. right j h .tells)
+            l (c .inside) (c .least) (c .first) (longer l) (passes l (c .inside)))
 
     -- Every row is right.
     pub wagnerWhitin-right : (n : ℕ) → Uncapped M n → (m : ℕ) → m ≤ n → Row m (wagnerWhitin M m)
     unfolding wagnerWhitin
-    wagnerWhitin-right n room = memo-all none (next M) Row n row-zero (λ m h rows right. next-right m (uncapped-less M rising (suc m) n h room) rows right)
+    wagnerWhitin-right n room =
+        memo-all none (next M) Row n (plan-none M (M .floor 0) 0 (rising .nought) refl)
+        (λ m h rows right. next-right m (uncapped-less M rising (suc m) n h room) rows right)
 
 -- the cost and the place found for row m + 1 are right, given the costs of the rows before it
 pub record Chosen (M : Model) (costs : ℕ → ℕ) (m cost place : ℕ) : Type 0 where

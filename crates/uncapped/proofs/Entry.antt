@@ -1,109 +1,93 @@
--- Laws of the call: what passed tests leave for the work, and what the work leaves is what an accepted call leaves.
+-- Laws of the call: what passed tests leave for the loops, and what the loops leave is what an accepted call leaves.
 -- Assumes nothing.
 use mathlib.Core.Path.{_≡_, refl, sym, ap, _∙_}
-use mathlib.Core.List.{List, [], _∷_, _++_}
-use mathlib.Core.Option.{Option, none, some, Option·some-ne-none}
+use mathlib.Core.List.{List, _++_}
 use Prim.Native.Nat.{ℕ, _+_, _<_}
 use native.Mathlib.Omega.{arith}
-use lib.ListN.{length, drop, set, replicate, length-append, length-drop, List·getD-append}
-use lib.Seq.{drop-at, drop-set-lt}
-use Rattle.day.specs.declared.Refusal.{Refusal}
-use Rattle.day.specs.declared.Check.{Check}
-use Rattle.day.specs.declared.Check.the-variants.{Passed, Refused}
+use lib.ListN.{length, drop, replicate, length-append, length-drop, length-replicate, getD-replicate, List·getD-append}
+use lib.Seq.{drop-at}
 use Rattle.day.specs.declared.Totals.{Totals}
 use Rattle.day.specs.Sums.{at}
-use Rattle.day.specs.Day.{Day, periods, total}
-use Rattle.day.specs.Plan.{setups}
-use Rattle.day.specs.Refusals.{first, checked, badTables, badTotal, badAreas, badSlots, shortage, binding}
-use Rattle.day.specs.Outcome.{Memory, Cleared, Accepted}
-use Rattle.day.specs.Paths.{refusal, uncapped}
-use Rattle.checks.specs.Passed.{Enough, passed, refused, first-refused, first-passed, first-one, tables-passed, total-passed, memory-passed, binding-passed}
-use Rattle.theory.specs.Base.{modelOf, model-rising, model-unlimited, optimal-iff}
-use Rattle.theory.specs.Cut.{cost-ext, optimal-ext}
+use Rattle.day.specs.Day.{Day, periods, total, maxCapacity}
+use Rattle.day.specs.Plan.{Optimal}
+use Rattle.day.specs.Tests.{first-one}
+use Rattle.day.specs.Outcome.{Memory, memoryOf, sizesOf, Counts, Cleared, Accepted}
+use Rattle.day.specs.Paths.{uncapped}
+use Rattle.checks.specs.Passed.{Admitted, binding-passed}
+use Rattle.theory.specs.Cut.{optimal-ext}
 use Rattle.theory.specs.Model.{Model}
+use Rattle.theory.specs.Problem.{Problem, Bounded, modelOf, model-rising, model-unlimited}
+use Rattle.theory.specs.Base.{problemOf, bounded, optimal-iff}
 use Rattle.theory.specs.Recursion.{leads-optimal}
-use Rattle.theory.specs.Uncapped.{Uncapped}
+use Rattle.theory.specs.Stages.{Solution}
 use Rattle.theory.specs.WagnerWhitin.{wagnerWhitin, wagnerWhitin-right, Row}
-use Rattle.uncapped.specs.Bounds.{Fitting}
-use Rattle.uncapped.specs.Rows.{Filled}
+use Rattle.uncapped.specs.Bounds.{uncapacitated}
+use Rattle.uncapped.specs.Slots.{ReadBack}
+use Rattle.uncapped.specs.Rows.{RowsWritten}
 
--- a list without refusals has none in either part
-first-split : (xs ys : List (Option Refusal)) → first (xs ++ ys) ≡ none → (first xs ≡ none) × (first ys ≡ none)
-first-split [] ys e = (refl, e)
-first-split (none ∷ xs) ys e = first-split xs ys e
-first-split (some r ∷ xs) ys e = absurd (Option·some-ne-none _ e)
+-- what the loops run on, for a day
+abbrev pub loopsOf : Day → Problem
+loopsOf d = uncapacitated (d .demand) (d .setup) (d .unit) (d .holding)
 
--- a refusal of one group of tests, those before it passed, is that of the whole list
-pub group-refused : (before group after : List (Option Refusal)) {answer : Check} {r : Refusal}
-    → first before ≡ none → answer ≡ checked (first group) → answer ≡ Refused r → Refused r ≡ checked (first (before ++ (group ++ after)))
-group-refused before group after e is f = sym (ap checked (first-passed before (group ++ after) e ∙ first-refused group after (refused (first group) is f)))
+module _ (d : Day) (m : Memory) (ok : Admitted uncapped d (sizesOf m)) where
+  abbrev n : ℕ
+  n = periods d
 
--- groups that passed have passed together
-pub group-passed : (before group : List (Option Refusal)) {answer : Check} → first before ≡ none → answer ≡ checked (first group) → answer ≡ Passed → first (before ++ group) ≡ none
-group-passed before group e is f = first-passed before group e ∙ passed (first group) is f
+  abbrev M : Model
+  M = modelOf (problemOf d)
 
--- the tests in the groups in which they are called: 1 to 4; 5 and 6
-abbrev pub tableTests : Day → List (Option Refusal)
-tableTests d = badTables d (badTotal d ∷ [])
+  pub loops-bounded : Bounded (loopsOf d)
+  loops-bounded =
+      let b = bounded d (ok .day .limits) (ok .day .total) in
+      record {
+        nonempty = b .nonempty;
+        few = b .few;
+        capacities = length-replicate n maxCapacity;
+        setups = b .setups;
+        units = b .units;
+        holdings = b .holdings;
+        demand = b .demand;
+        capacity = λ k h. omega (arith, getD-replicate n k maxCapacity 0 h);
+        setup = b .setup;
+        unit = b .unit;
+        holding = b .holding;
+        small = b .small;
+      }
 
-abbrev pub memoryTests : Day → Memory → List (Option Refusal)
-memoryTests d m = badAreas (length (m .costs)) (periods d + 1) (length (m .choices)) (periods d + 1) ∷ badSlots (length (m .slots)) (periods d) ∷ []
+  row : Row M n (wagnerWhitin M n)
+  row =
+      wagnerWhitin-right M (model-rising (problemOf d)) (model-unlimited (problemOf d)) n (binding-passed d (rw first-one at (ok .own))) n
+      (omega arith)
 
-module _ (d : Day) (m : Memory) where
-  abbrev memory : List (Option Refusal)
-  memory = memoryTests d m
+  abbrev plan : List ℕ
+  plan = wagnerWhitin M n .plan
 
-  abbrev capacities : List (Option Refusal)
-  capacities = shortage d ∷ binding d ∷ []
+  -- the rows depend on no capacity
+  same-rows : wagnerWhitin (modelOf (loopsOf d)) n ≡ wagnerWhitin M n
+  unfolding wagnerWhitin
+  same-rows = refl
 
-  module _ (accepted : refusal uncapped d m ≡ none) where
-    pub accepted-fits : Fitting d
-    accepted-fits =
-        let l = tables-passed d (badTotal d ∷ memory ++ capacities) accepted in
+  -- The areas once the rows are found, and the slots once the plan is read back.
+  module _ (costs choices slots : List ℕ) (f : RowsWritten (loopsOf d) (m .costs) (m .choices) costs choices)
+      (back : ReadBack (d .demand) choices (m .slots) slots) where
+    is : slots ≡ plan ++ drop n (m .slots)
+    is = back _ (f .lots) ∙ ap (λ (s : Solution). s .plan ++ drop n (m .slots)) same-rows
+
+    same : (k : ℕ) → k < n → at plan k ≡ at slots k
+    same k h = sym (rw is (List·getD-append plan (drop n (m .slots)) 0 k (omega (arith, row .each))))
+
+    pub slots-optimal : Optimal d (at slots)
+    slots-optimal = optimal-iff d (at slots) .1 (optimal-ext M n (total d) (at plan) (at slots) same (leads-optimal M n (total d) (wagnerWhitin M n) row))
+
+    -- once the areas are cleared, all is as an accepted call leaves it
+    pub work-accepted : (t : Totals) (costs′ choices′ : List ℕ) → Counts d (at slots) t
+        → Cleared (n + 1) costs costs′ → Cleared (n + 1) choices choices′ → Accepted uncapped d t m (memoryOf costs′ choices′ slots)
+    work-accepted t costs′ choices′ counts clear clear′ =
         record {
-          few = l .few;
-          total = total-passed d (memory ++ capacities) accepted;
-          setup = l .lengths .setup;
-          unit = l .lengths .unit;
-          holding = l .lengths .holding;
+          plan = slots-optimal;
+          counts = counts;
+          size = ap length is ∙ simp (length-append, length-drop) (omega (arith, row .each, ok .room .slots));
+          rest = ap (drop n) is ∙ drop-at plan (drop n (m .slots)) n (row .each);
+          costs = clear ∙ ap (λ (l : List ℕ). replicate (n + 1) 0 ++ l) (f .costs-rest);
+          choices = clear′ ∙ ap (λ (l : List ℕ). replicate (n + 1) 0 ++ l) (f .choices-rest);
         }
-
-    later : (first memory ≡ none) × (first capacities ≡ none)
-    later = first-split memory capacities (first-split (tableTests d) (memory ++ capacities) accepted .1)
-
-    pub accepted-enough : Enough (length (m .costs)) (periods d + 1) (length (m .choices)) (periods d + 1) (length (m .slots)) (periods d)
-    accepted-enough = memory-passed _ _ _ _ _ _ [] (later .0)
-
-    free : Uncapped (modelOf d) (periods d)
-    free = binding-passed d (sym (first-one (binding d)) ∙ first-split (shortage d ∷ []) (binding d ∷ []) (later .1) .1)
-
-    abbrev M : Model
-    M = modelOf d
-
-    abbrev plan : List ℕ
-    plan = wagnerWhitin M (periods d) .plan
-
-    row : Row M (periods d) (wagnerWhitin M (periods d))
-    row = wagnerWhitin-right M (model-rising d) (model-unlimited d) (periods d) free (periods d) (omega arith)
-
-    -- areas filled and cleared, and slots that hold the last row's plan, are as an accepted call leaves them
-    pub work-accepted : (t : Totals) (costs choices costs′ choices′ slots′ : List ℕ)
-        → Filled d (periods d) (set (m .costs) 0 0) (m .choices) costs choices
-        → slots′ ≡ plan ++ drop (periods d) (m .slots)
-        → t .cost ≡ at costs (periods d)
-        → t .setups ≡ setups (periods d) (at slots′)
-        → Cleared (periods d + 1) costs costs′
-        → Cleared (periods d + 1) choices choices′
-        → Accepted d (periods d + 1) (periods d + 1) t m (record { costs = costs′; choices = choices′; slots = slots′ })
-    work-accepted t costs choices costs′ choices′ slots′ f is c s clear clear′ =
-        record {
-          plan = optimal-iff d (at slots′) .1 (optimal-ext M (periods d) (total d) (at plan) (at slots′) same (leads-optimal M (periods d) (total d) (wagnerWhitin M (periods d)) row));
-          counts = record { cost = c ∙ sym (f .cost (periods d) (omega arith)) ∙ row .tells ∙ cost-ext M (at plan) (at slots′) (periods d) same; setups = s };
-          size = ap length is ∙ simp (length-append, length-drop) (omega (arith, row .each, accepted-enough .slot));
-          rest = ap (drop (periods d)) is ∙ drop-at plan (drop (periods d) (m .slots)) (periods d) (row .each);
-          costs = clear ∙ ap (λ (l : List ℕ). replicate (periods d + 1) 0 ++ l) (f .costs-rest ∙ drop-set-lt (periods d + 1) (m .costs) 0 0 (omega arith));
-          choices = clear′ ∙ ap (λ (l : List ℕ). replicate (periods d + 1) 0 ++ l) (f .choices-rest);
-        }
-      where
-        same : (k : ℕ) → k < periods d → at plan k ≡ at slots′ k
-        same k h = sym (rw is (List·getD-append plan (drop (periods d) (m .slots)) 0 k (omega (arith, row .each))))

@@ -1,54 +1,73 @@
--- Laws of the loop over the rows: no row but the first is there at the start, and each choice adds one.
+-- Laws of the loop over the rows: no row but the first is there at the start, and each last lot adds one.
 -- Assumes nothing.
 use mathlib.Core.Path.{_≡_, refl, sym, ap, _∙_}
-use mathlib.Core.List.{List, _++_}
+use mathlib.Core.List.{List, [], _++_}
 use Prim.Native.Nat.{ℕ, suc, _+_, _*_, _≤_, _<_}
 use native.Mathlib.Omega.{arith}
-use lib.ListN.{length, set, length-set}
+use lib.ListN.{length, set, drop, length-set}
 use lib.Seq.{getD-set-same, getD-set-other, drop-set-lt}
 use Rattle.day.specs.Sums.{at, below}
-use Rattle.day.specs.Day.{Day, periods}
-use Rattle.theory.specs.Base.{modelOf, model-rising}
 use Rattle.theory.specs.Basics.{upTo, upTo-zero}
 use Rattle.theory.specs.Model.{Model}
+use Rattle.theory.specs.Problem.{Problem, modelOf, model-rising, periods}
 use Rattle.theory.specs.Stages.{Solution}
 use Rattle.theory.specs.WagnerWhitin.{wagnerWhitin, wagnerWhitin-zero, lot, chosen-cost, chosen-plan}
-use Rattle.uncapped.specs.declared.rows.Choice.{Choice}
-use Rattle.uncapped.specs.Bounds.{maxMaking}
-use Rattle.uncapped.specs.Rows.{ChoiceOf, Filled}
+use Rattle.uncapped.specs.declared.rows.LastLot.{LastLot}
+use Rattle.uncapped.specs.Bounds.{LowCosts, maxMaking}
+use Rattle.uncapped.specs.Slots.{Begins, LastLots}
+use Rattle.uncapped.specs.Rows.{LastLotOf, RowsWritten}
 
-module _ (d : Day) (costs₀ choices₀ : List ℕ) where
+-- the areas hold the rows up to m; their cells past n are as they were
+pub record LotRowsTo (p : Problem) (m : ℕ) (costs₀ choices₀ costs choices : List ℕ) : Type 0 where
+  pub cost : (l : ℕ) → l ≤ m → wagnerWhitin (modelOf p) l .cost ≡ at costs l
+  pub low : LowCosts (at costs) m
+  pub begins : Begins (at choices) m
+  pub lots : LastLots (p .demand) (λ m. wagnerWhitin (modelOf p) m .plan) (at choices) m
+  pub costs-size : length costs ≡ length costs₀
+  pub choices-size : length choices ≡ length choices₀
+  pub costs-rest : drop (periods p + 1) costs ≡ drop (periods p + 1) costs₀
+  pub choices-rest : drop (periods p + 1) choices ≡ drop (periods p + 1) choices₀
+
+module _ (p : Problem) (costs₀ choices₀ : List ℕ) where
   abbrev M : Model
-  M = modelOf d
+  M = modelOf p
 
-  pub filled-none : at costs₀ 0 ≡ 0 → Filled d 0 costs₀ choices₀ costs₀ choices₀
-  filled-none zeroth =
+  zeroth : wagnerWhitin M 0 ≡ record { cost = 0; plan = [] }
+  zeroth = wagnerWhitin-zero M
+
+  pub rows-none : at costs₀ 0 ≡ 0 → LotRowsTo p 0 costs₀ choices₀ costs₀ choices₀
+  rows-none none =
       record {
-        cost = upTo-zero (λ (l : ℕ). wagnerWhitin M l .cost ≡ at costs₀ l) (ap (λ (f : Solution). f .cost) (wagnerWhitin-zero M) ∙ sym zeroth);
+        cost = upTo-zero (λ (l : ℕ). wagnerWhitin M l .cost ≡ at costs₀ l) (ap (λ (f : Solution). f .cost) zeroth ∙ sym none);
         low = upTo-zero (λ (l : ℕ). at costs₀ l ≤ l * maxMaking) (omega arith);
-        lots = record { before = λ k h. absurd (omega arith); plan = λ k h. absurd (omega arith) };
+        begins = λ k h. absurd (omega arith);
+        lots = record { none = ap (λ (f : Solution). f .plan) zeroth; more = λ k h. absurd (omega arith) };
         costs-size = refl;
         choices-size = refl;
         costs-rest = refl;
         choices-rest = refl;
       }
 
-  pub filled-more : periods d < length costs₀ → periods d < length choices₀ → (m k : ℕ) (costs choices : List ℕ) (r : Choice) → k ≡ suc m → m < periods d
-      → Filled d m costs₀ choices₀ costs choices → ChoiceOf M (at costs) m r → Filled d k costs₀ choices₀ (set costs k (r .cost)) (set choices k (r .from))
-  filled-more room room′ m k costs choices r e inside f c = rw e (
+  pub rows-more : periods p < length costs₀ → periods p < length choices₀
+      → (m k : ℕ) (costs choices : List ℕ) (r : LastLot) → k ≡ suc m → m < periods p
+      → LotRowsTo p m costs₀ choices₀ costs choices → LastLotOf p (at costs) m r
+      → LotRowsTo p k costs₀ choices₀ (set costs k (r .cost)) (set choices k (r .from))
+  rows-more room room′ m k costs choices r e inside f c = rw e (
       record {
         cost = upTo (λ (l : ℕ). wagnerWhitin M l .cost ≡ at costs′ l) m (λ l h. f .cost l h ∙ sym (old l h))
-            (chosen-cost M (model-rising d) (at costs) m (r .cost) (r .from) (c .chosen) (f .cost) ∙ sym here);
-        low = upTo (λ (l : ℕ). at costs′ l ≤ l * maxMaking) m (λ l h. omega (arith, f .low l h, old l h)) (omega (arith, here, c .low, f .low m (omega arith)));
+            (chosen-cost M (model-rising p) (at costs) m (r .cost) (r .from) (c .chosen) (f .cost) ∙ sym here);
+        low = upTo (λ (l : ℕ). at costs′ l ≤ l * maxMaking) m (λ l h. omega (arith, f .low l h, old l h))
+            (omega (arith, here, c .low, f .low m (omega arith)));
+        begins = below (λ (k : ℕ). at choices′ (suc k) ≤ k) m (λ k h. omega (arith, f .begins k h, old′ k h)) (omega (arith, here′, c .inside));
         lots = record {
-          before = below (λ (k : ℕ). at choices′ (suc k) ≤ k) m (λ k h. omega (arith, f .lots .before k h, old′ k h)) (omega (arith, here′, c .inside));
-          plan = below Plan m (λ k h. rw (old′ k h) (f .lots .plan k h))
-              (rw here′ (chosen-plan M (model-rising d) (at costs) m (r .cost) (r .from) (c .chosen) (f .cost)));
+          none = f .lots .none;
+          more = below More m (λ k h. rw (old′ k h) (f .lots .more k h))
+              (rw here′ (chosen-plan M (model-rising p) (at costs) m (r .cost) (r .from) (c .chosen) (f .cost)));
         };
         costs-size = length-set costs (suc m) (r .cost) ∙ f .costs-size;
         choices-size = length-set choices (suc m) (r .from) ∙ f .choices-size;
-        costs-rest = drop-set-lt (periods d + 1) costs (suc m) (r .cost) (omega arith) ∙ f .costs-rest;
-        choices-rest = drop-set-lt (periods d + 1) choices (suc m) (r .from) (omega arith) ∙ f .choices-rest;
+        costs-rest = drop-set-lt (periods p + 1) costs (suc m) (r .cost) (omega arith) ∙ f .costs-rest;
+        choices-rest = drop-set-lt (periods p + 1) choices (suc m) (r .from) (omega arith) ∙ f .choices-rest;
       })
     where
       costs′ : List ℕ
@@ -57,8 +76,8 @@ module _ (d : Day) (costs₀ choices₀ : List ℕ) where
       choices′ : List ℕ
       choices′ = set choices (suc m) (r .from)
 
-      Plan : ℕ → Type 0
-      Plan k = wagnerWhitin M (suc k) .plan ≡ wagnerWhitin M (at choices′ (suc k)) .plan ++ lot M k (at choices′ (suc k))
+      More : ℕ → Type 0
+      More k = wagnerWhitin M (suc k) .plan ≡ wagnerWhitin M (at choices′ (suc k)) .plan ++ lot M k (at choices′ (suc k))
 
       here : at costs′ (suc m) ≡ r .cost
       here = getD-set-same costs (suc m) (r .cost) 0 (omega (arith, f .costs-size))
@@ -71,3 +90,14 @@ module _ (d : Day) (costs₀ choices₀ : List ℕ) where
 
       old′ : (k : ℕ) → k < m → at choices′ (suc k) ≡ at choices (suc k)
       old′ k h = getD-set-other choices (suc m) (suc k) (r .from) 0 (λ q. omega arith)
+
+-- the loop starts with the first cost set to 0, which is not past n
+pub rows-written : (p : Problem) (costs₀ choices₀ costs choices : List ℕ)
+    → LotRowsTo p (periods p) (set costs₀ 0 0) choices₀ costs choices → RowsWritten p costs₀ choices₀ costs choices
+rows-written p costs₀ choices₀ costs choices f =
+    record {
+      begins = f .begins;
+      lots = f .lots;
+      costs-rest = f .costs-rest ∙ drop-set-lt (periods p + 1) costs₀ 0 0 (omega arith);
+      choices-rest = f .choices-rest;
+    }

@@ -1,3 +1,4 @@
--- What the work behind the call assumes and leaves; the call's own contract is in the crate day.
+-- What the loops behind the call assume and leave; the call's own contract is in the crate day.
 pub mod Bounds
+pub mod Slots
 pub mod Rows

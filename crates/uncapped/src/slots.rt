@@ -1,20 +1,10 @@
 // The plan, read back from the choices into the answer slots, lot by lot from the end.
-ghost use mathlib.Core.Path.{_≡_};
-ghost use mathlib.Core.List.{[], _++_};
-ghost use Prim.Native.Nat.{suc, _≤_, _<_};
-ghost use lib.ListN.{length, drop};
-ghost use Rattle.day.specs.Sums.{at};
-ghost use Rattle.day.specs.Day.{dayOf, total, maxTotal};
-ghost use Rattle.theory.specs.Base.{modelOf};
-ghost use Rattle.theory.specs.WagnerWhitin.{lot, wagnerWhitin};
-ghost use Rattle.uncapped.specs.Bounds.{Fitting};
-ghost use Rattle.uncapped.specs.Rows.{Lots};
+ghost use Rattle.uncapped.specs.Slots.{LotReady, LotPut, ReadBackReady, ReadBack};
 
 // One lot: all that is demanded from index `from` to `last` is made at `from`, and nothing after it.
 fn put_lot(demand: &[u16], slots: &mut [u16], from: usize, last: usize)
-    requires { ⌜ (from ≤ last) × ((last < length (now demand)) × (last < length (now slots))) ⌝ }
-    requires { ⌜ total (dayOf (now demand) [] [] [] []) ≤ maxTotal ⌝ }
-    ensures { λ _. ⌜ drop from (now (slots .exit)) ≡ lot (modelOf (dayOf (now (demand .entry)) [] [] [] [])) last from ++ drop (suc last) (now (slots .entry)) ⌝ }
+    requires { ⌜ LotReady (now demand) (now slots) from last ⌝ }
+    ensures { λ _. ⌜ LotPut (now (demand .entry)) from last (now (slots .entry)) (now (slots .exit)) ⌝ }
 {
     let mut made: u16 = 0;
     let mut k = last + 1;
@@ -26,20 +16,10 @@ fn put_lot(demand: &[u16], slots: &mut [u16], from: usize, last: usize)
     slots[from] = made;
 }
 
-// The plan of the whole day, from the choices of its rows.
-pub fn read_back(
-    demand: &[u16],
-    capacity: &[u16],
-    setup: &[u32],
-    unit: &[u32],
-    holding: &[u32],
-    choices: &[u16],
-    slots: &mut [u16],
-)
-    requires { ⌜ Fitting (dayOf (now demand) (now capacity) (now setup) (now unit) (now holding)) ⌝ }
-    requires { ⌜ (length (now demand) < length (now choices)) × (length (now demand) ≤ length (now slots)) ⌝ }
-    requires { ⌜ Lots (modelOf (dayOf (now demand) (now capacity) (now setup) (now unit) (now holding))) (at (now choices)) (length (now demand)) ⌝ }
-    ensures { λ _. ⌜ now (slots .exit) ≡ wagnerWhitin (modelOf (dayOf (now (demand .entry)) (now (capacity .entry)) (now (setup .entry)) (now (unit .entry)) (now (holding .entry)))) (length (now (demand .entry))) .plan ++ drop (length (now (demand .entry))) (now (slots .entry)) ⌝ }
+// The plan of all periods, from the choices of its rows.
+pub fn read_back(demand: &[u16], choices: &[u16], slots: &mut [u16])
+    requires { ⌜ ReadBackReady (now demand) (now choices) (now slots) ⌝ }
+    ensures { λ _. ⌜ ReadBack (now (demand .entry)) (now (choices .entry)) (now (slots .entry)) (now (slots .exit)) ⌝ }
 {
     let mut m = demand.len();
     while 0 < m {

@@ -1,3 +1,3 @@
 -- Laws that several functions' proofs cite.
 pub mod Bounds
-pub mod Walked
+pub mod Walking

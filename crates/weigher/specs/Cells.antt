@@ -12,7 +12,7 @@ use Rattle.day.specs.Sums.{at, sumTo, sum-ext}
 use Rattle.day.specs.Day.{Day, periods}
 use Rattle.day.specs.Plan.{setupAt}
 use Rattle.day.specs.Search.{feasible-alike, cost-alike}
-use Rattle.day.specs.Refusals.{refuse, first, badTables, badTotal}
+use Rattle.day.specs.Refusals.{refuse, first, dayTests}
 use Rattle.weigher.specs.declared.Rule.{Rule}
 use Rattle.weigher.specs.declared.Rule.the-variants.{AboveCapacity, Short, Over}
 use Rattle.weigher.specs.declared.Verdict.{Verdict}
@@ -55,7 +55,7 @@ module _ (d : Day) (x y : ℕ → ℕ) (same : (k : ℕ) → k < periods d → x
 
 -- a plan's cells past the last period are not read
 pub cells-past-unread : (d : Day) (plan more : List ℕ) → periods d ≤ length plan → weighedOf d (plan ++ more) ≡ weighedOf d plan
-cells-past-unread d plan more h = λ i. orRefused (first (badTables d (badTotal d ∷ refuse (enough i) FewSlots ∷ []))) (judged i)
+cells-past-unread d plan more h = λ i. orRefused (first (dayTests d ++ (refuse (enough i) FewSlots ∷ []))) (judged i)
   where
     enough : ltb (length (plan ++ more)) (periods d) ≡ ltb (length plan) (periods d)
     enough = le-ltb (length (plan ++ more)) (periods d) (rw length-append (omega arith)) ∙ sym (le-ltb _ _ h)

@@ -53,10 +53,13 @@ data Tested (d : Day) (x : ℕ → ℕ) (k : ℕ) : Type 0 where
 tested : (d : Day) (x : ℕ → ℕ) (k : ℕ) → Tested d x k
 tested d x k = go (aboveAt d x k) (shortAt d x k) (eqb (suc k) (periods d)) (ltb (demandTo d (suc k)) (sumTo x (suc k))) refl refl refl refl
   where
-    go : (a b c e : Bool) → aboveAt d x k ≡ a → shortAt d x k ≡ b → eqb (suc k) (periods d) ≡ c → ltb (demandTo d (suc k)) (sumTo x (suc k)) ≡ e → Tested d x k
+    go : (a b c e : Bool)
+        → aboveAt d x k ≡ a → shortAt d x k ≡ b → eqb (suc k) (periods d) ≡ c → ltb (demandTo d (suc k)) (sumTo x (suc k)) ≡ e
+        → Tested d x k
     go true b c e p q r s = broken AboveCapacity (ltb-true _ _ p) (rw p refl) (rw p refl)
     go false true c e p q r s = broken Short (ltb-false _ _ p, ltb-true _ _ q) (rw (p, q) refl) (rw (p, q) refl)
-    go false false true true p q r s = broken Over (ltb-false _ _ p, (eqb-true _ _ r, ltb-true _ _ s)) (rw (p, q, r, s) refl) (rw (p, q) refl)
+    go false false true true p q r s =
+        broken Over (ltb-false _ _ p, (eqb-true _ _ r, ltb-true _ _ s)) (rw (p, q, r, s) refl) (rw (p, q) refl)
     go false false true false p q r s =
         keeps (record { within = ltb-false _ _ p; served = ltb-false _ _ q; emptied = λ _. ltb-false _ _ s }) (rw (p, q, r, s) refl)
     go false false false e p q r s =
@@ -98,7 +101,12 @@ module _ (d : Day) (x : ℕ → ℕ) where
       go (suc k) e = let s = h k (omega arith) in omega (arith, s .served, s .emptied (sym e))
 
   feasible-keeps : Feasible d x → (k : ℕ) → k < periods d → Keeps d x k
-  feasible-keeps f k l = record { within = f .within k l; served = f .served k l; emptied = λ e. omega (arith, ap (sumTo x) e, ap (demandTo d) e, f .emptied) }
+  feasible-keeps f k l =
+      record {
+        within = f .within k l;
+        served = f .served k l;
+        emptied = λ e. omega (arith, ap (sumTo x) e, ap (demandTo d) e, f .emptied);
+      }
 
   none-broken : (n : ℕ) → ((k : ℕ) → k < n → Keeps d x k) → find (breaks d x) n ≡ none
   none-broken n h = nothing-found (breaks d x) n (λ k l. keeps-passed k (h k l))

@@ -1,5 +1,5 @@
 -- What the walk over a day's periods carries from one to the next, and what one period does to it.
--- Main statement: `step-is`: where a period breaks no rule, the sums are then those through it. Assumes nothing.
+-- Main statement: `ruling-is`: where a period breaks no rule, the sums are then those through it. Assumes nothing.
 use mathlib.Core.Path.{_≡_, refl}
 use mathlib.Core.Bool.{Bool, true, false, _&&_, _||_}
 use mathlib.Core.List.{List}
@@ -9,15 +9,16 @@ use lib.Dec.{eqb, ltb}
 use lib.ListN.{length}
 use Rattle.day.specs.Sums.{at, sumTo}
 use Rattle.day.specs.Day.{Day, periods, demandTo, maxPeriods}
-use Rattle.day.specs.Plan.{making, costTo, setupAt, setups}
+use Rattle.day.specs.Plan.{making, costTo, Feasible, setupAt, setups}
 use Rattle.checks.specs.Passed.{SameLengths}
 use Rattle.weigher.specs.declared.Rule.{Rule}
-use Rattle.weigher.specs.declared.Verdict.{Verdict}
 use Rattle.weigher.specs.declared.Verdict.the-variants.{Holds, Broken}
-use Rattle.weigher.specs.declared.Period.{Period}
+use Rattle.weigher.specs.declared.Weighed.{Weighed}
+use Rattle.weigher.specs.declared.Weighed.the-variants.{Refused, Judged}
+use Rattle.weigher.specs.declared.Entries.{Entries}
 use Rattle.weigher.specs.declared.Sums.{Sums}
-use Rattle.weigher.specs.declared.Step.{Step}
-use Rattle.weigher.specs.declared.Step.the-variants.{Kept, Broke}
+use Rattle.weigher.specs.declared.Ruling.{Ruling}
+use Rattle.weigher.specs.declared.Ruling.the-variants.{Kept, Broke}
 use Rattle.weigher.specs.Verdict.{breaks, ruleOf, ruleAt}
 
 -- the sums through the first i periods: sum (1), setups, X_i and R_i
@@ -25,16 +26,16 @@ abbrev pub sumsTo : Day → (ℕ → ℕ) → ℕ → Sums
 sumsTo d x i = record { cost = costTo d x i; setups = setups i x; made = sumTo x i; demanded = demandTo d i }
 
 -- a broken rule, or the sums
-abbrev pub stepOn : Bool → Rule → Sums → Step
-stepOn true r s = Broke r
-stepOn false r s = Kept s
+abbrev pub rulingOn : Bool → Rule → Sums → Ruling
+rulingOn true r s = Broke r
+rulingOn false r s = Kept s
 
 -- what period k + 1 does: the rule that it breaks, or the sums through it
-abbrev pub stepAt : Day → (ℕ → ℕ) → ℕ → Step
-stepAt d x k = stepOn (breaks d x k) (ruleAt d x k) (sumsTo d x (suc k))
+abbrev pub rulingAt : Day → (ℕ → ℕ) → ℕ → Ruling
+rulingAt d x k = rulingOn (breaks d x k) (ruleAt d x k) (sumsTo d x (suc k))
 
 -- the same from one period's entries and the sums before it, in the report's order: what making costs, then the holding cost
-abbrev pub nextOf : Period → ℕ → Sums → Sums
+abbrev pub nextOf : Entries → ℕ → Sums → Sums
 nextOf p x s = record {
   cost = s .cost + making (p .setup) (p .unit) x + p .holding * (s .made + x - (s .demanded + p .demand));
   setups = s .setups + setupAt x;
@@ -42,17 +43,17 @@ nextOf p x s = record {
   demanded = s .demanded + p .demand;
 }
 
-abbrev pub stepOf : Period → ℕ → (last : Bool) → Sums → Step
-stepOf p x last s =
+abbrev pub rulingOf : Entries → ℕ → (last : Bool) → Sums → Ruling
+rulingOf p x last s =
     let t = nextOf p x s in
     let above = ltb (p .capacity) x in
     let short = ltb (t .made) (t .demanded) in
     let over = last && ltb (t .demanded) (t .made) in
-    stepOn (above || short || over) (ruleOf above short) t
+    rulingOn (above || short || over) (ruleOf above short) t
 
 -- the entries of period k + 1
-abbrev pub periodAt : Day → ℕ → Period
-periodAt d k = record {
+abbrev pub entriesAt : Day → ℕ → Entries
+entriesAt d k = record {
   demand = at (d .demand) k;
   capacity = at (d .capacity) k;
   setup = at (d .setup) k;
@@ -61,34 +62,35 @@ periodAt d k = record {
 }
 
 -- from the sums before a period, its entries give what the report says of it
-pub step-is : (d : Day) (x : ℕ → ℕ) (k : ℕ) → stepOf (periodAt d k) (x k) (eqb (suc k) (periods d)) (sumsTo d x k) ≡ stepAt d x k
-step-is d x k = rw add-assoc refl
-
--- a term of the sums: its value, and a bound by which sums of such terms fit
-pub record Term (value top r : ℕ) : Type 0 where
-  pub is : r ≡ value
-  pub low : r < top
+pub ruling-is : (d : Day) (x : ℕ → ℕ) (k : ℕ) → rulingOf (entriesAt d k) (x k) (eqb (suc k) (periods d)) (sumsTo d x k) ≡ rulingAt d x k
+ruling-is d x k = rw add-assoc refl
 
 -- sums that leave room for one period more
-pub record Low (s : Sums) : Type 0 where
+pub record Room (s : Sums) : Type 0 where
   pub cost : s .cost < 2 ^ 63
   pub setups : s .setups < 2 ^ 7
   pub made : s .made < 2 ^ 23
   pub demanded : s .demanded < 2 ^ 23
 
 -- tables of one length, at most 96, and a plan that has an amount for each period
-pub record Ready (d : Day) (plan : List ℕ) : Type 0 where
+pub record Weighable (d : Day) (plan : List ℕ) : Type 0 where
   pub few : periods d ≤ maxPeriods
   pub lengths : SameLengths d
   pub amounts : periods d ≤ length plan
 
+-- and the plan keeps every rule
+pub record FeasiblePlan (d : Day) (plan : List ℕ) : Type 0 where
+  pub weighable : Weighable d plan
+  pub feasible : Feasible d (at plan)
+
 -- period i + 1 is to be judged, and s holds the sums through those before it
-pub record Reached (d : Day) (plan : List ℕ) (i : ℕ) (s : Sums) : Type 0 where
-  pub ready : Ready d plan
+pub record NextPeriod (d : Day) (plan : List ℕ) (i : ℕ) (s : Sums) : Type 0 where
+  pub weighable : Weighable d plan
   pub inside : i < periods d
   pub sums : s ≡ sumsTo d (at plan) i
 
--- a verdict whose cost fits a signed 64-bit number
-abbrev pub Small : Verdict → Type 0
-Small (Holds t) = t .cost < 2 ^ 63
-Small (Broken r i) = Unit {0}
+-- the cost that an answer holds, where it holds one, fits a signed 64-bit number
+abbrev pub Signed : Weighed → Type 0
+Signed (Refused r) = Unit {0}
+Signed (Judged (Broken r i)) = Unit {0}
+Signed (Judged (Holds t)) = t .cost < 2 ^ 63

@@ -1,14 +1,14 @@
 //! Weighs a given plan of a day: whether it keeps the report's conditions, what it costs, how two plans compare.
 //! (Document 01, "The weigher".) What the answers mean is in specs/.
 ghost use mathlib.Core.Path.{_≡_};
-ghost use Prim.Native.Nat.{_-_, _*_, _^_, _≤_, _<_};
+ghost use Prim.Native.Nat.{_^_, _<_};
 ghost use lib.IntN.{pos, _-ℤ_};
 ghost use Rattle.day.specs.Sums.{at};
 ghost use Rattle.day.specs.Day.{dayOf};
-ghost use Rattle.day.specs.Plan.{making, setupAt};
-ghost use Rattle.weigher.specs.Verdict.{verdictOf};
-ghost use Rattle.weigher.specs.Answers.{weighedOf, betweenOf, comparedOf, ruleNumber, reportOf, comparisonOf};
-ghost use Rattle.weigher.specs.Walk.{stepOf, stepAt, Term, Low, Ready, Reached, Small};
+ghost use Rattle.day.specs.Lent.{dayBefore};
+ghost use Rattle.weigher.specs.Verdict.{totalsOf, verdictOf};
+ghost use Rattle.weigher.specs.Answers.{Weighs, Compares, compareOf, ruleNumber};
+ghost use Rattle.weigher.specs.Walk.{rulingOf, rulingAt, Room, Weighable, FeasiblePlan, NextPeriod, Signed};
 use day::Check;
 use day::Refusal;
 use day::Totals;
@@ -26,7 +26,7 @@ pub enum Rule {
 // What weighing says of a plan: it keeps every rule, or the first that it breaks, with the period.
 pub enum Verdict {
     Holds(Totals),
-    Broken(Rule, usize),
+    Broken(Rule, u16),
 }
 
 // What the weigher answers.
@@ -38,27 +38,12 @@ pub enum Weighed {
 // What the comparison of two plans answers.
 pub enum Compared {
     Refused(Refusal),
-    Broken(Rule, usize),
+    Broken(Rule, u16),
     Difference(i64),
 }
 
-// An answer of the weigher as numbers.
-pub struct Report {
-    pub number: u64,
-    pub period: usize,
-    pub cost: u64,
-    pub setups: u64,
-}
-
-// An answer of the comparison as numbers.
-pub struct Comparison {
-    pub number: u64,
-    pub period: usize,
-    pub difference: i64,
-}
-
 impl Rule {
-    pub fn number(self) -> u64
+    pub fn number(self) -> u8
         ensures { λ r. ⌜ r ≡ ruleNumber self ⌝ }
     {
         match self {
@@ -69,61 +54,8 @@ impl Rule {
     }
 }
 
-impl Weighed {
-    pub fn report(self) -> Report
-        ensures { λ r. ⌜ r ≡ reportOf self ⌝ }
-    {
-        match self {
-            Weighed::Refused(refusal) => Report {
-                number: refusal.number(),
-                period: refusal.period(),
-                cost: 0,
-                setups: 0,
-            },
-            Weighed::Judged(verdict) => match verdict {
-                Verdict::Broken(rule, period) => Report {
-                    number: rule.number(),
-                    period,
-                    cost: 0,
-                    setups: 0,
-                },
-                Verdict::Holds(totals) => Report {
-                    number: 0,
-                    period: 0,
-                    cost: totals.cost,
-                    setups: totals.setups,
-                },
-            },
-        }
-    }
-}
-
-impl Compared {
-    pub fn report(self) -> Comparison
-        ensures { λ r. ⌜ r ≡ comparisonOf self ⌝ }
-    {
-        match self {
-            Compared::Refused(refusal) => Comparison {
-                number: refusal.number(),
-                period: refusal.period(),
-                difference: 0,
-            },
-            Compared::Broken(rule, period) => Comparison {
-                number: rule.number(),
-                period,
-                difference: 0,
-            },
-            Compared::Difference(difference) => Comparison {
-                number: 0,
-                period: 0,
-                difference,
-            },
-        }
-    }
-}
-
 // One period's entries.
-struct Period {
+struct Entries {
     demand: u16,
     capacity: u16,
     setup: u32,
@@ -140,56 +72,31 @@ struct Sums {
 }
 
 // What one period does: the sums through it, or the rule that it breaks.
-enum Step {
+enum Ruling {
     Kept(Sums),
     Broke(Rule),
 }
 
-// 1 where something is made.
-fn setup_of(amount: u16) -> u64
-    ensures { λ r. ⌜ Term (setupAt amount) 2 r ⌝ }
-{
-    if 0 < amount { 1 } else { 0 }
-}
-
-// What making an amount costs (report: p_i).
-fn production(setup: u32, unit: u32, amount: u16) -> u64
-    ensures { λ r. ⌜ Term (making setup unit amount) (2 ^ 48) r ⌝ }
-{
-    if amount == 0 {
-        return 0;
-    }
-    (setup as u64) + (unit as u64) * (amount as u64)
-}
-
-// What keeping the inventory costs (report: h_i); document 01: upkeep.
-fn holding_cost(rate: u32, made: u64, demanded: u64) -> u64
-    requires { ⌜ (demanded ≤ made) × (made < 2 ^ 24) ⌝ }
-    ensures { λ r. ⌜ Term (rate * (made - demanded)) (2 ^ 56) r ⌝ }
-{
-    (rate as u64) * (made - demanded)
-}
-
 // One period's rules in their order, then what making costs, then the holding cost.
-fn judge(p: Period, amount: u16, last: bool, s: Sums) -> Step
-    requires { ⌜ Low s ⌝ }
-    ensures { λ r. ⌜ r ≡ stepOf p amount last s ⌝ }
+fn judge(p: Entries, amount: u16, last: bool, s: Sums) -> Ruling
+    requires { ⌜ Room s ⌝ }
+    ensures { λ r. ⌜ r ≡ rulingOf p amount last s ⌝ }
 {
     let made = s.made + (amount as u64);
     let demanded = s.demanded + (p.demand as u64);
     if p.capacity < amount {
-        return Step::Broke(Rule::AboveCapacity);
+        return Ruling::Broke(Rule::AboveCapacity);
     }
     if made < demanded {
-        return Step::Broke(Rule::Short);
+        return Ruling::Broke(Rule::Short);
     }
     if last && demanded < made {
-        return Step::Broke(Rule::Over);
+        return Ruling::Broke(Rule::Over);
     }
-    let making = s.cost + production(p.setup, p.unit, amount);
-    let cost = making + holding_cost(p.holding, made, demanded);
-    let setups = s.setups + setup_of(amount);
-    Step::Kept(Sums {
+    let making = s.cost + terms::making_cost(p.setup, p.unit, amount as u64);
+    let cost = making + terms::holding_cost(p.holding, made - demanded);
+    let setups = s.setups + terms::setup_of(amount);
+    Ruling::Kept(Sums {
         cost,
         setups,
         made,
@@ -207,11 +114,11 @@ fn advance(
     plan: &[u16],
     i: usize,
     s: Sums,
-) -> Step
-    requires { ⌜ Reached (dayOf (now demand) (now capacity) (now setup) (now unit) (now holding)) (now plan) i s ⌝ }
-    ensures { λ r. ⌜ r ≡ stepAt (dayOf (now (demand .entry)) (now (capacity .entry)) (now (setup .entry)) (now (unit .entry)) (now (holding .entry))) (at (now (plan .entry))) i ⌝ }
+) -> Ruling
+    requires { ⌜ NextPeriod (dayOf (now demand) (now capacity) (now setup) (now unit) (now holding)) (now plan) i s ⌝ }
+    ensures { λ r. ⌜ r ≡ rulingAt (dayBefore demand capacity setup unit holding) (at (now (plan .entry))) i ⌝ }
 {
-    let p = Period {
+    let p = Entries {
         demand: demand[i],
         capacity: capacity[i],
         setup: setup[i],
@@ -230,8 +137,8 @@ fn walk(
     holding: &[u32],
     plan: &[u16],
 ) -> Verdict
-    requires { ⌜ Ready (dayOf (now demand) (now capacity) (now setup) (now unit) (now holding)) (now plan) ⌝ }
-    ensures { λ r. ⌜ r ≡ verdictOf (dayOf (now (demand .entry)) (now (capacity .entry)) (now (setup .entry)) (now (unit .entry)) (now (holding .entry))) (at (now (plan .entry))) ⌝ }
+    requires { ⌜ Weighable (dayOf (now demand) (now capacity) (now setup) (now unit) (now holding)) (now plan) ⌝ }
+    ensures { λ r. ⌜ r ≡ verdictOf (dayBefore demand capacity setup unit holding) (at (now (plan .entry))) ⌝ }
 {
     let mut s = Sums {
         cost: 0,
@@ -242,10 +149,10 @@ fn walk(
     let mut i = 0;
     while i < demand.len() {
         match advance(demand, capacity, setup, unit, holding, plan, i, s) {
-            Step::Broke(rule) => {
-                return Verdict::Broken(rule, i + 1);
+            Ruling::Broke(rule) => {
+                return Verdict::Broken(rule, (i + 1) as u16);
             }
-            Step::Kept(t) => {
+            Ruling::Kept(t) => {
                 s = t;
             }
         }
@@ -257,6 +164,24 @@ fn walk(
     })
 }
 
+// The totals of a plan that keeps every rule.
+pub fn totals(
+    demand: &[u16],
+    capacity: &[u16],
+    setup: &[u32],
+    unit: &[u32],
+    holding: &[u32],
+    plan: &[u16],
+) -> Totals
+    requires { ⌜ FeasiblePlan (dayOf (now demand) (now capacity) (now setup) (now unit) (now holding)) (now plan) ⌝ }
+    ensures { λ r. ⌜ r ≡ totalsOf (dayBefore demand capacity setup unit holding) (at (now (plan .entry))) ⌝ }
+{
+    match walk(demand, capacity, setup, unit, holding, plan) {
+        Verdict::Holds(t) => t,
+        Verdict::Broken(_, _) => Totals { cost: 0, setups: 0 },
+    }
+}
+
 // Weighs a plan. Cells of it past the last period are not read.
 pub fn weigh(
     demand: &[u16],
@@ -266,7 +191,7 @@ pub fn weigh(
     holding: &[u32],
     plan: &[u16],
 ) -> Weighed
-    ensures { λ r. ⌜ r ≡ weighedOf (dayOf (now (demand .entry)) (now (capacity .entry)) (now (setup .entry)) (now (unit .entry)) (now (holding .entry))) (now (plan .entry)) ⌝ }
+    ensures { λ r. ⌜ Weighs (dayBefore demand capacity setup unit holding) (now (plan .entry)) r ⌝ }
 {
     if let Check::Refused(r) = checks::day(demand, capacity, setup, unit, holding) {
         return Weighed::Refused(r);
@@ -285,16 +210,22 @@ fn difference(a: u64, b: u64) -> i64
     (a as i64) - (b as i64)
 }
 
-// How two verdicts compare.
-fn between(v: Verdict, w: Verdict) -> Compared
-    requires { ⌜ Small v × Small w ⌝ }
-    ensures { λ r. ⌜ r ≡ betweenOf v w ⌝ }
+// How two answers of the weigher compare.
+fn comparison(a: Weighed, b: Weighed) -> Compared
+    requires { ⌜ Signed a × Signed b ⌝ }
+    ensures { λ r. ⌜ r ≡ compareOf a b ⌝ }
 {
-    match v {
-        Verdict::Broken(rule, period) => Compared::Broken(rule, period),
-        Verdict::Holds(t) => match w {
-            Verdict::Broken(rule, period) => Compared::Broken(rule, period),
-            Verdict::Holds(u) => Compared::Difference(difference(t.cost, u.cost)),
+    match a {
+        Weighed::Refused(r) => Compared::Refused(r),
+        Weighed::Judged(v) => match b {
+            Weighed::Refused(r) => Compared::Refused(r),
+            Weighed::Judged(w) => match v {
+                Verdict::Broken(rule, period) => Compared::Broken(rule, period),
+                Verdict::Holds(t) => match w {
+                    Verdict::Broken(rule, period) => Compared::Broken(rule, period),
+                    Verdict::Holds(u) => Compared::Difference(difference(t.cost, u.cost)),
+                },
+            },
         },
     }
 }
@@ -309,13 +240,9 @@ pub fn compare(
     plan: &[u16],
     other: &[u16],
 ) -> Compared
-    ensures { λ r. ⌜ r ≡ comparedOf (dayOf (now (demand .entry)) (now (capacity .entry)) (now (setup .entry)) (now (unit .entry)) (now (holding .entry))) (now (plan .entry)) (now (other .entry)) ⌝ }
+    ensures { λ r. ⌜ Compares (dayBefore demand capacity setup unit holding) (now (plan .entry)) (now (other .entry)) r ⌝ }
 {
-    match weigh(demand, capacity, setup, unit, holding, plan) {
-        Weighed::Refused(r) => Compared::Refused(r),
-        Weighed::Judged(v) => match weigh(demand, capacity, setup, unit, holding, other) {
-            Weighed::Refused(r) => Compared::Refused(r),
-            Weighed::Judged(w) => between(v, w),
-        },
-    }
+    let first = weigh(demand, capacity, setup, unit, holding, plan);
+    let second = weigh(demand, capacity, setup, unit, holding, other);
+    comparison(first, second)
 }

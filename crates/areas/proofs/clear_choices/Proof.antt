@@ -1,4 +1,4 @@
--- `areas::clear_choices` meets its contract. The invariant: the first k cells are cleared. Assumes nothing.
+-- `areas::clear_choices` meets its contract by the laws of `Clearing`. Assumes nothing.
 use Prim.Native.Nat.{_-_}
 use native.Mathlib.Omega.{arith}
 use Rattle.areas.proofs.Clearing.{Clearing, clearing-none, clearing-more, clearing-all}
@@ -11,31 +11,10 @@ Inv-loop choices₀ cells k₀ choices k = Clearing choices₀ cells k choices
 abbrev μ-loop : tie.MeasureT-loop
 μ-loop choices₀ cells k₀ choices k = cells - k
 
-loop-holds : tie.Need-loop-holds Inv-loop μ-loop
-loop-holds c = clearing-none _ _
-
-mul-choices : tie.Need-mul-choices Inv-loop μ-loop
-mul-choices c = omega (arith, c .before .before .good)
-
-slice-write-choices : tie.Need-slice-write-choices Inv-loop μ-loop
-slice-write-choices c = omega arith
-
-add-k : tie.Need-add-k Inv-loop μ-loop
-add-k c = omega arith
-
-loop-less : tie.Need-loop-less Inv-loop μ-loop
-loop-less c = omega arith
-
-loop-again : tie.Need-loop-again Inv-loop μ-loop
-loop-again c = clearing-more _ _ _ _ (c .before .before .pre) (c .before .loop .inv) (c .loop-test .taken)
-
-same-length : tie.Need-same-length Inv-loop μ-loop
-same-length c = c .before .loop .inv .size
-
-returns : tie.Need-returns Inv-loop μ-loop
-returns c = clearing-all _ _ _ _ (c .before .loop .inv) (c .loop-test .left)
-
 pub clear-choices-spec : {M : Type 1} → statement M
 clear-choices-spec =
     tie.close
-    (tie.spec Inv-loop μ-loop loop-holds mul-choices slice-write-choices add-k loop-less loop-again same-length returns)
+    (tie.spec
+    Inv-loop μ-loop (λ c. clearing-none) (λ c. omega (arith, c .before .before .good)) (λ c. omega arith) (λ c. omega arith)
+    (λ c. omega arith) (λ c. clearing-more (c .before .before .pre) (c .before .loop .inv) (c .loop-test .taken))
+    (λ c. c .before .loop .inv .size) (λ c. clearing-all (c .before .loop .inv) (c .loop-test .left)))

@@ -35,17 +35,8 @@ total-requires c κs = c .before .before .pre .1
 loop-holds : tie.Need-loop-holds Inv-loop μ-loop
 loop-holds c = (record { inside = omega arith; nothing = refl }, omega arith)
 
-mul-if1 : tie.Need-mul-if1 Inv-loop μ-loop
-mul-if1 c = omega arith
-
-shared-slice-read-if1 : tie.Need-shared-slice-read-if1 Inv-loop μ-loop
-shared-slice-read-if1 c = omega arith
-
 cast-if1 : tie.Need-cast-if1 Inv-loop μ-loop
 cast-if1 c = omega (arith, c .shared-slice-known3 .given (c .before .before .loop .i))
-
-add-t10 : tie.Need-add-t10 Inv-loop μ-loop
-add-t10 c = omega arith
 
 returns : tie.Need-returns Inv-loop μ-loop
 returns c =
@@ -55,12 +46,6 @@ returns c =
     let below = lt-ltb (at (d .capacity) i) (total d - demandTo d i) (omega arith) in
     refused-here (p .loop .inv .0) BindingCapacity below (omega arith)
 
-mul-remaining : tie.Need-mul-remaining Inv-loop μ-loop
-mul-remaining c = omega arith
-
-shared-slice-read-remaining : tie.Need-shared-slice-read-remaining Inv-loop μ-loop
-shared-slice-read-remaining c = omega arith
-
 cast-remaining : tie.Need-cast-remaining Inv-loop μ-loop
 cast-remaining c = omega (arith, c .shared-slice-known4 .given (c .before .before .before .before .loop .i))
 
@@ -68,12 +53,6 @@ sub-remaining : tie.Need-sub-remaining Inv-loop μ-loop
 sub-remaining c =
     let p = c .before .before .before .before in
     omega (arith, sum-grows (at (tables p .demand)) (suc (p .loop .i)) (periods (tables p)) (omega arith))
-
-add-i : tie.Need-add-i Inv-loop μ-loop
-add-i c = omega arith
-
-loop-less : tie.Need-loop-less Inv-loop μ-loop
-loop-less c = omega arith
 
 loop-again : tie.Need-loop-again Inv-loop μ-loop
 loop-again c =
@@ -90,20 +69,6 @@ pub binding-spec : {M : Type 1} → statement M
 binding-spec =
     tie.close
     (tie.spec
-    Inv-loop
-    μ-loop
-    total-requires
-    loop-holds
-    mul-if1
-    shared-slice-read-if1
-    cast-if1
-    add-t10
-    returns
-    mul-remaining
-    shared-slice-read-remaining
-    cast-remaining
-    sub-remaining
-    add-i
-    loop-less
-    loop-again
+    Inv-loop μ-loop total-requires loop-holds (λ c. omega arith) (λ c. omega arith) cast-if1 (λ c. omega arith) (λ c. omega arith)
+    returns (λ c. omega arith) (λ c. omega arith) cast-remaining sub-remaining (λ c. omega arith) (λ c. omega arith) loop-again
     returns-2)

@@ -1,14 +1,14 @@
 -- `checks::day` meets its contract: the first refusal of the tables, or that of the total after them. Assumes nothing.
-use mathlib.Core.Path.{_≡_, sym, ap, _∙_}
+use mathlib.Core.Path.{_≡_, refl}
 use mathlib.Core.List.{[], _∷_}
 use mathlib.Core.Option.{none}
 use native.Mathlib.Omega.{arith}
 use borrow.Author.Needs.{needs}
 use borrow.Author.Tests.{lt-ltb, le-ltb}
-use Rattle.day.specs.declared.Check.{Check}
 use Rattle.day.specs.Day.{Day, dayOf, total, maxTotal}
-use Rattle.day.specs.Refusals.{checked, first, badTables, badTotal}
-use Rattle.checks.specs.Passed.{passed, refused, first-passed, first-refused, first-one, tables-passed}
+use Rattle.day.specs.Refusals.{first, tableTests, badTotal}
+use Rattle.day.specs.Tests.{passed, group-refused, group-decides}
+use Rattle.checks.specs.Passed.{tables-passed}
 use Rattle.checks.proofs.day.Statement.{statement}
 use Rattle.checks.proofs.day.Tie as tie
 
@@ -19,47 +19,28 @@ tables c =
     dayOf (a .demand .now) (a .capacity .now) (a .setup .now) (a .unit .now) (a .holding .now)
 
 -- the tests of the tables passed
-tested : (c : tie.After-enum-told) → first (badTables (tables (c .before .before)) []) ≡ none
+tested : (c : tie.After-enum-told) → first (tableTests (tables (c .before .before))) ≡ none
 tested c = passed _ (c .before .before .tables .ensures) (c .enum-told .given .1)
-
--- so the test of the total decides
-decides :
-    (d : Day) {answer : Check}
-    → first (badTables d []) ≡ none
-    → answer ≡ checked (badTotal d)
-    → answer ≡ checked (first (badTables d (badTotal d ∷ [])))
-decides d ok is = is ∙ ap checked (sym (first-passed (badTables d []) (badTotal d ∷ []) ok ∙ first-one (badTotal d)))
-
-tables-requires : tie.Need-tables-requires
-tables-requires c κs = search needs
-
-enum-known-r : tie.Need-enum-known-r
-enum-known-r c = search needs
 
 returns : tie.Need-returns
 returns c =
     let p = c .before .before .before in
-    let d = tables p in
-    let e = refused (first (badTables d [])) (p .tables .ensures) (c .before .r .given .1) in
-    sym (ap checked (first-refused (badTables d []) (badTotal d ∷ []) e))
-
-enum-told : tie.Need-enum-told
-enum-told c = search needs
+    group-refused [] (tableTests (tables p)) refl (p .tables .ensures) (badTotal (tables p) ∷ []) (c .before .r .given .1)
 
 total-requires : tie.Need-total-requires
-total-requires c κs = tables-passed (tables (c .before .before)) [] (tested c) .few
+total-requires c κs = tables-passed (tables (c .before .before)) (tested c) .few
 
 returns-2 : tie.Need-returns-2
 returns-2 c =
     let p = c .before .before in
     let d = tables (p .before .before) in
-    decides d (tested p) (simp (lt-ltb maxTotal (total d) (omega arith)))
+    group-decides (tableTests d) (badTotal d ∷ []) (tested p) (simp (lt-ltb maxTotal (total d) (omega arith)))
 
 returns-3 : tie.Need-returns-3
 returns-3 c =
     let p = c .before .before in
     let d = tables (p .before .before) in
-    decides d (tested p) (simp (le-ltb maxTotal (total d) (omega arith)))
+    group-decides (tableTests d) (badTotal d ∷ []) (tested p) (simp (le-ltb maxTotal (total d) (omega arith)))
 
 pub day-spec : {M : Type 1} → statement M
-day-spec = tie.close (tie.spec tables-requires enum-known-r returns enum-told total-requires returns-2 returns-3)
+day-spec = tie.close (tie.spec (λ c κs. search needs) (λ c. search needs) returns (λ c. search needs) total-requires returns-2 returns-3)

@@ -32,32 +32,17 @@ tables c = dayOf (c .before .args .demand .now) (c .before .args .capacity .now)
 loop-holds : tie.Need-loop-holds Inv-loop μ-loop
 loop-holds c = (record { inside = omega arith; nothing = refl }, refl, omega arith, refl, omega arith)
 
-mul-demanded : tie.Need-mul-demanded Inv-loop μ-loop
-mul-demanded c = omega arith
-
-shared-slice-read-demanded : tie.Need-shared-slice-read-demanded Inv-loop μ-loop
-shared-slice-read-demanded c = omega arith
-
 cast-demanded : tie.Need-cast-demanded Inv-loop μ-loop
 cast-demanded c = omega (arith, c .shared-slice-known .given (c .before .before .loop .i))
 
 add-demanded : tie.Need-add-demanded Inv-loop μ-loop
 add-demanded c = omega (arith, c .shared-slice-known .given (c .before .before .loop .i))
 
-mul-available : tie.Need-mul-available Inv-loop μ-loop
-mul-available c = omega arith
-
-shared-slice-read-available : tie.Need-shared-slice-read-available Inv-loop μ-loop
-shared-slice-read-available c = omega arith
-
 cast-available : tie.Need-cast-available Inv-loop μ-loop
 cast-available c = omega (arith, c .shared-slice-known2 .given (c .before .before .before .loop .i))
 
 add-available : tie.Need-add-available Inv-loop μ-loop
 add-available c = omega (arith, c .shared-slice-known2 .given (c .before .before .before .loop .i))
-
-add-i : tie.Need-add-i Inv-loop μ-loop
-add-i c = omega arith
 
 returns : tie.Need-returns Inv-loop μ-loop
 returns c =
@@ -66,9 +51,6 @@ returns c =
     let d = tables p in
     let above = lt-ltb (capacityTo d (suc i)) (demandTo d (suc i)) (omega arith) in
     refused-here (p .loop .inv .0) Shortage above (omega arith)
-
-loop-less : tie.Need-loop-less Inv-loop μ-loop
-loop-less c = omega arith
 
 loop-again : tie.Need-loop-again Inv-loop μ-loop
 loop-again c =
@@ -90,19 +72,6 @@ pub shortage-spec : {M : Type 1} → statement M
 shortage-spec =
     tie.close
     (tie.spec
-    Inv-loop
-    μ-loop
-    loop-holds
-    mul-demanded
-    shared-slice-read-demanded
-    cast-demanded
-    add-demanded
-    mul-available
-    shared-slice-read-available
-    cast-available
-    add-available
-    add-i
-    returns
-    loop-less
-    loop-again
+    Inv-loop μ-loop loop-holds (λ c. omega arith) (λ c. omega arith) cast-demanded add-demanded (λ c. omega arith)
+    (λ c. omega arith) cast-available add-available (λ c. omega arith) (λ c. omega arith) returns (λ c. omega arith) loop-again
     returns-2)

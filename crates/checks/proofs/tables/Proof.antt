@@ -4,7 +4,8 @@ use mathlib.Core.Option.{none}
 use borrow.Author.Needs.{needs}
 use Rattle.day.specs.Day.{Day, dayOf, periods}
 use Rattle.day.specs.Refusals.{badCount, badLengths, badValue}
-use Rattle.checks.specs.Passed.{passed, refused, first-one, lengths-passed}
+use Rattle.day.specs.Tests.{passed, refused, first-one}
+use Rattle.checks.specs.Passed.{count-passed, lengths-passed}
 use Rattle.checks.proofs.tables.Statement.{statement}
 use Rattle.checks.proofs.tables.Tie as tie
 
@@ -21,25 +22,10 @@ counted c = passed _ (c .before .before .count .ensures) (c .enum-told .given .1
 measured : (c : tie.After-enum-told2) → badLengths (tables (c .before .before .before .before .before)) ≡ none
 measured c = passed _ (c .before .before .lengths .ensures) (c .enum-told2 .given .1)
 
-count-requires : tie.Need-count-requires
-count-requires c κs = search needs
-
-enum-known-r : tie.Need-enum-known-r
-enum-known-r c = search needs
-
 returns : tie.Need-returns
 returns c =
     let p = c .before .before .before in
     rw (refused (badCount (periods (tables p))) (p .count .ensures) (c .before .r .given .1)) refl
-
-enum-told : tie.Need-enum-told
-enum-told c = search needs
-
-lengths-requires : tie.Need-lengths-requires
-lengths-requires c κs = search needs
-
-enum-known-r-2 : tie.Need-enum-known-r-2
-enum-known-r-2 c = search needs
 
 returns-2 : tie.Need-returns-2
 returns-2 c =
@@ -47,11 +33,11 @@ returns-2 c =
     let e = refused (badLengths (tables (p .before .before .before))) (p .lengths .ensures) (c .before .r2 .given .1) in
     rw (counted (p .before), e) refl
 
-enum-told-2 : tie.Need-enum-told-2
-enum-told-2 c = search needs
-
 values-requires : tie.Need-values-requires
-values-requires c κs = lengths-passed _ (measured c)
+values-requires c κs =
+    let p = c .before .before .before in
+    let d = tables (p .before .before) in
+    record { few = count-passed (periods d) (counted p) .1; lengths = lengths-passed d (measured c) }
 
 returns-3 : tie.Need-returns-3
 returns-3 c =
@@ -62,13 +48,5 @@ pub tables-spec : {M : Type 1} → statement M
 tables-spec =
     tie.close
     (tie.spec
-    count-requires
-    enum-known-r
-    returns
-    enum-told
-    lengths-requires
-    enum-known-r-2
-    returns-2
-    enum-told-2
-    values-requires
-    returns-3)
+    (λ c κs. search needs) (λ c. search needs) returns (λ c. search needs) (λ c κs. search needs) (λ c. search needs) returns-2
+    (λ c. search needs) values-requires returns-3)

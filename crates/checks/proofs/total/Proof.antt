@@ -16,26 +16,11 @@ Inv-loop demand sum₀ i₀ sum i = (i ≤ length demand) × (sum ≡ sumTo (at 
 abbrev μ-loop : tie.MeasureT-loop
 μ-loop demand sum₀ i₀ sum i = length demand - i
 
-loop-holds : tie.Need-loop-holds Inv-loop μ-loop
-loop-holds c = omega arith
-
-mul-sum : tie.Need-mul-sum Inv-loop μ-loop
-mul-sum c = omega arith
-
-shared-slice-read-sum : tie.Need-shared-slice-read-sum Inv-loop μ-loop
-shared-slice-read-sum c = omega arith
-
 cast-sum : tie.Need-cast-sum Inv-loop μ-loop
 cast-sum c = omega (arith, c .shared-slice-known .given (c .before .before .loop .i))
 
 add-sum : tie.Need-add-sum Inv-loop μ-loop
 add-sum c = omega (arith, c .shared-slice-known .given (c .before .before .loop .i))
-
-add-i : tie.Need-add-i Inv-loop μ-loop
-add-i c = omega arith
-
-loop-less : tie.Need-loop-less Inv-loop μ-loop
-loop-less c = omega arith
 
 loop-again : tie.Need-loop-again Inv-loop μ-loop
 loop-again c = rw add-one (omega (arith, c .shared-slice-known .given (c .before .before .loop .i)))
@@ -47,4 +32,7 @@ returns c =
 
 pub total-spec : {M : Type 1} → statement M
 total-spec =
-    tie.close (tie.spec Inv-loop μ-loop loop-holds mul-sum shared-slice-read-sum cast-sum add-sum add-i loop-less loop-again returns)
+    tie.close
+    (tie.spec
+    Inv-loop μ-loop (λ c. omega arith) (λ c. omega arith) (λ c. omega arith) cast-sum add-sum (λ c. omega arith)
+    (λ c. omega arith) loop-again returns)

@@ -33,33 +33,6 @@ abbrev μ-loop : tie.MeasureT-loop
 loop-holds : tie.Need-loop-holds Inv-loop μ-loop
 loop-holds c = record { inside = omega arith; nothing = refl }
 
-mul-above-limit : tie.Need-mul-above-limit Inv-loop μ-loop
-mul-above-limit c = omega arith
-
-shared-slice-read-above-limit : tie.Need-shared-slice-read-above-limit Inv-loop μ-loop
-shared-slice-read-above-limit c = omega arith
-
-mul-above-limit-2 : tie.Need-mul-above-limit-2 Inv-loop μ-loop
-mul-above-limit-2 c = omega arith
-
-shared-slice-read-above-limit-2 : tie.Need-shared-slice-read-above-limit-2 Inv-loop μ-loop
-shared-slice-read-above-limit-2 c = omega arith
-
-mul-above-limit-3 : tie.Need-mul-above-limit-3 Inv-loop μ-loop
-mul-above-limit-3 c = omega arith
-
-shared-slice-read-above-limit-3 : tie.Need-shared-slice-read-above-limit-3 Inv-loop μ-loop
-shared-slice-read-above-limit-3 c = omega arith
-
-mul-above-limit-4 : tie.Need-mul-above-limit-4 Inv-loop μ-loop
-mul-above-limit-4 c = omega arith
-
-shared-slice-read-above-limit-4 : tie.Need-shared-slice-read-above-limit-4 Inv-loop μ-loop
-shared-slice-read-above-limit-4 c = omega arith
-
-above-limit-requires : tie.Need-above-limit-requires Inv-loop μ-loop
-above-limit-requires c κs = tt
-
 -- the loop's head, and the tables
 abbrev at-loop : tie.After-above-limit Inv-loop μ-loop → tie.At-loop Inv-loop μ-loop
 at-loop c = c .before .before .before .before .before .before
@@ -77,17 +50,8 @@ answered c =
     let fits = p .before .before .before .before .shared-slice-known2 .given (p .loop .i) in
     others-decide (tables p) (p .loop .i) (omega (arith, fits)) ∙ sym (c .above-limit .ensures)
 
-add-t21 : tie.Need-add-t21 Inv-loop μ-loop
-add-t21 c = omega arith
-
 returns : tie.Need-returns Inv-loop μ-loop
 returns c = refused-here (at-loop (c .before) .loop .inv) AboveLimit (answered (c .before) ∙ c .if1 .taken) (omega arith)
-
-add-i : tie.Need-add-i Inv-loop μ-loop
-add-i c = omega arith
-
-loop-less : tie.Need-loop-less Inv-loop μ-loop
-loop-less c = omega arith
 
 loop-again : tie.Need-loop-again Inv-loop μ-loop
 loop-again c = searched-next (at-loop (c .before) .loop .inv) (answered (c .before) ∙ c .if1 .left) (omega arith)
@@ -99,21 +63,6 @@ pub values-spec : {M : Type 1} → statement M
 values-spec =
     tie.close
     (tie.spec
-    Inv-loop
-    μ-loop
-    loop-holds
-    mul-above-limit
-    shared-slice-read-above-limit
-    mul-above-limit-2
-    shared-slice-read-above-limit-2
-    mul-above-limit-3
-    shared-slice-read-above-limit-3
-    mul-above-limit-4
-    shared-slice-read-above-limit-4
-    above-limit-requires
-    add-t21
-    returns
-    add-i
-    loop-less
-    loop-again
-    returns-2)
+    Inv-loop μ-loop loop-holds (λ c. omega arith) (λ c. omega arith) (λ c. omega arith) (λ c. omega arith) (λ c. omega arith)
+    (λ c. omega arith) (λ c. omega arith) (λ c. omega arith) (λ c κs. tt) (λ c. omega arith) (λ c. omega arith) returns
+    (λ c. omega arith) (λ c. omega arith) loop-again returns-2)

@@ -2,71 +2,37 @@
 use native.Mathlib.Omega.{arith}
 use lib.ListN.{replicate}
 use Rattle.day.specs.Day.{dayOf}
-use Rattle.dayplan.specs.Accepted.{planned-held}
+use Rattle.day.specs.Outcome.{memoryOf}
+use Rattle.dayplan.specs.Accepted.{planned-has}
 use borrow.Author.Needs.{needs}
 use Rattle.dayplan.proofs.plan.Statement.{statement}
 use Rattle.dayplan.proofs.plan.Tie as tie
 
-slice-aggregate-plan : tie.Need-slice-aggregate-plan
-slice-aggregate-plan c = search needs
+-- where the call began, and the day was planned
+abbrev start : tie.After-plan → tie.Start
+start c = c .before .before .before .before .before .before .before .before .before
 
-slice-aggregate-plan-2 : tie.Need-slice-aggregate-plan-2
-slice-aggregate-plan-2 c = search needs
-
-slice-aggregate-plan-3 : tie.Need-slice-aggregate-plan-3
-slice-aggregate-plan-3 c = search needs
-
-plan-requires : tie.Need-plan-requires
-plan-requires c κs = search needs
-
-enum-known-r : tie.Need-enum-known-r
-enum-known-r c = search needs
-
-print-refusal-requires : tie.Need-print-refusal-requires
-print-refusal-requires c κs = search needs
-
-enum-known-totals : tie.Need-enum-known-totals
-enum-known-totals c = search needs
-
-print-totals-requires : tie.Need-print-totals-requires
-print-totals-requires c κs = search needs
-
-slice-aggregate-print-amounts : tie.Need-slice-aggregate-print-amounts
-slice-aggregate-print-amounts c = search needs
+abbrev at-plan : tie.After-slots3 → tie.After-plan
+at-plan c = c .before .before .before .before .before .before .before .before .before
 
 print-amounts-requires : tie.Need-print-amounts-requires
 print-amounts-requires c κs =
-    let planned = c .before .before .before .before .before .before .before .before in
-    let last = planned .plan .last in
-    let a = planned .before .before .before .before .before .before .before .before .before .args in
-    planned-held (dayOf (a .demand .now) (a .capacity .now) (a .setup .now) (a .unit .now) (a .holding .now))
-    (record { costs = replicate 1000 0; choices = replicate 24000 0; slots = replicate 96 0 })
-    (record { costs = last .1 .1 .1 .1 .1 .0; choices = last .1 .1 .1 .1 .1 .1 .0; slots = last .1 .1 .1 .1 .1 .1 .1 .0 })
-    (planned .plan .result)
-    (c .before .before .before .totals .given .0 .0)
-    (c .before .before .before .totals .given .1)
+    let totals = c .before .before .before .before .totals in
+    let p = at-plan c in
+    let a = start p .args in
+    let last = p .plan .last .1 .1 .1 .1 .1 in
+    planned-has (dayOf (a .demand .now) (a .capacity .now) (a .setup .now) (a .unit .now) (a .holding .now))
+    (memoryOf (replicate 1000 0) (replicate 24000 0) (replicate 96 0))
+    (memoryOf (last .0) (last .1 .0) (last .1 .1 .0))
+    (p .plan .result)
+    (totals .given .0 .0)
+    (totals .given .1)
     (omega arith)
-    (planned .plan .ensures)
-
-returns : tie.Need-returns
-returns c = search needs
-
-returns-2 : tie.Need-returns-2
-returns-2 c = search needs
+    (p .plan .ensures)
 
 pub plan-spec : {M : Type 1} → statement M
 plan-spec =
     tie.close
-    (tie.spec
-    slice-aggregate-plan
-    slice-aggregate-plan-2
-    slice-aggregate-plan-3
-    plan-requires
-    enum-known-r
-    print-refusal-requires
-    enum-known-totals
-    print-totals-requires
-    slice-aggregate-print-amounts
-    print-amounts-requires
-    returns
-    returns-2)
+    (tie.spec (λ c. search needs) (λ c. search needs) (λ c. search needs) (λ c κs. search needs) (λ c. search needs)
+    (λ c κs. search needs) (λ c. search needs) (λ c κs. search needs) (λ c. search needs) print-amounts-requires
+    (λ c. search needs) (λ c. search needs) (λ c. search needs))

@@ -11,25 +11,8 @@ Inv-loop demand plan i₀ i = i ≤ length demand
 abbrev μ-loop : tie.MeasureT-loop
 μ-loop demand plan i₀ i = length demand - i
 
-loop-holds : tie.Need-loop-holds Inv-loop μ-loop
-loop-holds c = search needs
-
-print-amount-requires : tie.Need-print-amount-requires Inv-loop μ-loop
-print-amount-requires c κs = search needs
-
-add-i : tie.Need-add-i Inv-loop μ-loop
-add-i c = search needs
-
-loop-less : tie.Need-loop-less Inv-loop μ-loop
-loop-less c = search needs
-
-loop-again : tie.Need-loop-again Inv-loop μ-loop
-loop-again c = search needs
-
-returns : tie.Need-returns Inv-loop μ-loop
-returns c = search needs
-
 pub print-amounts-spec : {M : Type 1} → statement M
 print-amounts-spec =
     tie.close
-    (tie.spec Inv-loop μ-loop loop-holds print-amount-requires add-i loop-less loop-again returns)
+    (tie.spec Inv-loop μ-loop (λ c. search needs) (λ c κs. search needs) (λ c. search needs) (λ c. search needs)
+    (λ c. search needs) (λ c. search needs) (λ c. search needs))

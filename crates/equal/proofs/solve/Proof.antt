@@ -1,102 +1,96 @@
 -- `equal::solve` meets its contract: without capacity nothing is made, and else the last row is the plan. Assumes nothing.
-use mathlib.Core.Path.{_≡_, refl, ap, _∙_}
+use mathlib.Core.Path.{_≡_, sym, ap, _∙_, subst}
 use mathlib.Core.List.{List}
-use Prim.Native.Nat.{ℕ, zero, suc, _+_, _-_, _*_, _<_}
+use Prim.Native.Nat.{ℕ, _+_, _-_, _*_}
 use borrow.Author.Needs.{needs}
 use borrow.Rule.Slice.PartMut.{midOf}
 use native.Mathlib.Omega.{arith}
-use lib.ListN.{length, drop, replicate, length-append, length-replicate, length-drop, getD-replicate, List·getD-append}
+use lib.ListN.{length, drop, replicate, length-replicate, getD-replicate, List·getD-append}
 use Rattle.day.specs.Sums.{at}
-use Rattle.day.specs.Day.{Day, dayOf, periods}
 use Rattle.day.specs.Outcome.{Cleared}
-use Rattle.theory.specs.Base.{modelOf}
-use Rattle.florian_klein.specs.Best.{Row}
-use Rattle.equal.specs.Solved.{Ready, Solved, idle-solved}
+use Rattle.theory.specs.Problem.{Problem, problemWith, periods, modelOf}
+use Rattle.theory.specs.Recursion.{leads-optimal}
+use Rattle.equal_runs.specs.Run.{constantWith}
+use Rattle.equal_rows.specs.Rows.{Areas, solutionOf}
+use Rattle.equal_rows.specs.Best.{PlanRow}
+use Rattle.equal_rows.specs.Consider.{ConstantCapacity}
+use Rattle.equal.specs.Solved.{PlanFound, constant-is, idle-found}
 use Rattle.equal.proofs.solve.Statement.{statement}
 use Rattle.equal.proofs.solve.Tie as tie
 
 -- cleared slots make nothing
-idle : (d : Day) (slots slots′ : List ℕ) → Ready d → at (d .capacity) 0 ≡ 0 → length slots ≡ periods d → Cleared (periods d) slots slots′ → Solved d 0 slots′
-idle d slots slots′ ready e size clear =
-    idle-solved d ready e slots′
-    (ap length clear ∙ length-append (replicate (periods d) 0) (drop (periods d) slots) ∙ omega (arith, length-replicate {A = ℕ} (periods d) 0, length-drop (periods d) slots))
+idle : (p : Problem) (slots slots′ : List ℕ) → ConstantCapacity p (at (p .capacity) 0) → at (p .capacity) 0 ≡ 0
+    → Cleared (periods p) slots slots′ → PlanFound p slots′
+idle p slots slots′ constant e clear =
+    idle-found p (rw e at constant) slots′
     (λ k h.
     ap (λ (l : List ℕ). at l k) clear
-    ∙ List·getD-append (replicate (periods d) 0) (drop (periods d) slots) 0 k (omega (arith, length-replicate {A = ℕ} (periods d) 0))
-    ∙ getD-replicate (periods d) k 0 0 h)
+    ∙ List·getD-append (replicate (periods p) 0) (drop (periods p) slots) 0 k (omega (arith, length-replicate {A = ℕ} (periods p) 0))
+    ∙ getD-replicate (periods p) k 0 0 h)
 
--- the last row is the plan
-last-row : (d : Day) (costs choices slots : List ℕ) → Row (modelOf d) (periods d) (periods d) costs choices
-    → slots ≡ midOf (periods d * periods d) (periods d * periods d + periods d - periods d * periods d) choices → Solved d (at costs (periods d)) slots
-last-row d costs choices slots row e =
-    let n : ℕ = periods d in
-    let k : periods d * periods d + periods d - periods d * periods d ≡ periods d = omega arith in
-    record { plan = rw (e, k) (row .plan) }
+module _ (demand capacity setup unit holding : List ℕ) (c : ℕ)
+    (constant : ConstantCapacity (problemWith demand capacity setup unit holding) c) where
+  abbrev p : Problem
+  p = problemWith demand capacity setup unit holding
 
-positive : (c : ℕ) → (c ≡ 0 → ⊥) → 0 < c
-positive zero h = absurd (h refl)
-positive (suc c) h = omega arith
+  abbrev n : ℕ
+  n = periods p
 
-shared-slice-read-if1 : tie.Need-shared-slice-read-if1
-shared-slice-read-if1 c = search needs
+  -- the rows run on the one capacity
+  by-one : ConstantCapacity (constantWith demand c setup unit holding) c
+  by-one = subst (λ (l : List ℕ). ConstantCapacity (problemWith demand l setup unit holding) c) (constant-is p c constant) constant
 
-clear-choices-requires : tie.Need-clear-choices-requires
-clear-choices-requires c κs = search needs
+  -- the last row is the plan
+  last-row : (a : Areas) (slots : List ℕ) → PlanRow (constantWith demand c setup unit holding) n a
+      → slots ≡ midOf (n * n) (n * n + n - n * n) (a .choices) → PlanFound p slots
+  last-row a slots row e =
+      let q : Problem = constantWith demand c setup unit holding in
+      let k : length demand * length demand + length demand - length demand * length demand ≡ length demand = omega arith in
+      let o : PlanFound (constantWith demand c setup unit holding) slots = rw (e, k) (leads-optimal (modelOf q) n _ (solutionOf n a n) (row .plan)) in
+      subst (λ (l : List ℕ). PlanFound (problemWith demand l setup unit holding) slots) (sym (constant-is p c constant)) o
 
-same-length : tie.Need-same-length
-same-length c = search needs
+abbrev entry : tie.After-shared-slice-known6 → tie.Start
+entry c = c .before .before .before .before .before .before .before .before .before
+
+abbrev given : tie.Start → Problem
+given s = let a = s .args in problemWith (a .demand .now) (a .capacity .now) (a .setup .now) (a .unit .now) (a .holding .now)
+
+-- from the end back: the rows found, and where there is capacity
+abbrev found : tie.After-slice-known7 → tie.After-rows
+found c = c .before .before .before .before .before .before
+
+abbrev some : tie.After-rows-arg3 → tie.Else1
+some c = c .before .before .before
 
 returns : tie.Need-returns
 returns c =
-    let a = c .before .before .before .before .before .before .before .before .before .before .before .before .before .before .args in
-    let pre = c .before .before .before .before .before .before .before .before .before .before .before .before .before .before .pre in
-    idle (dayOf (a .demand .now) (a .capacity .now) (a .setup .now) (a .unit .now) (a .holding .now)) (a .slots .now) _ (pre .0) (c .before .before .before .before .if1 .taken) (pre .2) (c .before .before .clear-choices .ensures)
+    let cleared = c .before .before in
+    let none = cleared .before .before in
+    let s = entry (none .before) in
+    idle (given s) (s .args .slots .now) _ (s .pre .constant) (none .if1 .taken) (cleared .clear-choices .ensures)
 
 rows-requires : tie.Need-rows-requires
 rows-requires c κs =
-    let pre = c .before .before .before .before .before .before .before .before .before .before .before .before .before .pre in
-    (record { limits = pre .0 .limits; one = pre .0 .one; room = positive _ (c .before .before .before .if1 .left); supplied = pre .0 .supplied }, pre .1, pre .2)
-
-mul-from : tie.Need-mul-from
-mul-from c = search needs
-
-add-copy : tie.Need-add-copy
-add-copy c = search needs
-
-mul-copy : tie.Need-mul-copy
-mul-copy c = search needs
-
-sub-copy : tie.Need-sub-copy
-sub-copy c = search needs
-
-part-copy-start : tie.Need-part-copy-start
-part-copy-start c = search needs
-
-part-copy-end : tie.Need-part-copy-end
-part-copy-end c = search needs
-
-copy-requires : tie.Need-copy-requires
-copy-requires c κs = search needs
-
-mul-result : tie.Need-mul-result
-mul-result c = search needs
-
-slice-read-result : tie.Need-slice-read-result
-slice-read-result c = search needs
-
-same-length-2 : tie.Need-same-length-2
-same-length-2 c = search needs
-
-same-length-3 : tie.Need-same-length-3
-same-length-3 c = search needs
-
-same-length-4 : tie.Need-same-length-4
-same-length-4 c = search needs
+    let s = entry (some c .before) in
+    let a = s .args in
+    record {
+      constant = by-one (a .demand .now) (a .capacity .now) (a .setup .now) (a .unit .now) (a .holding .now) _ (s .pre .constant);
+      room = omega (arith, some c .if1 .left);
+      sized = s .pre .sized;
+      each = s .pre .each;
+    }
 
 returns-2 : tie.Need-returns-2
 returns-2 c =
-    let a = c .before .before .before .before .before .before .before .before .before .before .before .before .before .before .before .before .before .before .before .before .before .before .before .before .before .before .before .args in
-    last-row (dayOf (a .demand .now) (a .capacity .now) (a .setup .now) (a .unit .now) (a .holding .now)) _ _ _ (c .before .before .before .before .before .before .before .before .before .before .before .before .before .rows .ensures) (c .before .before .before .copy .ensures)
+    let copied = c .before .before in
+    let rows = found (copied .before .before .before .before) in
+    let s = entry (some (rows .before) .before) in
+    let a = s .args in
+    last-row (a .demand .now) (a .capacity .now) (a .setup .now) (a .unit .now) (a .holding .now) _ (s .pre .constant) _ _ (rows .rows .ensures)
+    (copied .copy .ensures)
 
 pub solve-spec : {M : Type 1} → statement M
-solve-spec = tie.close (tie.spec shared-slice-read-if1 clear-choices-requires same-length returns rows-requires mul-from add-copy mul-copy sub-copy part-copy-start part-copy-end copy-requires mul-result slice-read-result same-length-2 same-length-3 same-length-4 returns-2)
+solve-spec = tie.close (tie.spec
+    (λ c. search needs) (λ c κs. search needs) (λ c. search needs) returns rows-requires (λ c. search needs) (λ c. search needs)
+    (λ c. search needs) (λ c. search needs) (λ c. search needs) (λ c. search needs) (λ c κs. search needs) (λ c. search needs)
+    (λ c. search needs) (λ c. search needs) returns-2)

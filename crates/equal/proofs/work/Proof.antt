@@ -1,107 +1,84 @@
 -- `equal::work` meets its contract: the tests leave what each step asks, and the steps what an accepted call leaves. Assumes nothing.
 use borrow.Author.Needs.{needs}
 use native.Mathlib.Omega.{arith}
-use lib.ListN.{length}
-use Rattle.day.specs.Day.{Day, dayOf, periods}
-use Rattle.day.specs.Outcome.{Memory}
-use Rattle.checks.specs.Passed.{Enough}
-use Rattle.equal.specs.Solved.{Ready}
-use Rattle.equal.proofs.Entry.{costCells, choiceCells, cells-small, accepted-ready, accepted-enough, accepted-sized, front-length, front-holds, work-accepted}
+use Rattle.day.specs.Day.{Day, dayOf}
+use Rattle.day.specs.Outcome.{Memory, memoryOf}
+use Rattle.equal.proofs.Entry.{costs-inside, choices-inside, solvable, costs-back, choices-back, slots-feasible, work-accepted}
 use Rattle.equal.proofs.work.Statement.{statement}
 use Rattle.equal.proofs.work.Tie as tie
+
+-- the places of the steps, each from a later one
+abbrev at-clear-choices : tie.After-totals-arg → tie.After-clear-choices
+at-clear-choices c = c .before .before .before
+
+abbrev at-clear-costs : tie.After-clear-choices-arg → tie.After-clear-costs
+at-clear-costs c = c .before .before .before
+
+abbrev at-solve : tie.After-clear-costs-arg → tie.After-solve
+at-solve c = c .before .before .before .before .before .before .before
+
+abbrev at-cells : tie.After-solve-arg3 → tie.After-cells
+at-cells c = c .before .before .before
+
+abbrev at-start : tie.After-slice-known3 → tie.Start
+at-start c = c .before .before .before .before .before .before .before .before
+
+abbrev begun : tie.After-cells → tie.Start
+begun c = at-start (c .before)
 
 abbrev given : tie.Start → Day
 given s = let a = s .args in dayOf (a .demand .now) (a .capacity .now) (a .setup .now) (a .unit .now) (a .holding .now)
 
 abbrev lent : tie.Start → Memory
-lent s = let a = s .args in record { costs = a .costs .now; choices = a .choices .now; slots = a .slots .now }
-
-ready : (s : tie.Start) → Ready (given s)
-ready s = accepted-ready (given s) (lent s) (s .pre)
-
-enough : (s : tie.Start) → let m = lent s in let n = periods (given s) in Enough (length (m .costs)) (costCells n) (length (m .choices)) (choiceCells n) (length (m .slots)) n
-enough s = accepted-enough (given s) (lent s) (s .pre)
-
-add-cost-cells : tie.Need-add-cost-cells
-add-cost-cells c = search needs
-
-mul-cost-cells : tie.Need-mul-cost-cells
-mul-cost-cells c = omega (arith, ready (c .before .before .before .before .before .before .before .before) .limits .few)
-
-add-choice-cells : tie.Need-add-choice-cells
-add-choice-cells c = search needs
-
-add-choice-cells-2 : tie.Need-add-choice-cells-2
-add-choice-cells-2 c = search needs
-
-mul-choice-cells : tie.Need-mul-choice-cells
-mul-choice-cells c = omega (arith, cells-small (periods (given (c .before .before .before .before .before .before .before .before))) (ready (c .before .before .before .before .before .before .before .before) .limits .few))
-
-mul-choice-cells-2 : tie.Need-mul-choice-cells-2
-mul-choice-cells-2 c = omega (arith, cells-small (periods (given (c .before .before .before .before .before .before .before .before))) (ready (c .before .before .before .before .before .before .before .before) .limits .few))
-
-sub-solve : tie.Need-sub-solve
-sub-solve c = search needs
-
-part-solve-start : tie.Need-part-solve-start
-part-solve-start c = search needs
+lent s = let a = s .args in memoryOf (a .costs .now) (a .choices .now) (a .slots .now)
 
 part-solve-end : tie.Need-part-solve-end
-part-solve-end c = enough (c .before .before .before .before .before .before .before .before) .cost
-
-sub-solve-2 : tie.Need-sub-solve-2
-sub-solve-2 c = search needs
-
-part-solve-start-2 : tie.Need-part-solve-start-2
-part-solve-start-2 c = search needs
+part-solve-end c = let s = begun c in costs-inside (given s) (lent s) (s .pre) _ (c .cells .ensures)
 
 part-solve-end-2 : tie.Need-part-solve-end-2
-part-solve-end-2 c = enough (c .before .before .before .before .before .before .before .before .before) .choice
-
-sub-solve-3 : tie.Need-sub-solve-3
-sub-solve-3 c = search needs
-
-part-solve-start-3 : tie.Need-part-solve-start-3
-part-solve-start-3 c = search needs
-
-part-solve-end-3 : tie.Need-part-solve-end-3
-part-solve-end-3 c = enough (c .before .before .before .before .before .before .before .before .before .before) .slot
+part-solve-end-2 c = let n = c .before in let s = begun n in choices-inside (given s) (lent s) (s .pre) _ (n .cells .ensures)
 
 solve-requires : tie.Need-solve-requires
-solve-requires c κs =
-    let s = c .before .before .before .before .before .before .before .before .before .before .before in
-    (ready s, accepted-sized (given s) (lent s) (s .pre), front-length (given s) (lent s) (s .pre) (periods (given s)) (lent s .slots) (enough s .slot))
-
-count-requires : tie.Need-count-requires
-count-requires c κs =
-    let s = c .before .before .before .before .before .before .before .before .before .before .before .before .before .before .before .before .before .before .before in
-    front-holds (given s) (lent s) (s .pre) (periods (given s)) (lent s .slots) (c .before .before .before .before .before .before .before .solve .last .1 .1 .1 .1 .1 .1 .1 .0) (enough s .slot) (c .before .before .before .before .before .before .before .solve .kept .1 .1 .1 .1 .1 .1 .1 .0)
+solve-requires c κs = let n = at-cells c in let s = begun n in solvable (given s) (lent s) (s .pre) _ (n .cells .ensures)
 
 clear-costs-requires : tie.Need-clear-costs-requires
 clear-costs-requires c κs =
-    let s = c .before .before .before .before .before .before .before .before .before .before .before .before .before .before .before .before .before .before .before .before .before in
-    front-holds (given s) (lent s) (s .pre) (costCells (periods (given s))) (lent s .costs) (c .before .before .before .before .before .before .before .before .before .solve .last .1 .1 .1 .1 .1 .0) (enough s .cost) (c .before .before .before .before .before .before .before .before .before .solve .kept .1 .1 .1 .1 .1 .0)
+    let v = at-solve c in
+    let n = at-cells (v .before) in
+    let s = begun n in
+    costs-back (given s) (lent s) (s .pre) _ (n .cells .ensures) (v .solve .last .1 .1 .1 .1 .1 .0) (v .solve .kept .1 .1 .1 .1 .1 .0)
 
 clear-choices-requires : tie.Need-clear-choices-requires
 clear-choices-requires c κs =
-    let s = c .before .before .before .before .before .before .before .before .before .before .before .before .before .before .before .before .before .before .before .before .before .before .before .before .before in
-    front-holds (given s) (lent s) (s .pre) (choiceCells (periods (given s))) (lent s .choices) (c .before .before .before .before .before .before .before .before .before .before .before .before .before .solve .last .1 .1 .1 .1 .1 .1 .0) (enough s .choice) (c .before .before .before .before .before .before .before .before .before .before .before .before .before .solve .kept .1 .1 .1 .1 .1 .1 .0)
+    let v = at-solve (at-clear-costs c .before) in
+    let n = at-cells (v .before) in
+    let s = begun n in
+    choices-back (given s) (lent s) (s .pre) _ (n .cells .ensures) (v .solve .last .1 .1 .1 .1 .1 .1 .0) (v .solve .kept .1 .1 .1 .1 .1 .1 .0)
 
-same-length : tie.Need-same-length
-same-length c = search needs
-
-same-length-2 : tie.Need-same-length-2
-same-length-2 c = search needs
-
-same-length-3 : tie.Need-same-length-3
-same-length-3 c = search needs
+totals-requires : tie.Need-totals-requires
+totals-requires c κs =
+    let v = at-solve (at-clear-costs (at-clear-choices c .before) .before) in
+    let n = at-cells (v .before) in
+    let s = begun n in
+    slots-feasible (given s) (lent s) (s .pre) _ (n .cells .ensures) (v .solve .last .1 .1 .1 .1 .1 .1 .1 .0) (v .solve .kept .1 .1 .1 .1 .1 .1 .1 .0)
+    (v .solve .ensures)
 
 returns : tie.Need-returns
 returns c =
-    let s = c .before .before .before .before .before .before .before .before .before .before .before .before .before .before .before .before .before .before .before .before .before .before .before .before .before .before .before .before in
-    let kept = c .before .before .before .before .before .before .before .before .before .before .before .before .before .before .before .before .solve .kept in
-    let last = c .before .before .before .before .before .before .before .before .before .before .before .before .before .before .before .before .solve .last in
-    work-accepted (given s) (lent s) (s .pre) _ (last .1 .1 .1 .1 .1 .0) (last .1 .1 .1 .1 .1 .1 .0) (last .1 .1 .1 .1 .1 .1 .1 .0) _ _ (kept .1 .1 .1 .1 .1 .1 .1 .0) (kept .1 .1 .1 .1 .1 .0) (kept .1 .1 .1 .1 .1 .1 .0) (c .before .before .before .before .before .before .before .before .before .before .before .before .before .before .before .before .solve .ensures) (c .before .before .before .before .before .before .before .before .count .ensures) (c .before .before .before .before .before .before .clear-costs .ensures) (c .before .before .clear-choices .ensures)
+    let z = at-clear-choices (c .before) in
+    let y = at-clear-costs (z .before) in
+    let v = at-solve (y .before) in
+    let n = at-cells (v .before) in
+    let s = begun n in
+    let last = v .solve .last in
+    let kept = v .solve .kept in
+    work-accepted (given s) (lent s) (s .pre) _ (n .cells .ensures) (last .1 .1 .1 .1 .1 .1 .1 .0) (kept .1 .1 .1 .1 .1 .1 .1 .0) (v .solve .ensures) _
+    (last .1 .1 .1 .1 .1 .0) (last .1 .1 .1 .1 .1 .1 .0) _ _ (kept .1 .1 .1 .1 .1 .0) (kept .1 .1 .1 .1 .1 .1 .0)
+    (y .clear-costs .ensures) (z .clear-choices .ensures) (c .totals .ensures)
 
 pub work-spec : {M : Type 1} → statement M
-work-spec = tie.close (tie.spec add-cost-cells mul-cost-cells add-choice-cells add-choice-cells-2 mul-choice-cells mul-choice-cells-2 sub-solve part-solve-start part-solve-end sub-solve-2 part-solve-start-2 part-solve-end-2 sub-solve-3 part-solve-start-3 part-solve-end-3 solve-requires count-requires clear-costs-requires clear-choices-requires same-length same-length-2 same-length-3 returns)
+work-spec = tie.close (tie.spec
+    (λ c κs. (at-start c .pre .day .limits .few, omega arith)) (λ c. search needs) (λ c. search needs) part-solve-end (λ c. search needs)
+    (λ c. search needs) part-solve-end-2 (λ c. search needs) (λ c. search needs) (λ c. begun (c .before .before) .pre .room .slots)
+    solve-requires clear-costs-requires clear-choices-requires totals-requires (λ c. search needs) (λ c. search needs) (λ c. search needs)
+    returns)

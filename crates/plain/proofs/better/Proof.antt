@@ -5,63 +5,30 @@ use borrow.Author.Needs.{needs}
 use Rattle.plain.proofs.better.Statement.{statement}
 use Rattle.plain.proofs.better.Tie as tie
 
-enum-known-w : tie.Need-enum-known-w
-enum-known-w c = search needs
-
-enum-told : tie.Need-enum-told
-enum-told c = search needs
-
-returns : tie.Need-returns
-returns c = search needs
-
-enum-known-v : tie.Need-enum-known-v
-enum-known-v c = search needs
-
-enum-told-2 : tie.Need-enum-told-2
-enum-told-2 c = search needs
-
-returns-2 : tie.Need-returns-2
-returns-2 c = search needs
-
-found-as-requires : tie.Need-found-as-requires
-found-as-requires c κs = search needs
-
 returns-3 : tie.Need-returns-3
 returns-3 c =
-    let matched = c .before .before .before .before in
-    rw (c .found-as .ensures, matched .before .before .before .w .given .1, matched .v .given .1, not-true (matched .before .before .before .before .before .args .best .found) (c .before .if1 .taken)) refl
-
-found-as-requires-2 : tie.Need-found-as-requires-2
-found-as-requires-2 c κs = search needs
+    let v = c .before .before .before .before in
+    let w = v .before .before .before in
+    rw (c .found-as .ensures, w .w .given .1, v .v .given .1, not-true (w .before .before .args .best .found) (c .before .if1 .taken)) refl
 
 returns-4 : tie.Need-returns-4
 returns-4 c =
     let tested = c .before .before .before .before in
-    let matched = tested .before .before .before in
-    rw
-    (c .found-as2 .ensures, matched .before .before .before .w .given .1, matched .v .given .1, not-false (matched .before .before .before .before .before .args .best .found) (tested .if1 .left), lt-ltb _ _ (c .before .if2 .taken))
-    refl
+    let v = tested .before .before .before in
+    let w = v .before .before .before in
+    let less = lt-ltb _ _ (c .before .if2 .taken) in
+    rw (c .found-as2 .ensures, w .w .given .1, v .v .given .1, not-false (w .before .before .args .best .found) (tested .if1 .left), less) refl
 
 returns-5 : tie.Need-returns-5
 returns-5 c =
     let tested = c .before .before .before in
-    let matched = tested .before .before .before in
-    rw
-    (matched .before .before .before .w .given .1, matched .v .given .1, not-false (matched .before .before .before .before .before .args .best .found) (tested .if1 .left), le-ltb _ _ (c .if2 .left))
-    refl
+    let v = tested .before .before .before in
+    let w = v .before .before .before in
+    rw (w .w .given .1, v .v .given .1, not-false (w .before .before .args .best .found) (tested .if1 .left), le-ltb _ _ (c .if2 .left)) refl
 
 pub better-spec : {M : Type 1} → statement M
 better-spec =
     tie.close
     (tie.spec
-    enum-known-w
-    enum-told
-    returns
-    enum-known-v
-    enum-told-2
-    returns-2
-    found-as-requires
-    returns-3
-    found-as-requires-2
-    returns-4
-    returns-5)
+    (λ c. search needs) (λ c. search needs) (λ c. search needs) (λ c. search needs) (λ c. search needs) (λ c. search needs)
+    (λ c κs. search needs) returns-3 (λ c κs. search needs) returns-4 returns-5)

@@ -1,50 +1,32 @@
 -- `plain::same_plan` meets its contract. The loop's invariant: the amounts passed are alike. The measure is what is left of n.
 -- Assumes nothing.
 use mathlib.Core.Path.{_≡_}
-use Prim.Native.Nat.{ℕ, _-_, _≤_}
+use Prim.Native.Nat.{ℕ, _-_, _≤_, _<_}
 use native.Mathlib.Numerals.{add-one}
 use native.Mathlib.Omega.{arith}
 use borrow.Author.Needs.{needs}
 use Rattle.day.specs.Sums.{at, below}
-use Rattle.plain.specs.Agreement.{SamePlan}
+use Rattle.plain.specs.Agreement.{decides-true, decides-false}
 use Rattle.plain.proofs.same_plan.Statement.{statement}
 use Rattle.plain.proofs.same_plan.Tie as tie
 
 abbrev Inv-loop : tie.InvT-loop
-Inv-loop n slots plan k₀ k = (k ≤ n) × SamePlan k plan slots
+Inv-loop n slots plan k₀ k = (k ≤ n) × ((j : ℕ) → j < k → at slots j ≡ at plan j)
 
 abbrev μ-loop : tie.MeasureT-loop
 μ-loop n slots plan k₀ k = n - k
 
 returns : tie.Need-returns Inv-loop μ-loop
-returns c e = let z : _≡_ {A = ℕ} 0 1 = cc in absurd (omega arith)
+returns c = decides-false (λ s. omega (arith, s .few))
 
 returns-2 : tie.Need-returns-2 Inv-loop μ-loop
-returns-2 c e = let z : _≡_ {A = ℕ} 0 1 = cc in absurd (omega arith)
+returns-2 c = decides-false (λ s. omega (arith, s .room))
 
 loop-holds : tie.Need-loop-holds Inv-loop μ-loop
 loop-holds c = (search needs, λ j l. absurd (omega arith))
 
-mul-if3 : tie.Need-mul-if3 Inv-loop μ-loop
-mul-if3 c = search needs
-
-shared-slice-read-if3 : tie.Need-shared-slice-read-if3 Inv-loop μ-loop
-shared-slice-read-if3 c = search needs
-
-mul-if3-2 : tie.Need-mul-if3-2 Inv-loop μ-loop
-mul-if3-2 c = search needs
-
-array-read-if3 : tie.Need-array-read-if3 Inv-loop μ-loop
-array-read-if3 c = search needs
-
 returns-3 : tie.Need-returns-3 Inv-loop μ-loop
-returns-3 c e = let z : _≡_ {A = ℕ} 0 1 = cc in absurd (omega arith)
-
-add-k : tie.Need-add-k Inv-loop μ-loop
-add-k c = search needs
-
-loop-less : tie.Need-loop-less Inv-loop μ-loop
-loop-less c = search needs
+returns-3 c = decides-false (λ s. c .if3 .taken (s .alike (c .before .before .before .loop .k) (omega arith)))
 
 loop-again : tie.Need-loop-again Inv-loop μ-loop
 loop-again c =
@@ -53,23 +35,13 @@ loop-again c =
     (search needs, rw add-one (below (λ (j : ℕ). at (a .slots .now) j ≡ at (a .t1) j) (start .loop .k) (start .loop .inv .1) (c .if3 .left)))
 
 returns-4 : tie.Need-returns-4 Inv-loop μ-loop
-returns-4 c e = let n : c .before .loop .k ≡ c .before .before .before .before .args .n = omega arith in rw n at (c .before .loop .inv .1)
+returns-4 c =
+    let n : c .before .loop .k ≡ c .before .before .before .before .args .n = omega arith in
+    decides-true (record { few = omega arith; room = omega arith; alike = rw n at (c .before .loop .inv .1) })
 
 pub same-plan-spec : {M : Type 1} → statement M
 same-plan-spec =
     tie.close
     (tie.spec
-    Inv-loop
-    μ-loop
-    returns
-    returns-2
-    loop-holds
-    mul-if3
-    shared-slice-read-if3
-    mul-if3-2
-    array-read-if3
-    returns-3
-    add-k
-    loop-less
-    loop-again
-    returns-4)
+    Inv-loop μ-loop returns returns-2 loop-holds (λ c. search needs) (λ c. search needs) (λ c. search needs) (λ c. search needs)
+    returns-3 (λ c. search needs) (λ c. search needs) loop-again returns-4)

@@ -2,6 +2,8 @@
 -- Assumes nothing.
 use Rattle.day.specs.Day.{dayOf}
 use Rattle.plain.specs.Search.{Chosen, chosen-more}
+use Rattle.plain.specs.Optimal.{chosen-optimal}
+use Rattle.weigher.specs.Answers.{weighs-is}
 use mathlib.Core.Path.{_≡_}
 use Prim.Native.Nat.{ℕ, _-_, _≤_}
 use native.Mathlib.Numerals.{add-one}
@@ -16,55 +18,28 @@ Inv-loop demand capacity setup unit holding best₀ count m₀ best m = (m ≤ c
 abbrev μ-loop : tie.MeasureT-loop
 μ-loop demand capacity setup unit holding best₀ count m₀ best m = count - m
 
-plans-requires : tie.Need-plans-requires Inv-loop μ-loop
-plans-requires c κs = search needs
-
 loop-holds : tie.Need-loop-holds Inv-loop μ-loop
 loop-holds c =
-    (search needs, record { holds = λ f. let z : _≡_ {A = ℕ} 0 1 = cc in absurd (omega arith); least = λ j l. absurd (omega arith) })
-
-plan-of-requires : tie.Need-plan-of-requires Inv-loop μ-loop
-plan-of-requires c κs = search needs
-
-slice-aggregate-weigh : tie.Need-slice-aggregate-weigh Inv-loop μ-loop
-slice-aggregate-weigh c = search needs
-
-weigh-requires : tie.Need-weigh-requires Inv-loop μ-loop
-weigh-requires c κs = search needs
-
-better-requires : tie.Need-better-requires Inv-loop μ-loop
-better-requires c κs = search needs
-
-add-m : tie.Need-add-m Inv-loop μ-loop
-add-m c = search needs
-
-loop-less : tie.Need-loop-less Inv-loop μ-loop
-loop-less c = search needs
+    (search needs, record { some = λ f. let z : _≡_ {A = ℕ} 0 1 = cc in absurd (omega arith); none = λ f j l. absurd (omega arith) })
 
 loop-again : tie.Need-loop-again Inv-loop μ-loop
 loop-again c =
-    let start = c .before .before .before .before .before in
-    (search needs, rw (add-one, c .better .ensures, c .before .weigh .ensures, c .before .before .before .plan-of .ensures) (chosen-more _ (start .loop .m) (start .loop .best) (start .loop .inv .1)))
+    let planned = c .before .before .before in
+    let start = planned .before .before in
+    let more = chosen-more _ (start .loop .m) (start .loop .best) (start .loop .inv .1) in
+    let w = c .before .weigh in
+    (search needs, rw (add-one, c .better .ensures, weighs-is _ _ (w .result) (w .ensures), planned .plan-of .ensures) more)
 
 returns : tie.Need-returns Inv-loop μ-loop
 returns c =
     let start = c .before in
     let e : start .loop .m ≡ start .before .plans .result = omega arith in
-    rw (← start .before .plans .ensures, ← e) (start .loop .inv .1)
+    let chosen = rw (e, start .before .plans .ensures) at (start .loop .inv .1) in
+    record { chosen = chosen; tiny = λ t. chosen-optimal _ t _ chosen }
 
 pub search-spec : {M : Type 1} → statement M
 search-spec =
     tie.close
     (tie.spec
-    Inv-loop
-    μ-loop
-    plans-requires
-    loop-holds
-    plan-of-requires
-    slice-aggregate-weigh
-    weigh-requires
-    better-requires
-    add-m
-    loop-less
-    loop-again
-    returns)
+    Inv-loop μ-loop (λ c κs. search needs) loop-holds (λ c κs. search needs) (λ c. search needs) (λ c κs. search needs)
+    (λ c κs. search needs) (λ c. search needs) (λ c. search needs) loop-again returns)

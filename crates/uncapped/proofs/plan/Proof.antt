@@ -1,73 +1,28 @@
--- `uncapped::plan` meets its contract: the tests decide between the refusal and the work. Assumes nothing.
-use mathlib.Core.Path.{_≡_, refl}
-use mathlib.Core.Option.{Option, none}
+-- `uncapped::plan` meets its contract: a refusal of the tests, or the work. Assumes nothing.
+use mathlib.Core.Path.{refl}
 use borrow.Author.Needs.{needs}
-use Rattle.day.specs.declared.Refusal.{Refusal}
-use Rattle.day.specs.Day.{dayOf}
-use Rattle.day.specs.Paths.{refusal, uncapped}
-use Rattle.checks.specs.Passed.{passed, refused}
+use Rattle.day.specs.Tests.{is-gives, passed, refused}
+use Rattle.checks.specs.Passed.{admitted}
 use Rattle.uncapped.proofs.plan.Statement.{statement}
 use Rattle.uncapped.proofs.plan.Tie as tie
 
--- the call's first refusal, from the place after the tests
-abbrev tested : tie.After-test → Option Refusal
-tested c =
-    let a = c .before .before .before .before .before .before .before .before .before .before .before .before .args in
-    refusal uncapped (dayOf (a .demand .now) (a .capacity .now) (a .setup .now) (a .unit .now) (a .holding .now))
-    (record { costs = a .costs .now; choices = a .choices .now; slots = a .slots .now })
-
-accepted : (c : tie.After-enum-told) → tested (c .before .before) ≡ none
-accepted c = passed (tested (c .before .before)) (c .before .before .test .ensures) (c .enum-told .given .1)
-
-test-requires : tie.Need-test-requires
-test-requires c κs = search needs
-
-enum-known-r : tie.Need-enum-known-r
-enum-known-r c = search needs
-
-same-length : tie.Need-same-length
-same-length c = search needs
-
-same-length-2 : tie.Need-same-length-2
-same-length-2 c = search needs
-
-same-length-3 : tie.Need-same-length-3
-same-length-3 c = search needs
-
 returns : tie.Need-returns
-returns c = let p = c .before .before .before in (refused (tested p) (p .test .ensures) (c .before .r .given .1), refl)
-
-enum-told : tie.Need-enum-told
-enum-told c = search needs
+returns c = (is-gives (refused _ (c .before .before .before .path .ensures) (c .before .r .given .1)), refl)
 
 work-requires : tie.Need-work-requires
-work-requires c κs = accepted (c .before .before .before)
-
-same-length-4 : tie.Need-same-length-4
-same-length-4 c = search needs
-
-same-length-5 : tie.Need-same-length-5
-same-length-5 c = search needs
-
-same-length-6 : tie.Need-same-length-6
-same-length-6 c = search needs
+work-requires c κs =
+    let told = c .before .before .before in
+    admitted _ _ _ (passed _ (told .before .before .path .ensures) (told .enum-told .given .1))
 
 returns-2 : tie.Need-returns-2
-returns-2 c = (accepted (c .before .before .before .before .before .before .before .before .before .before), c .before .before .before .before .before .before .work .ensures)
+returns-2 c =
+    let called = c .before .before .before .before .before .before in
+    let told = called .before .before .before .before in
+    (passed _ (told .before .before .path .ensures) (told .enum-told .given .1), called .work .ensures)
 
 pub plan-spec : {M : Type 1} → statement M
 plan-spec =
     tie.close
     (tie.spec
-    test-requires
-    enum-known-r
-    same-length
-    same-length-2
-    same-length-3
-    returns
-    enum-told
-    work-requires
-    same-length-4
-    same-length-5
-    same-length-6
-    returns-2)
+    (λ c κs. search needs) (λ c. search needs) returns (λ c. search needs) work-requires (λ c. search needs) (λ c. search needs)
+    (λ c. search needs) returns-2)

@@ -1,106 +1,85 @@
 -- `uncapped::work` meets its contract: the tests leave what each step asks, and the steps what an accepted call leaves. Assumes nothing.
-use mathlib.Core.Path.{refl, _∙_}
-use Prim.Native.Nat.{_+_}
+use mathlib.Core.Path.{ap}
 use native.Mathlib.Omega.{arith}
 use borrow.Author.Needs.{needs}
-use lib.ListN.{length, length-set}
-use lib.Seq.{getD-set-same}
-use Rattle.day.specs.Day.{Day, dayOf, periods}
-use Rattle.day.specs.Outcome.{Memory}
-use Rattle.checks.specs.Passed.{Enough}
-use Rattle.uncapped.specs.Bounds.{Fitting}
-use Rattle.uncapped.proofs.Entry.{accepted-fits, accepted-enough, work-accepted}
+use Rattle.day.specs.declared.Totals.{Totals}
+use Rattle.day.specs.Day.{Day, dayOf}
+use Rattle.day.specs.Outcome.{Memory, memoryOf}
+use Rattle.uncapped.proofs.Entry.{loops-bounded, slots-optimal, work-accepted}
 use Rattle.uncapped.proofs.work.Statement.{statement}
 use Rattle.uncapped.proofs.work.Tie as tie
+
+-- the places of the steps, each from a later one
+abbrev at-start : tie.After-slice-known3 → tie.Start
+at-start c = c .before .before .before .before .before .before .before .before
+
+abbrev at-fill : tie.After-read-back → tie.After-fill
+at-fill c = c .before .before .before .before .before .before .before
+
+abbrev at-read-back : tie.After-clear-costs → tie.After-read-back
+at-read-back c = c .before .before .before .before
+
+abbrev at-clear-costs : tie.After-clear-choices → tie.After-clear-costs
+at-clear-costs c = c .before .before .before .before
+
+abbrev begun : tie.After-fill → tie.Start
+begun c = at-start (c .before .before .before)
 
 abbrev given : tie.Start → Day
 given s = let a = s .args in dayOf (a .demand .now) (a .capacity .now) (a .setup .now) (a .unit .now) (a .holding .now)
 
 abbrev lent : tie.Start → Memory
-lent s = let a = s .args in record { costs = a .costs .now; choices = a .choices .now; slots = a .slots .now }
-
-fits : (s : tie.Start) → Fitting (given s)
-fits s = accepted-fits (given s) (lent s) (s .pre)
-
-enough : (s : tie.Start) → let m = lent s in let n = periods (given s) in Enough (length (m .costs)) (n + 1) (length (m .choices)) (n + 1) (length (m .slots)) n
-enough s = accepted-enough (given s) (lent s) (s .pre)
-
-slice-write-costs : tie.Need-slice-write-costs
-slice-write-costs c = omega (arith, enough (c .before .before .before .before .before .before .before .before))
+lent s = let a = s .args in memoryOf (a .costs .now) (a .choices .now) (a .slots .now)
 
 fill-requires : tie.Need-fill-requires
 fill-requires c κs =
-    let s = c .before .before .before .before .before .before .before .before .before .before in
-    let e = enough s in
-    (fits s, ((simp length-set (omega arith), omega arith), getD-set-same (s .args .costs .now) 0 0 0 (omega arith)))
+    let s = at-start (c .before .before) in
+    record {
+      bounded = loops-bounded (given s) (lent s) (s .pre);
+      cost-cells = omega (arith, s .pre .room .costs);
+      choice-cells = omega (arith, s .pre .room .choices);
+    }
 
 read-back-requires : tie.Need-read-back-requires
 read-back-requires c κs =
-    let s = c .before .before .before .before .before .before .before .before .before .before .before .before .before .before .before .before .before in
-    let e = enough s in
-    let f = c .before .before .before .before .before .before .fill .ensures in
-    (fits s, ((omega (arith, f .choices-size), e .slot), f .lots))
+    let f = c .before .before .before .before .before .before in
+    let s = begun f in
+    record {
+      cells = omega (arith, s .pre .room .choices, f .fill .kept);
+      room = s .pre .room .slots;
+      small = s .pre .day .total;
+      begins = f .fill .ensures .begins;
+    }
 
-mul-t21 : tie.Need-mul-t21
-mul-t21 c = omega (arith, fits (c .before .before .before .before .before .before .before .before .before .before .before .before .before .before .before .before .before .before .before .before) .few)
-
-slice-read-t23 : tie.Need-slice-read-t23
-slice-read-t23 c =
-    let e = enough (c .before .before .before .before .before .before .before .before .before .before .before .before .before .before .before .before .before .before .before .before .before) in
-    let f = c .before .before .before .before .before .before .before .before .before .before .fill .ensures in
-    omega (arith, f .costs-size, length-set (c .before .before .before .before .before .before .before .before .before .before .before .before .before .before .before .before .before .before .before .before .before .args .costs .now) 0 0)
-
-count-requires : tie.Need-count-requires
-count-requires c κs =
-    let e = enough (c .before .before .before .before .before .before .before .before .before .before .before .before .before .before .before .before .before .before .before .before .before .before) in
-    omega (arith, c .before .before .before .before .read-back .kept .1 .1 .1 .1 .1 .1 .0)
-
-add-clear-costs : tie.Need-add-clear-costs
-add-clear-costs c = search needs
-
-clear-costs-requires : tie.Need-clear-costs-requires
-clear-costs-requires c κs =
-    let e = enough (c .before .before .before .before .before .before .before .before .before .before .before .before .before .before .before .before .before .before .before .before .before .before .before .before) in
-    let f = c .before .before .before .before .before .before .before .before .before .before .before .before .before .fill .ensures in
-    omega (arith, f .costs-size, length-set (c .before .before .before .before .before .before .before .before .before .before .before .before .before .before .before .before .before .before .before .before .before .before .before .before .args .costs .now) 0 0)
-
-add-clear-choices : tie.Need-add-clear-choices
-add-clear-choices c = search needs
-
-clear-choices-requires : tie.Need-clear-choices-requires
-clear-choices-requires c κs =
-    let e = enough (c .before .before .before .before .before .before .before .before .before .before .before .before .before .before .before .before .before .before .before .before .before .before .before .before .before .before .before .before) in
-    omega (arith, c .before .before .before .before .before .before .before .before .before .before .before .before .before .before .before .before .before .fill .ensures .choices-size)
-
-same-length : tie.Need-same-length
-same-length c = c .before .before .before .before .before .before .clear-costs .kept .0 ∙ c .before .before .before .before .before .before .before .before .before .before .before .before .before .before .before .before .before .before .before .before .fill .ensures .costs-size ∙ length-set (c .before .before .before .before .before .before .before .before .before .before .before .before .before .before .before .before .before .before .before .before .before .before .before .before .before .before .before .before .before .before .before .args .costs .now) 0 0
-
-same-length-2 : tie.Need-same-length-2
-same-length-2 c = search needs
-
-same-length-3 : tie.Need-same-length-3
-same-length-3 c = search needs
+totals-requires : tie.Need-totals-requires
+totals-requires c κs =
+    let q = at-read-back (at-clear-costs (c .before .before .before)) in
+    let f = at-fill q in
+    let s = begun f in
+    record {
+      weighable = record {
+        few = s .pre .day .limits .few;
+        lengths = s .pre .day .limits .lengths;
+        amounts = omega (arith, s .pre .room .slots, q .read-back .kept);
+      };
+      feasible = slots-optimal (given s) (lent s) (s .pre) _ _ _ (f .fill .ensures) (q .read-back .ensures) .feasible;
+    }
 
 returns : tie.Need-returns
 returns c =
-    let s = c .before .before .before .before .before .before .before .before .before .before .before .before .before .before .before .before .before .before .before .before .before .before .before .before .before .before .before .before .before .before .before in
-    work-accepted (given s) (lent s) (s .pre) _ _ _ _ _ _ (c .before .before .before .before .before .before .before .before .before .before .before .before .before .before .before .before .before .before .before .before .fill .ensures) (c .before .before .before .before .before .before .before .before .before .before .before .before .before .read-back .ensures) refl (c .before .before .before .before .before .before .before .before .count .ensures) (c .before .before .before .before .before .before .clear-costs .ensures) (c .before .before .clear-choices .ensures)
+    let z = c .before .before .before .before in
+    let y = at-clear-costs z in
+    let q = at-read-back y in
+    let f = at-fill q in
+    let s = begun f in
+    let e = c .totals .ensures in
+    work-accepted (given s) (lent s) (s .pre) _ _ _ (f .fill .ensures) (q .read-back .ensures) _ _ _
+    (record { cost = ap (λ (t : Totals). t .cost) e; setups = ap (λ (t : Totals). t .setups) e })
+    (y .clear-costs .ensures) (z .clear-choices .ensures)
 
 pub work-spec : {M : Type 1} → statement M
 work-spec =
     tie.close
     (tie.spec
-    slice-write-costs
-    fill-requires
-    read-back-requires
-    mul-t21
-    slice-read-t23
-    count-requires
-    add-clear-costs
-    clear-costs-requires
-    add-clear-choices
-    clear-choices-requires
-    same-length
-    same-length-2
-    same-length-3
-    returns)
+    fill-requires read-back-requires (λ c. search needs) (λ c κs. search needs) (λ c. search needs) (λ c κs. search needs)
+    totals-requires (λ c. search needs) (λ c. search needs) (λ c. search needs) returns)

@@ -3,92 +3,43 @@
 use native.Mathlib.Numerals.{add-one}
 use native.Mathlib.Omega.{arith}
 use borrow.Author.Needs.{needs}
-use denote.Ref.{now}
 use Rattle.day.specs.Sums.{at}
-use Rattle.day.specs.Day.{dayOf}
-use Rattle.weigher.specs.Walk.{step-is}
+use Rattle.day.specs.Day.{Day, dayOf}
+use Rattle.weigher.specs.Walk.{ruling-is}
 use Rattle.weigher.proofs.Bounds.{Wide, sums-low}
 use Rattle.weigher.proofs.advance.Statement.{statement}
 use Rattle.weigher.proofs.advance.Tie as tie
 
-wide : (c : tie.After-shared-slice-known6) → let a = c .before .before .before .before .before .before .args in Wide (dayOf (now (a .demand)) (now (a .capacity)) (now (a .setup)) (now (a .unit)) (now (a .holding))) (at (now (a .plan)))
+abbrev tables : tie.Start → Day
+tables c = let a = c .args in dayOf (a .demand .now) (a .capacity .now) (a .setup .now) (a .unit .now) (a .holding .now)
+
+abbrev at-start : tie.After-shared-slice-known6 → tie.Start
+at-start c = c .before .before .before .before .before .before
+
+wide : (c : tie.After-shared-slice-known6) → Wide (tables (at-start c)) (at (at-start c .args .plan .now))
 wide c = record {
-  demand = λ k. omega (arith, c .before .before .before .before .before .shared-slice-known .given k);
-  setup = λ k. omega (arith, c .before .before .before .shared-slice-known3 .given k);
-  unit = λ k. omega (arith, c .before .before .shared-slice-known4 .given k);
-  holding = λ k. omega (arith, c .before .shared-slice-known5 .given k);
-  amount = λ k. omega (arith, c .shared-slice-known6 .given k);
+  demand = c .before .before .before .before .before .shared-slice-known .given;
+  setup = c .before .before .before .shared-slice-known3 .given;
+  unit = c .before .before .shared-slice-known4 .given;
+  holding = c .before .shared-slice-known5 .given;
+  amount = c .shared-slice-known6 .given;
 }
-
-mul-judge : tie.Need-mul-judge
-mul-judge c = search needs
-
-shared-slice-read-judge : tie.Need-shared-slice-read-judge
-shared-slice-read-judge c = search needs
-
-mul-t13 : tie.Need-mul-t13
-mul-t13 c = search needs
-
-shared-slice-read-t15 : tie.Need-shared-slice-read-t15
-shared-slice-read-t15 c = search needs
-
-mul-t16 : tie.Need-mul-t16
-mul-t16 c = search needs
-
-shared-slice-read-t18 : tie.Need-shared-slice-read-t18
-shared-slice-read-t18 c = search needs
-
-mul-t19 : tie.Need-mul-t19
-mul-t19 c = search needs
-
-shared-slice-read-t21 : tie.Need-shared-slice-read-t21
-shared-slice-read-t21 c = search needs
-
-mul-t22 : tie.Need-mul-t22
-mul-t22 c = search needs
-
-shared-slice-read-t24 : tie.Need-shared-slice-read-t24
-shared-slice-read-t24 c = search needs
-
-mul-judge-2 : tie.Need-mul-judge-2
-mul-judge-2 c = search needs
-
-shared-slice-read-judge-2 : tie.Need-shared-slice-read-judge-2
-shared-slice-read-judge-2 c = search needs
-
-add-judge : tie.Need-add-judge
-add-judge c = search needs
 
 judge-requires : tie.Need-judge-requires
 judge-requires c κs =
-    let start = c .before .before .before .before .before .before in
-    let entry = start .before .before .before .before .before .before in
-    rw (entry .pre .sums) (sums-low _ _ (wide start) (entry .args .i) (omega arith))
+    let known = c .before .before .before .before .before .before in
+    let start = at-start known in
+    rw (start .pre .sums) (sums-low _ _ (wide known) (start .args .i) (omega arith))
 
 returns : tie.Need-returns
 returns c =
-    let entry = c .before .before .before .before .before .before .before .before .before .before .before .before .before in
-    let a = entry .args in
-    rw
-    (c .judge .ensures, add-one, entry .pre .sums)
-    (step-is (dayOf (now (a .demand)) (now (a .capacity)) (now (a .setup)) (now (a .unit)) (now (a .holding))) (at (now (a .plan))) (a .i))
+    let start = at-start (c .before .before .before .before .before .before .before) in
+    rw (c .judge .ensures, add-one, start .pre .sums) (ruling-is (tables start) (at (start .args .plan .now)) (start .args .i))
 
 pub advance-spec : {M : Type 1} → statement M
 advance-spec =
     tie.close
     (tie.spec
-    mul-judge
-    shared-slice-read-judge
-    mul-t13
-    shared-slice-read-t15
-    mul-t16
-    shared-slice-read-t18
-    mul-t19
-    shared-slice-read-t21
-    mul-t22
-    shared-slice-read-t24
-    mul-judge-2
-    shared-slice-read-judge-2
-    add-judge
-    judge-requires
-    returns)
+    (λ c. search needs) (λ c. search needs) (λ c. search needs) (λ c. search needs) (λ c. search needs) (λ c. search needs)
+    (λ c. search needs) (λ c. search needs) (λ c. search needs) (λ c. search needs) (λ c. search needs) (λ c. search needs)
+    (λ c. search needs) judge-requires returns)

@@ -1,106 +1,53 @@
--- `weigher::compare` meets its contract: what the two weighings answer, taken apart. Assumes nothing.
-use mathlib.Core.Path.{_≡_, refl, sym, _∙_}
-use native.Mathlib.Omega.{arith}
-use borrow.Author.Needs.{needs}
-use Prim.Native.Nat.{ℕ, _^_, _<_}
+-- `weigher::compare` meets its contract: the costs of both answers fit by the widths of the tables. Assumes nothing.
 use mathlib.Core.List.{List}
+use Prim.Native.Nat.{ℕ}
+use mir.Syntax.{w16}
+use mir.Val.{Fits}
+use borrow.Author.Needs.{needs}
 use Rattle.day.specs.Sums.{at}
 use Rattle.day.specs.Day.{Day, dayOf}
 use Rattle.weigher.specs.declared.Weighed.{Weighed}
-use Rattle.weigher.specs.Answers.{weighedOf, compareOf, comparedOf}
-use Rattle.weigher.proofs.Bounds.{Wide, judged-small}
+use Rattle.weigher.specs.Answers.{Weighs, weighs-is, compares}
+use Rattle.weigher.specs.Walk.{Signed}
+use Rattle.weigher.proofs.Bounds.{weighed-signed}
 use Rattle.weigher.proofs.compare.Statement.{statement}
 use Rattle.weigher.proofs.compare.Tie as tie
 
--- the day, from the place before the first call; its entries fit their widths
+abbrev at-start : tie.After-shared-slice-known7 → tie.Start
+at-start c = c .before .before .before .before .before .before .before
+
 abbrev tables : tie.After-shared-slice-known7 → Day
-tables c =
-    let a = c .before .before .before .before .before .before .before .args in
-    dayOf (a .demand .now) (a .capacity .now) (a .setup .now) (a .unit .now) (a .holding .now)
+tables c = let a = at-start c .args in dayOf (a .demand .now) (a .capacity .now) (a .setup .now) (a .unit .now) (a .holding .now)
 
-wide : (c : tie.After-shared-slice-known7) (plan : List ℕ) → ((k : ℕ) → at plan k < 2 ^ 16) → Wide (tables c) (at plan)
-wide c plan h = record {
-  demand = λ k. omega (arith, c .before .before .before .before .before .before .shared-slice-known .given k);
-  setup = λ k. omega (arith, c .before .before .before .before .shared-slice-known3 .given k);
-  unit = λ k. omega (arith, c .before .before .before .shared-slice-known4 .given k);
-  holding = λ k. omega (arith, c .before .before .shared-slice-known5 .given k);
-  amount = h;
-}
+signed : (c : tie.After-shared-slice-known7) (plan : List ℕ) (w : Weighed) → ((k : ℕ) → Fits w16 (at plan k)) → Weighs (tables c) plan w → Signed w
+signed c plan w amount promised =
+    rw (weighs-is (tables c) plan w promised)
+    (weighed-signed
+    (tables c)
+    plan
+    (record {
+      demand = c .before .before .before .before .before .before .shared-slice-known .given;
+      setup = c .before .before .before .before .shared-slice-known3 .given;
+      unit = c .before .before .before .shared-slice-known4 .given;
+      holding = c .before .before .shared-slice-known5 .given;
+      amount = amount;
+    }))
 
-abbrev plan : tie.After-shared-slice-known7 → List ℕ
-plan c = c .before .before .before .before .before .before .before .args .plan .now
-
-abbrev other : tie.After-shared-slice-known7 → List ℕ
-other c = c .before .before .before .before .before .before .before .args .other .now
-
--- two answers, and what they turned out to be
-taken-apart : (d : Day) (x y : List ℕ) {o p v w : Weighed} → o ≡ weighedOf d x → o ≡ v → p ≡ weighedOf d y → p ≡ w → compareOf v w ≡ comparedOf d x y
-taken-apart d x y is e is′ e′ = λ i. compareOf ((sym e ∙ is) i) ((sym e′ ∙ is′) i)
-
-weigh-requires : tie.Need-weigh-requires
-weigh-requires c κs = search needs
-
-enum-known-r : tie.Need-enum-known-r
-enum-known-r c = search needs
-
-enum-known-v : tie.Need-enum-known-v
-enum-known-v c = search needs
-
-weigh-requires-2 : tie.Need-weigh-requires-2
-weigh-requires-2 c κs = search needs
-
-enum-known-r-2 : tie.Need-enum-known-r-2
-enum-known-r-2 c = search needs
-
-enum-known-w : tie.Need-enum-known-w
-enum-known-w c = search needs
-
-between-requires : tie.Need-between-requires
-between-requires c κs =
-    let second = c .before .before .before in
-    let first = second .before .before .before .before in
-    let entry = first .before in (
-      judged-small (tables entry) (plan entry) (wide entry (plan entry) (λ k. omega (arith, entry .before .shared-slice-known6 .given k)))
-          (first .weigh .ensures)
-          (second .before .before .v .given .1),
-      judged-small (tables entry) (other entry) (wide entry (other entry) (λ k. omega (arith, entry .shared-slice-known7 .given k)))
-          (second .weigh2 .ensures)
-          (c .before .w .given .1),
+comparison-requires : tie.Need-comparison-requires
+comparison-requires c κs =
+    let known = c .before .before in
+    let a = at-start known .args in (
+      signed known (a .plan .now) (c .before .weigh .result) (known .before .shared-slice-known6 .given) (c .before .weigh .ensures),
+      signed known (a .other .now) (c .weigh2 .result) (known .shared-slice-known7 .given) (c .weigh2 .ensures),
     )
 
 returns : tie.Need-returns
 returns c =
-    let first = c .before .before .before in
-    let entry = first .before in
-    taken-apart (tables entry) (plan entry) (other entry) (first .weigh .ensures) (c .before .r .given .1) refl refl
-
-returns-2 : tie.Need-returns-2
-returns-2 c =
-    let second = c .before .before .before in
-    let first = second .before .before .before .before in
-    let entry = first .before in
-    taken-apart (tables entry) (plan entry) (other entry) (first .weigh .ensures) (second .before .before .v .given .1) (second .weigh2 .ensures) (c .before .r2 .given .1)
-
-returns-3 : tie.Need-returns-3
-returns-3 c =
-    let second = c .before .before .before .before in
-    let first = second .before .before .before .before in
-    let entry = first .before in
-    rw
-    (c .between .ensures)
-    (taken-apart (tables entry) (plan entry) (other entry) (first .weigh .ensures) (second .before .before .v .given .1) (second .weigh2 .ensures) (c .before .before .w .given .1))
+    let w = c .before .before in
+    let a = at-start (w .before) .args in
+    compares
+    (tables (w .before)) (a .plan .now) (a .other .now) (w .weigh .result) (c .before .weigh2 .result) (c .comparison .result)
+    (w .weigh .ensures) (c .before .weigh2 .ensures) (c .comparison .ensures)
 
 pub compare-spec : {M : Type 1} → statement M
-compare-spec =
-    tie.close
-    (tie.spec
-    weigh-requires
-    enum-known-r
-    enum-known-v
-    weigh-requires-2
-    enum-known-r-2
-    enum-known-w
-    between-requires
-    returns
-    returns-2
-    returns-3)
+compare-spec = tie.close (tie.spec (λ c κs. search needs) (λ c κs. search needs) comparison-requires returns)

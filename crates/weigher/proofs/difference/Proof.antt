@@ -19,12 +19,6 @@ fits a b la lb = go _ (difference-right a b)
     go (pos (suc k)) e = record { sfits = omega arith }
     go (negsuc k) e = record { sfits = omega arith }
 
-cast-result : tie.Need-cast-result
-cast-result c = search needs
-
-cast-result-2 : tie.Need-cast-result-2
-cast-result-2 c = search needs
-
 sub-result : tie.Need-sub-result
 sub-result c = rw (toZ-pos w64 _ (c .pre .0), toZ-pos w64 _ (c .pre .1)) (fits _ _ (c .pre .0) (c .pre .1))
 
@@ -35,4 +29,4 @@ returns c =
     (toZ-ofZ w64 _ (fits _ _ (c .pre .0) (c .pre .1)))
 
 pub difference-spec : {M : Type 1} → statement M
-difference-spec = tie.close (tie.spec cast-result cast-result-2 sub-result returns)
+difference-spec = tie.close (tie.spec (λ c. search needs) (λ c. search needs) sub-result returns)

@@ -7,12 +7,12 @@ use borrow.Author.Needs.{needs}
 use lib.ListN.{length}
 use Rattle.day.specs.Sums.{at}
 use Rattle.day.specs.Day.{dayOf}
-use Rattle.weigher.proofs.Walked.{Walked, walked-more, walked-broken, walked-through}
+use Rattle.weigher.proofs.Walking.{Walking, walking-more, walking-broken, walking-through}
 use Rattle.weigher.proofs.walk.Statement.{statement}
 use Rattle.weigher.proofs.walk.Tie as tie
 
 abbrev Inv-loop : tie.InvT-loop
-Inv-loop demand capacity setup unit holding plan s₀ i₀ s i = Walked (dayOf demand capacity setup unit holding) (at plan) i s
+Inv-loop demand capacity setup unit holding plan s₀ i₀ s i = Walking (dayOf demand capacity setup unit holding) (at plan) i s
 
 abbrev μ-loop : tie.MeasureT-loop
 μ-loop demand capacity setup unit holding plan s₀ i₀ s i = length demand - i
@@ -20,50 +20,31 @@ abbrev μ-loop : tie.MeasureT-loop
 loop-holds : tie.Need-loop-holds Inv-loop μ-loop
 loop-holds c = record { inside = search needs; sums = refl; kept = refl }
 
+abbrev at-start : tie.At-loop Inv-loop μ-loop → tie.Start Inv-loop μ-loop
+at-start c = c .before .before .before .before .before .before .before
+
 advance-requires : tie.Need-advance-requires Inv-loop μ-loop
-advance-requires c κs = record { ready = c .before .before .before .before .before .before .before .before .pre; inside = c .loop-test .taken; sums = c .before .loop .inv .sums }
-
-enum-known-rule : tie.Need-enum-known-rule Inv-loop μ-loop
-enum-known-rule c = search needs
-
-add-t14 : tie.Need-add-t14 Inv-loop μ-loop
-add-t14 c = search needs
+advance-requires c κs =
+    record { weighable = at-start (c .before) .pre; inside = c .loop-test .taken; sums = c .before .loop .inv .sums }
 
 returns : tie.Need-returns Inv-loop μ-loop
 returns c =
-    let called = c .before .before .before in
-    rw add-one (walked-broken (called .before .before .loop .inv) (called .before .loop-test .taken) (called .advance .ensures) (c .before .rule .given .1))
-
-enum-known-t : tie.Need-enum-known-t Inv-loop μ-loop
-enum-known-t c = search needs
-
-add-i : tie.Need-add-i Inv-loop μ-loop
-add-i c = search needs
-
-loop-less : tie.Need-loop-less Inv-loop μ-loop
-loop-less c = search needs
+    let ruled = c .before .before .before in
+    let turn = ruled .before in
+    rw add-one (walking-broken (turn .before .loop .inv) (turn .loop-test .taken) (ruled .advance .ensures) (c .before .rule .given .1))
 
 loop-again : tie.Need-loop-again Inv-loop μ-loop
 loop-again c =
-    let called = c .before .before .before in
-    rw add-one (walked-more (called .before .before .loop .inv) (called .before .loop-test .taken) (called .advance .ensures) (c .before .t .given .1))
+    let ruled = c .before .before .before in
+    let turn = ruled .before in
+    rw add-one (walking-more (turn .before .loop .inv) (turn .loop-test .taken) (ruled .advance .ensures) (c .before .t .given .1))
 
 returns-2 : tie.Need-returns-2 Inv-loop μ-loop
-returns-2 c = walked-through (c .before .loop .inv) (c .loop-test .left)
+returns-2 c = walking-through (c .before .loop .inv) (c .loop-test .left)
 
 pub walk-spec : {M : Type 1} → statement M
 walk-spec =
     tie.close
     (tie.spec
-    Inv-loop
-    μ-loop
-    loop-holds
-    advance-requires
-    enum-known-rule
-    add-t14
-    returns
-    enum-known-t
-    add-i
-    loop-less
-    loop-again
-    returns-2)
+    Inv-loop μ-loop loop-holds advance-requires (λ c. search needs) (λ c. search needs) (λ c. search needs) returns
+    (λ c. search needs) (λ c. search needs) (λ c. search needs) loop-again returns-2)

@@ -10,17 +10,11 @@ use Rattle.dayfile.proofs.layout.is_period.Tie as tie
 returns : tie.Need-returns
 returns c = simp (List·getD-eq-default {A = ℕ} (now (c .before .before .args .file)) 0 (c .if1 .taken))
 
-shared-slice-read-if2 : tie.Need-shared-slice-read-if2
-shared-slice-read-if2 c = search needs
-
 returns-2 : tie.Need-returns-2
 returns-2 c = simp (ne-eqb _ _ (c .if2 .taken))
-
-next-requires : tie.Need-next-requires
-next-requires c κs = search needs
 
 returns-3 : tie.Need-returns-3
 returns-3 c = simp (eq-eqb _ _ (c .before .if2 .left), c .next .ensures)
 
 pub is-period-spec : {M : Type 1} → statement M
-is-period-spec = tie.close (tie.spec returns shared-slice-read-if2 returns-2 next-requires returns-3)
+is-period-spec = tie.close (tie.spec returns (λ c. search needs) returns-2 (λ c κs. search needs) returns-3)

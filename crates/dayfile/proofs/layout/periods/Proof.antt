@@ -1,69 +1,46 @@
--- `dayfile::layout::periods` meets its contract: the walk's refusal, or that of the count after it. Assumes nothing.
-use mathlib.Core.Path.{_≡_, refl}
-use mathlib.Core.List.{List}
-use mathlib.Core.Option.{none}
-use Prim.Native.Nat.{ℕ}
+-- `dayfile::layout::periods` meets its contract. The loop's invariant: it has passed n whole periods and stands where record n begins.
+-- The measure is what is left of the file. Assumes nothing.
+use mathlib.Core.Path.{sym, _∙_}
+use Prim.Native.Nat.{_-_}
+use native.Mathlib.Omega.{arith}
+use native.Mathlib.Numerals.{add-one}
 use borrow.Author.Needs.{needs}
 use denote.Ref.{now}
-use Rattle.day.specs.Refusals.{badCount}
-use Rattle.day.specs.File.{walk, periodsIn}
-use Rattle.checks.specs.Passed.{passed, refused}
-use Rattle.dayfile.specs.Passed.{answered-refused, answered-periods}
+use lib.ListN.{length}
+use Rattle.dayfile.specs.Layout.{WholePeriod, Walked, walked-none, walked-more, walked-end, period}
 use Rattle.dayfile.proofs.layout.periods.Statement.{statement}
 use Rattle.dayfile.proofs.layout.periods.Tie as tie
 
-abbrev file : tie.After-walk → List ℕ
-file c = now (c .before .before .args .file)
+abbrev Inv-loop : tie.InvT-loop
+Inv-loop file at₀ n₀ at n = Walked file n at
 
--- the walk met no fault, and gave the count
-walked : (c : tie.After-count) → (walk (file (c .before .before .before .before)) ≡ none) × (c .before .before .n .given .0 .0 ≡ periodsIn (file (c .before .before .before .before)))
-walked c = answered-periods _ _ (c .before .before .before .before .walk .ensures) (c .before .before .n .given .1)
+abbrev μ-loop : tie.MeasureT-loop
+μ-loop file at₀ n₀ at n = length file - at
 
-walk-requires : tie.Need-walk-requires
-walk-requires c κs = search needs
+loop-holds : tie.Need-loop-holds Inv-loop μ-loop
+loop-holds c = walked-none _
 
-enum-known-r : tie.Need-enum-known-r
-enum-known-r c = search needs
+-- in a turn a whole period stands here
+turn : (c : tie.Then1 Inv-loop μ-loop) → WholePeriod (now (c .before .before .before .before .args .file)) (c .before .before .loop .at)
+turn c = period _ _ (sym (c .before .is-period .ensures) ∙ c .if1 .taken)
 
-enum-known-n : tie.Need-enum-known-n
-enum-known-n c = search needs
+next-requires : tie.Need-next-requires Inv-loop μ-loop
+next-requires c κs = omega (arith, turn c .whole)
 
-count-requires : tie.Need-count-requires
-count-requires c κs = search needs
+add-n : tie.Need-add-n Inv-loop μ-loop
+add-n c = omega (arith, turn (c .before) .whole)
 
-enum-known-r-2 : tie.Need-enum-known-r-2
-enum-known-r-2 c = search needs
+loop-less : tie.Need-loop-less Inv-loop μ-loop
+loop-less c = omega (arith, turn (c .before) .whole, c .next .ensures)
 
-enum-told : tie.Need-enum-told
-enum-told c = search needs
+loop-again : tie.Need-loop-again Inv-loop μ-loop
+loop-again c =
+    rw (add-one, c .next .ensures)
+    (walked-more _ _ _ (c .before .before .before .loop .inv) (sym (c .before .before .is-period .ensures) ∙ c .before .if1 .taken))
 
-returns : tie.Need-returns
+returns : tie.Need-returns Inv-loop μ-loop
 returns c =
-    let p = c .before .before .before in
-    rw (answered-refused (walk (file p)) (periodsIn (file p)) (p .walk .ensures) (c .before .r .given .1)) refl
-
-returns-2 : tie.Need-returns-2
-returns-2 c =
-    let p = c .before .before .before in
-    let w = walked p in
-    rw (w .0, ← w .1, refused (badCount (p .before .before .n .given .0 .0)) (p .count .ensures) (c .before .r2 .given .1)) refl
-
-returns-3 : tie.Need-returns-3
-returns-3 c =
-    let p = c .before .before in
-    let w = walked p in
-    rw (w .0, ← w .1, passed (badCount (p .before .before .n .given .0 .0)) (p .count .ensures) (c .enum-told .given .1)) refl
+    sym (walked-end _ _ _ (c .before .before .loop .inv) (sym (c .before .is-period .ensures) ∙ c .if1 .left))
 
 pub periods-spec : {M : Type 1} → statement M
-periods-spec =
-    tie.close
-    (tie.spec
-    walk-requires
-    enum-known-r
-    enum-known-n
-    count-requires
-    enum-known-r-2
-    enum-told
-    returns
-    returns-2
-    returns-3)
+periods-spec = tie.close (tie.spec Inv-loop μ-loop loop-holds (λ c κs. search needs) next-requires add-n loop-less loop-again returns)

@@ -23,12 +23,6 @@ next-requires : tie.Need-next-requires Inv-loop μ-loop
 next-requires c κs =
     omega (arith, period-at (now (c .before .before .before .args .file)) (c .before .loop .k) (omega arith) .whole)
 
-add-k : tie.Need-add-k Inv-loop μ-loop
-add-k c = omega arith
-
-loop-less : tie.Need-loop-less Inv-loop μ-loop
-loop-less c = omega arith
-
 loop-again : tie.Need-loop-again Inv-loop μ-loop
 loop-again c = (omega arith, rw (add-one, c .next .ensures, c .before .before .loop .inv .1) refl)
 
@@ -36,4 +30,4 @@ returns : tie.Need-returns Inv-loop μ-loop
 returns c = let e : c .before .loop .k ≡ c .before .before .before .args .i = omega arith in rw (← e) (c .before .loop .inv .1)
 
 pub record-at-spec : {M : Type 1} → statement M
-record-at-spec = tie.close (tie.spec Inv-loop μ-loop loop-holds next-requires add-k loop-less loop-again returns)
+record-at-spec = tie.close (tie.spec Inv-loop μ-loop loop-holds next-requires (λ c. omega arith) (λ c. omega arith) loop-again returns)

@@ -6,43 +6,29 @@ use native.Mathlib.Omega.{arith}
 use borrow.Author.Needs.{needs}
 use denote.Ref.{now}
 use Rattle.day.specs.File.{periodsIn}
-use Rattle.checks.specs.Passed.{passed, refused}
+use Rattle.day.specs.Figures.{checks-is}
+use Rattle.day.specs.Tests.{passed, refused}
 use Rattle.dayfile.specs.Answers.{badLookup}
 use Rattle.dayfile.specs.Passed.{lookup-passed}
 use Rattle.dayfile.specs.Layout.{period-at}
 use Rattle.dayfile.proofs.lookup.body.Statement.{statement}
 use Rattle.dayfile.proofs.lookup.body.Tie as tie
 
+abbrev start : tie.After-check → tie.Start
+start c = c .before .before
+
 -- past the check
-admitted : (c : tie.After-enum-told) → badLookup (now (c .before .before .before .before .args .file)) (c .before .before .before .before .args .period) ≡ none
-admitted c = passed _ (c .before .before .check .ensures) (c .enum-told .given .1)
+admitted : (c : tie.After-enum-told) → badLookup (now (start (c .before .before) .args .file)) (start (c .before .before) .args .period) ≡ none
+admitted c = passed _ (checks-is _ _ (c .before .before .check .ensures)) (c .enum-told .given .1)
 
-asked : (c : tie.After-enum-told) → (1 ≤ c .before .before .before .before .args .period) × (c .before .before .before .before .args .period ≤ periodsIn (now (c .before .before .before .before .args .file)))
-asked c = let a = c .before .before .before .before .args in lookup-passed (now (a .file)) (a .period) (admitted c)
-
-check-requires : tie.Need-check-requires
-check-requires c κs = search needs
-
-enum-told : tie.Need-enum-told
-enum-told c = search needs
-
-enum-told-2 : tie.Need-enum-told-2
-enum-told-2 c = search needs
-
-sub-result : tie.Need-sub-result
-sub-result c = search needs
-
-part-result-start : tie.Need-part-result-start
-part-result-start c = search needs
-
-part-result-end : tie.Need-part-result-end
-part-result-end c = search needs
+asked : (c : tie.After-enum-told) → let a = start (c .before .before) .args in (1 ≤ a .period) × (a .period ≤ periodsIn (now (a .file)))
+asked c = let a = start (c .before .before) .args in lookup-passed (now (a .file)) (a .period) (admitted c)
 
 returns : tie.Need-returns
 returns c =
     let p = c .before .before .before in
-    let a = p .before .before .args in
-    rw (refused (badLookup (now (a .file)) (a .period)) (p .check .ensures) (c .before .enum-told2 .given .1)) refl
+    let a = start p .args in
+    rw (refused (badLookup (now (a .file)) (a .period)) (checks-is _ _ (p .check .ensures)) (c .before .enum-told2 .given .1)) refl
 
 sub-record-at : tie.Need-sub-record-at
 sub-record-at c = asked c .0
@@ -52,7 +38,7 @@ record-at-requires c κs = omega (arith, asked c)
 
 body-requires : tie.Need-body-requires
 body-requires c κs =
-    let a = c .before .before .before .before .before .args in
+    let a = start (c .before .before .before) .args in
     let w = period-at (now (a .file)) (a .period - 1) (omega (arith, asked (c .before))) in
     rw (c .record-at .ensures) (omega (arith, w .whole), w .whole)
 
@@ -63,14 +49,5 @@ pub body-spec : {M : Type 1} → statement M
 body-spec =
     tie.close
     (tie.spec
-    check-requires
-    enum-told
-    enum-told-2
-    sub-result
-    part-result-start
-    part-result-end
-    returns
-    sub-record-at
-    record-at-requires
-    body-requires
-    returns-2)
+    (λ c κs. search needs) (λ c. search needs) (λ c. search needs) (λ c. search needs) (λ c. search needs) (λ c. search needs)
+    returns sub-record-at record-at-requires body-requires returns-2)

@@ -1,44 +1,40 @@
 -- `dayfile::lookup::check` meets its contract: the file's refusal, or that of the period's number after it. Assumes nothing.
 use mathlib.Core.Path.{refl}
-use mathlib.Core.List.{[], _∷_}
+use mathlib.Core.List.{List, [], _∷_}
+use mathlib.Core.Option.{Option}
+use Prim.Native.Nat.{ℕ}
 use borrow.Author.Needs.{needs}
 use denote.Ref.{now}
+use Rattle.day.specs.declared.Refusal.{Refusal}
 use Rattle.day.specs.Refusals.{first}
+use Rattle.day.specs.Figures.{is-checks}
+use Rattle.day.specs.Tests.{passed, alone, group-refused, group-decides}
 use Rattle.day.specs.File.{periodsIn, noSuchPeriod}
-use Rattle.checks.specs.Passed.{first-passed, first-refused, first-one}
-use Rattle.dayfile.specs.Answers.{badFile}
-use Rattle.dayfile.specs.Passed.{answered-refused, answered-periods}
+use Rattle.dayfile.specs.Answers.{fileTests}
 use Rattle.dayfile.proofs.lookup.check.Statement.{statement}
 use Rattle.dayfile.proofs.lookup.check.Tie as tie
 
-periods-requires : tie.Need-periods-requires
-periods-requires c κs = search needs
+abbrev file : tie.After-tests → List ℕ
+file c = now (c .before .before .before .args .file)
 
-enum-known-r : tie.Need-enum-known-r
-enum-known-r c = search needs
-
-enum-known-n : tie.Need-enum-known-n
-enum-known-n c = search needs
-
-number-requires : tie.Need-number-requires
-number-requires c κs = search needs
+-- what is tested after the file
+abbrev named : tie.After-tests → Option Refusal
+named c = noSuchPeriod (periodsIn (file c)) (c .before .before .before .args .period)
 
 returns : tie.Need-returns
 returns c =
     let p = c .before .before .before in
-    let s = now (p .before .before .args .file) in
-    let e = answered-refused (first (badFile s [])) (periodsIn s) (p .periods .ensures) (c .before .r .given .1) in
-    rw (first-refused (badFile s []) (noSuchPeriod (periodsIn s) (p .before .before .args .period) ∷ []) e) refl
+    is-checks _ _ (group-refused [] (fileTests (file p)) refl (p .tests .ensures) (named p ∷ []) (c .before .r .given .1))
 
 returns-2 : tie.Need-returns-2
 returns-2 c =
-    let p = c .before .before .before .before in
-    let s = now (p .before .before .args .file) in
-    let w = answered-periods (first (badFile s [])) (periodsIn s) (p .periods .ensures) (c .before .before .n .given .1) in
-    let o = noSuchPeriod (periodsIn s) (p .before .before .args .period) in
-    rw (first-passed (badFile s []) (o ∷ []) (w .0), first-one o, ← w .1) (c .number .ensures)
+    let p = c .before .before .before in
+    let ok = passed (first (fileTests (file p))) (p .tests .ensures) (c .before .enum-told .given .1) in
+    let last = alone (named p) (rw (p .before .periods .ensures) at (c .number .ensures)) in
+    is-checks _ _ (group-decides (fileTests (file p)) (named p ∷ []) ok last)
 
 pub check-spec : {M : Type 1} → statement M
 check-spec =
     tie.close
-    (tie.spec periods-requires enum-known-r enum-known-n number-requires returns returns-2)
+    (tie.spec
+    (λ c κs. search needs) (λ c κs. search needs) (λ c. search needs) returns (λ c. search needs) (λ c κs. search needs) returns-2)

@@ -1,13 +1,19 @@
 -- `uncapped::rows::cheaper` meets its contract. Assumes nothing.
-use borrow.Author.Tests.{le-leb, lt-leb}
+use mathlib.Core.Path.{sym}
+use native.Mathlib.Decide.{decLe}
+use native.Mathlib.Omega.{arith}
+use Rattle.theory.specs.Basics.{pick-yes, pick-no}
+use Rattle.uncapped.specs.Rows.{better}
 use Rattle.uncapped.proofs.rows.cheaper.Statement.{statement}
 use Rattle.uncapped.proofs.rows.cheaper.Tie as tie
 
 returns : tie.Need-returns
-returns c = simp (le-leb _ _ (c .if1 .taken))
+unfolding better
+returns c = sym (pick-yes (decLe _ _) _ _ (c .if1 .taken))
 
 returns-2 : tie.Need-returns-2
-returns-2 c = simp (lt-leb _ _ (c .if1 .left))
+unfolding better
+returns-2 c = let h = c .if1 .left in sym (pick-no (decLe _ _) _ _ (λ l. omega arith))
 
 pub cheaper-spec : {M : Type 1} → statement M
 cheaper-spec = tie.close (tie.spec returns returns-2)

@@ -14,68 +14,28 @@ Inv-loop demand slots₀ from last made₀ k₀ slots made k = Putting demand sl
 abbrev μ-loop : tie.MeasureT-loop
 μ-loop demand slots₀ from last made₀ k₀ slots made k = k
 
-add-k : tie.Need-add-k Inv-loop μ-loop
-add-k c = omega arith
-
 loop-holds : tie.Need-loop-holds Inv-loop μ-loop
-loop-holds c = putting-none _ _ _ _ _ (add-one _) (c .pre .0 .0)
-
-sub-k : tie.Need-sub-k Inv-loop μ-loop
-sub-k c = omega arith
-
-mul-made : tie.Need-mul-made Inv-loop μ-loop
-mul-made c = omega arith
-
-shared-slice-read-made : tie.Need-shared-slice-read-made Inv-loop μ-loop
-shared-slice-read-made c = omega arith
+loop-holds c = putting-none _ _ _ _ (c .pre) _ (add-one _)
 
 add-made : tie.Need-add-made Inv-loop μ-loop
 add-made c =
     let t = c .before .before in
-    let q = t .before .pre in
-    omega (arith, putting-few _ _ _ _ _ _ _ (q .0 .1 .1) (t .loop .inv) (t .loop .k - 1) (omega arith) (q .0 .1 .0) (q .1))
-
-mul-slots : tie.Need-mul-slots Inv-loop μ-loop
-mul-slots c = omega arith
-
-slice-write-slots : tie.Need-slice-write-slots Inv-loop μ-loop
-slice-write-slots c = omega arith
-
-loop-less : tie.Need-loop-less Inv-loop μ-loop
-loop-less c = omega arith
+    omega (arith, putting-few _ _ _ _ (t .before .pre) _ _ _ (t .loop .inv) (t .loop .k - 1) (omega arith))
 
 loop-again : tie.Need-loop-again Inv-loop μ-loop
-loop-again c = let t = c .before .before in putting-more _ _ _ _ _ _ _ (t .before .pre .0 .1 .1) (t .loop .inv) (t .loop .k - 1) (omega arith) (c .before .loop-test .taken)
-
-mul-slots-2 : tie.Need-mul-slots-2 Inv-loop μ-loop
-mul-slots-2 c = omega arith
-
-slice-write-slots-2 : tie.Need-slice-write-slots-2 Inv-loop μ-loop
-slice-write-slots-2 c = omega arith
+loop-again c =
+    let t = c .before .before in
+    putting-more _ _ _ _ (t .before .pre) _ _ _ (t .loop .inv) (t .loop .k - 1) (omega arith) (c .before .loop-test .taken)
 
 same-length : tie.Need-same-length Inv-loop μ-loop
 same-length c = simp length-set (c .before .loop .inv .size)
 
 returns : tie.Need-returns Inv-loop μ-loop
-returns c = let t = c .before in putting-all _ _ _ _ _ _ _ (t .before .pre .0 .1 .1) (t .loop .inv) (t .before .pre .0 .0) (c .loop-test .left)
+returns c = let t = c .before in putting-all _ _ _ _ (t .before .pre) _ _ _ (t .loop .inv) (c .loop-test .left)
 
 pub put-lot-spec : {M : Type 1} → statement M
 put-lot-spec =
     tie.close
     (tie.spec
-    Inv-loop
-    μ-loop
-    add-k
-    loop-holds
-    sub-k
-    mul-made
-    shared-slice-read-made
-    add-made
-    mul-slots
-    slice-write-slots
-    loop-less
-    loop-again
-    mul-slots-2
-    slice-write-slots-2
-    same-length
-    returns)
+    Inv-loop μ-loop (λ c. omega arith) loop-holds (λ c. omega arith) (λ c. omega arith) (λ c. omega arith) add-made
+    (λ c. omega arith) (λ c. omega arith) (λ c. omega arith) loop-again (λ c. omega arith) (λ c. omega arith) same-length returns)

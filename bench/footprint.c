@@ -1,0 +1,102 @@
+/* How much stack each call of the library takes. A call runs on a stack of its own that was painted before; the deepest byte that
+ * lost its paint tells. Counted from the function that makes the call, so with arguments and return addresses. */
+#include <stdio.h>
+#include <string.h>
+#include <ucontext.h>
+#include "yakkurem.h"
+
+enum { PERIODS = 96, MOST = 4096, STACK = 1 << 18, FILE_BYTES = 17 * PERIODS + 3 };
+
+static uint16_t need[PERIODS], capacity[PERIODS], plan[PERIODS];
+static uint32_t start[PERIODS], unit[PERIODS], upkeep[PERIODS];
+static uint64_t costs[2 * (MOST + 1)];
+static uint16_t choices[PERIODS * (MOST + 1)];
+static uint8_t file[FILE_BYTES];
+static size_t n;
+
+#define TABLES need, n, capacity, n, start, n, unit, n, upkeep, n
+#define MEMORY costs, sizeof costs / sizeof *costs, choices, sizeof choices / sizeof *choices, plan, PERIODS
+
+static uint64_t answer[2], code;
+static int64_t difference[1];
+
+static void full(void) { code = yakkurem_full(TABLES, MEMORY, answer); }
+static void uncapped(void) { code = yakkurem_uncapped(TABLES, MEMORY, answer); }
+static void equal(void) { code = yakkurem_equal(TABLES, MEMORY, answer); }
+static void weigh(void) { code = yakkurem_weigh(TABLES, plan, PERIODS, answer); }
+static void compare(void) { code = yakkurem_compare(TABLES, plan, PERIODS, plan, PERIODS, difference); }
+static void write_file(void) { code = yakkurem_write(TABLES, file, sizeof file, answer); }
+static void lookup(void) { code = yakkurem_lookup(file, 17 * n + 3, n, answer); }
+static void read_file(void) {
+    code = yakkurem_read(file, 17 * n + 3, need, PERIODS, capacity, PERIODS, start, PERIODS, unit, PERIODS, upkeep, PERIODS, answer);
+}
+
+static const struct { const char *name; void (*call)(void); } calls[] = {
+    {"yakkurem_full", full}, {"yakkurem_uncapped", uncapped}, {"yakkurem_equal", equal}, {"yakkurem_weigh", weigh},
+    {"yakkurem_compare", compare}, {"yakkurem_write", write_file}, {"yakkurem_read", read_file}, {"yakkurem_lookup", lookup},
+};
+enum { CALLS = sizeof calls / sizeof *calls };
+
+static unsigned char stack[STACK];
+static unsigned char *top;
+static ucontext_t outside, inside;
+static void (*chosen)(void);
+
+static void enter(void) {
+    top = __builtin_frame_address(0);
+    chosen();
+    __asm__ volatile(""); /* so that the call is no jump */
+}
+
+/* The bytes below the caller's frame that the call touched. */
+static size_t taken(void (*call)(void), unsigned char paint) {
+    memset(stack, paint, sizeof stack);
+    chosen = call;
+    getcontext(&inside);
+    inside.uc_stack.ss_sp = stack;
+    inside.uc_stack.ss_size = sizeof stack;
+    inside.uc_link = &outside;
+    makecontext(&inside, enter, 0);
+    swapcontext(&outside, &inside);
+    size_t untouched = 0;
+    while (stack[untouched] == paint) untouched++;
+    return (size_t)(top - stack) - untouched;
+}
+
+/* Days of 1 to 96 periods: the whole need in one period or spread, costs at their limits or small; capacities that can't bind,
+ * equal ones that are just enough, and ones that are too small. */
+static void make(size_t periods, int shape, uint16_t most) {
+    n = periods;
+    for (size_t i = 0; i < n; i++) {
+        need[i] = shape == 0 ? (uint16_t)(MOST * (i + 1) / n - MOST * i / n) : (i == (shape == 1 ? 0 : n - 1) ? MOST : 0);
+        capacity[i] = most;
+        start[i] = i % 3 ? 1000000000 : 7;
+        unit[i] = i % 5 ? 1000000 : 3;
+        upkeep[i] = i % 2 ? 1000000 : 1;
+    }
+}
+
+int main(void) {
+    static const size_t sizes[] = {0, 1, 2, 95, 96};
+    static const uint16_t capacities[] = {0, 43, 60, 4096, 65535};
+    size_t deepest[CALLS] = {0}, accepted[CALLS] = {0};
+    for (size_t s = 0; s < 5; s++)
+        for (int shape = 0; shape < 3; shape++)
+            for (size_t c = 0; c < 5; c++)
+                for (size_t k = 0; k < CALLS; k++)
+                    for (int paint = 0x55; paint <= 0xaa; paint += 0x55) {
+                        make(sizes[s], shape, capacities[c]);
+                        size_t bytes = taken(calls[k].call, (unsigned char)paint);
+                        if (bytes > deepest[k]) deepest[k] = bytes;
+                        accepted[k] += code == 0;
+                    }
+    printf("| Call | Stack, bytes |\n|---|---|\n");
+    for (size_t k = 0; k < CALLS; k++) {
+        if (accepted[k] == 0) {
+            fprintf(stderr, "%s accepted nothing\n", calls[k].name);
+            return 1;
+        }
+        printf("| `%s` | %zu |\n", calls[k].name, deepest[k]);
+    }
+    return 0;
+}

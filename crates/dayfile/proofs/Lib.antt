@@ -1,2 +1,0 @@
--- Laws of a run of stores, as the writer makes them.
-pub mod Stores

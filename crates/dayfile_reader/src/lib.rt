@@ -1,0 +1,174 @@
+//! The reader (document 01, "Day file"): the periods of a file into five lent tables. What it does is `Reading` of the crate dayfile.
+ghost use mathlib.Core.Path.{_≡_};
+ghost use Prim.Native.Nat.{_+_, _≤_, min};
+ghost use lib.ListN.{length};
+ghost use Rattle.day.specs.Day.{dayOf, maxPeriods};
+ghost use Rattle.day.specs.Refusals.{checked, badValue};
+ghost use Rattle.day.specs.File.{periodsIn, dayIn};
+ghost use Rattle.day.specs.Lent.{dayBefore, dayAfter};
+ghost use Rattle.dayfile.specs.Answers.{Cells, withDay, badRead, Reading};
+ghost use Rattle.dayfile_reader.specs.Numbers.{numbersIn};
+ghost use Rattle.dayfile_reader.specs.Tables.{stored};
+use day::Check;
+use day::Refusal;
+use dayfile::ReadAnswer;
+use dayfile::layout;
+
+// The numbers of one period.
+struct Numbers {
+    demand: u16,
+    capacity: u16,
+    setup: u32,
+    unit: u32,
+    holding: u32,
+}
+
+// The field decoder: the numbers that a period record's body holds.
+fn decode(body: &[u8]) -> Numbers
+    requires { ⌜ length (now body) ≡ 16 ⌝ }
+    ensures { λ r. ⌜ r ≡ numbersIn (now (body .entry)) ⌝ }
+{
+    Numbers {
+        demand: layout::number2(body, 0) as u16,
+        capacity: layout::number2(body, 2) as u16,
+        setup: layout::number4(body, 4),
+        unit: layout::number4(body, 8),
+        holding: layout::number4(body, 12),
+    }
+}
+
+// One cell of each table takes a period's number.
+fn put(
+    k: usize,
+    numbers: Numbers,
+    demand: &mut [u16],
+    capacity: &mut [u16],
+    setup: &mut [u32],
+    unit: &mut [u32],
+    holding: &mut [u32],
+)
+    requires { ⌜ Cells (k + 1) (dayOf (now demand) (now capacity) (now setup) (now unit) (now holding)) ⌝ }
+    ensures { λ _. ⌜ dayAfter demand capacity setup unit holding ≡ stored k numbers (dayBefore demand capacity setup unit holding) ⌝ }
+{
+    demand[k] = numbers.demand;
+    capacity[k] = numbers.capacity;
+    setup[k] = numbers.setup;
+    unit[k] = numbers.unit;
+    holding[k] = numbers.holding;
+}
+
+// The first n cells of each table take the numbers of the file's n periods; later cells stay.
+fn fill(
+    file: &[u8],
+    n: usize,
+    demand: &mut [u16],
+    capacity: &mut [u16],
+    setup: &mut [u32],
+    unit: &mut [u32],
+    holding: &mut [u32],
+)
+    requires { ⌜ n ≡ periodsIn (now file) ⌝ }
+    requires { ⌜ Cells n (dayOf (now demand) (now capacity) (now setup) (now unit) (now holding)) ⌝ }
+    ensures { λ _. ⌜ dayAfter demand capacity setup unit holding ≡ withDay (now (file .entry)) (dayBefore demand capacity setup unit holding) ⌝ }
+{
+    let mut at = 0;
+    let mut k = 0;
+    while k < n {
+        let start = at + 1;
+        let end = layout::next(file, at);
+        put(
+            k,
+            decode(&file[start..end]),
+            demand,
+            capacity,
+            setup,
+            unit,
+            holding,
+        );
+        at = end;
+        k += 1;
+    }
+}
+
+// 3. The numbers are taken into tables of its own, so that the test speaks before a lent cell changes.
+fn values(file: &[u8], n: usize) -> Check
+    requires { ⌜ n ≡ periodsIn (now file) ⌝ }
+    requires { ⌜ n ≤ maxPeriods ⌝ }
+    ensures { λ r. ⌜ r ≡ checked (badValue (dayIn (now (file .entry)))) ⌝ }
+{
+    let mut demand = [0u16; 96];
+    let mut capacity = [0u16; 96];
+    let mut setup = [0u32; 96];
+    let mut unit = [0u32; 96];
+    let mut holding = [0u32; 96];
+    fill(
+        file,
+        n,
+        &mut demand,
+        &mut capacity,
+        &mut setup,
+        &mut unit,
+        &mut holding,
+    );
+    checks::values(
+        &demand[0..n],
+        &capacity[0..n],
+        &setup[0..n],
+        &unit[0..n],
+        &holding[0..n],
+    )
+}
+
+// The reader's tests in order, for a file of `n` periods and tables of at least `cells` cells.
+fn tests(file: &[u8], n: usize, cells: usize) -> Check
+    requires { ⌜ n ≡ periodsIn (now file) ⌝ }
+    ensures { λ r. ⌜ r ≡ checked (badRead (now (file .entry)) cells) ⌝ }
+{
+    if let Check::Refused(r) = layout::tests(file, n) {
+        return Check::Refused(r);
+    }
+    if cells < n {
+        return Check::Refused(Refusal::FewSlots);
+    }
+    values(file, n)
+}
+
+fn least(a: usize, b: usize) -> usize
+    ensures { λ r. ⌜ r ≡ min a b ⌝ }
+{
+    if a < b { a } else { b }
+}
+
+fn shortest(demand: usize, capacity: usize, setup: usize, unit: usize, holding: usize) -> usize
+    ensures { λ r. ⌜ r ≡ min demand (min capacity (min setup (min unit holding))) ⌝ }
+{
+    least(demand, least(capacity, least(setup, least(unit, holding))))
+}
+
+// Reads a file: 10, 11, 12, then 1, 6, 3. Accepted, the tables' first cells take the numbers of its periods, whose count is given.
+pub fn read(
+    file: &[u8],
+    demand: &mut [u16],
+    capacity: &mut [u16],
+    setup: &mut [u32],
+    unit: &mut [u32],
+    holding: &mut [u32],
+) -> ReadAnswer
+    ensures { λ r. ⌜
+        Reading (now (file .entry)) (dayBefore demand capacity setup unit holding) r (dayAfter demand capacity setup unit holding)
+        ⌝ }
+{
+    let n = layout::periods(file);
+    let cells = shortest(
+        demand.len(),
+        capacity.len(),
+        setup.len(),
+        unit.len(),
+        holding.len(),
+    );
+    if let Check::Refused(r) = tests(file, n, cells) {
+        return ReadAnswer::Refused(r);
+    }
+    fill(file, n, demand, capacity, setup, unit, holding);
+    ReadAnswer::Periods(n)
+}

@@ -1,0 +1,2 @@
+-- Laws of a run of stores, as the writer makes them.
+mod Stores

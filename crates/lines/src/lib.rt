@@ -1,0 +1,96 @@
+//! Lines of text, put into a lent buffer.
+ghost use mathlib.Core.Path.{_≡_};
+ghost use Prim.Native.Nat.{_+_, _≤_};
+ghost use lib.ListN.{length};
+ghost use mathlib.Core.List.{[], _∷_};
+ghost use Rattle.day.specs.Sums.{at};
+ghost use Rattle.day.specs.Day.{dayOf};
+ghost use Rattle.day.specs.Plan.{inventory as left};
+ghost use Rattle.lines.specs.Text.{lineOf, planLine, amountLine, refusalLine, Put, PutLabelled, HavePeriods};
+use day::Refusal;
+
+// Puts text at a place of the line, and answers the place after it.
+fn put(line: &mut [u8], place: usize, text: &[u8]) -> usize
+    requires { ⌜ place + length (now text) ≤ length (now line) ⌝ }
+    ensures { λ r. ⌜ Put (now (line .entry)) place (now (text .entry)) (now (line .exit)) r ⌝ }
+{
+    let mut i = 0;
+    while i < text.len() {
+        line[place + i] = text[i];
+        i += 1;
+    }
+    place + i
+}
+
+// Puts a word and a number in decimal.
+fn put_labelled(line: &mut [u8], place: usize, word: &[u8], n: u64) -> usize
+    requires { ⌜ place + length (now word) + 20 ≤ length (now line) ⌝ }
+    ensures { λ r. ⌜ PutLabelled (now (line .entry)) place (now (word .entry)) n (now (line .exit)) r ⌝ }
+{
+    let mut digits = [0u8; 20];
+    let k = io::decimal(n, &mut digits);
+    let start = put(line, place, word);
+    put(line, start, &digits[..k])
+}
+
+// A line of three labelled numbers.
+fn three(line: &mut [u8; 96], a: &[u8], x: u64, b: &[u8], y: u64, c: &[u8], z: u64) -> usize
+    requires { ⌜ length (now a) + (length (now b) + length (now c)) ≤ 35 ⌝ }
+    ensures { λ r. ⌜
+        Put (now (line .entry)) 0
+        (lineOf ((now (a .entry), x) ∷ (now (b .entry), y) ∷ (now (c .entry), z) ∷ []))
+        (now (line .exit)) r
+        ⌝ }
+{
+    let first = put_labelled(line, 0, a, x);
+    let second = put_labelled(line, first, b, y);
+    let third = put_labelled(line, second, c, z);
+    put(line, third, b"\n")
+}
+
+// The first line of a plan.
+pub fn plan_line(n: u64, cost: u64, setups: u64, line: &mut [u8; 96]) -> usize
+    ensures { λ r. ⌜ Put (now (line .entry)) 0 (planLine n cost setups) (now (line .exit)) r ⌝ }
+{
+    three(line, b"periods ", n, b" cost ", cost, b" starts ", setups)
+}
+
+// The inventory left after the first i periods.
+fn inventory(demand: &[u16], plan: &[u16], i: usize) -> u64
+    requires { ⌜ HavePeriods (now demand) (now plan) i ⌝ }
+    ensures { λ r. ⌜ r ≡ left (dayOf (now (demand .entry)) [] [] [] []) (at (now (plan .entry))) i ⌝ }
+{
+    let made = checks::total(&plan[0..i]);
+    let needed = checks::total(&demand[0..i]);
+    if made < needed { 0 } else { made - needed }
+}
+
+// The period at index i of a plan: its amount, and the inventory left after it.
+pub fn amount_line(demand: &[u16], plan: &[u16], i: usize, line: &mut [u8; 96]) -> usize
+    requires { ⌜ HavePeriods (now demand) (now plan) (i + 1) ⌝ }
+    ensures { λ r. ⌜
+        Put (now (line .entry)) 0
+        (amountLine (dayOf (now (demand .entry)) [] [] [] []) (at (now (plan .entry))) i)
+        (now (line .exit)) r
+        ⌝ }
+{
+    let left = inventory(demand, plan, i + 1);
+    three(
+        line,
+        b"",
+        (i + 1) as u64,
+        b" made ",
+        plan[i] as u64,
+        b" left ",
+        left,
+    )
+}
+
+// A refusal.
+pub fn refusal_line(refusal: Refusal, line: &mut [u8; 96]) -> usize
+    ensures { λ r. ⌜ Put (now (line .entry)) 0 (refusalLine refusal) (now (line .exit)) r ⌝ }
+{
+    let a = put_labelled(line, 0, b"refused ", refusal.number() as u64);
+    let b = put_labelled(line, a, b" period ", refusal.period() as u64);
+    put(line, b, b"\n")
+}

@@ -1,6 +1,0 @@
--- The intervals of the equal path: what code keeps of them, and what it means. A module uses those above it.
-pub mod Bounds
-pub mod Cells
-pub mod Told
-pub mod Fill
-pub mod Run

@@ -1,3 +1,0 @@
--- What the loops over the table ask and leave; the plan read back from a filled table is the day's.
-pub mod Table
-pub mod Right

@@ -1,0 +1,2 @@
+-- What a caller derives from the terms' values.
+pub mod Low

@@ -1,0 +1,112 @@
+-- Demands 2 and 3 of the paths themselves, over their contracts.
+-- Main statements: `planned-iff`, `refused-first` (demand 2), `cheapest-first` (demand 3), which stand for the full path as `full-planned-iff`,
+-- `full-refused-first`, `full-cheapest-first`; `equal-run-one`, `equal-run-others` (document 01, "Three paths, one plan": runs). Assumes nothing.
+use mathlib.Core.Path.{_≡_, refl, sym, _∙_}
+use mathlib.Core.List.{[], _∷_}
+use mathlib.Core.Logic.{_⊎_, inl, inr, ⊎-elim, _↔_}
+use mathlib.Core.Option.{none, some, Option·none-ne-some}
+use Prim.Native.Nat.{ℕ, _≤_, _<_}
+use native.Mathlib.Nat.{eq-or-lt-of-le, eq-zero-or-pos}
+use native.Mathlib.Omega.{arith}
+use Rattle.day.specs.declared.Refusal.{Refusal}
+use Rattle.day.specs.declared.Totals.{Totals}
+use Rattle.day.specs.declared.Answer.{Answer}
+use Rattle.day.specs.declared.Answer.the-variants.{Refused, Planned}
+use Rattle.day.specs.Sums.{at}
+use Rattle.day.specs.Day.{Day, periods, total}
+use Rattle.day.specs.Plan.{Feasible, Run, PartLoaded, cost}
+use Rattle.day.specs.Refusals.{first, dayTests, shortage, unequal}
+use Rattle.day.specs.Tests.{gives-is, first-passed, first-one}
+use Rattle.day.specs.Outcome.{Memory, sizesOf, Path, Roomy, refusal, roomy-refusal, Runs}
+use Rattle.day.specs.Paths.{full, equal}
+use Rattle.checks.specs.Passed.{FirstShort, DayLimits, day-passes, equal-passed, admitted}
+use Rattle.theory.specs.Model.{Model, OptimalTo}
+use Rattle.theory.specs.Order.{LastSmaller}
+use Rattle.theory.specs.Cut.{floor-below}
+use Rattle.theory.specs.Exchange.{Regeneration, interval-one}
+use Rattle.theory.specs.Problem.{modelOf, model-rising, model-unlimited}
+use Rattle.theory.specs.Base.{problemOf, optimal-iff}
+use Rattle.theory.specs.Demands.{plan-first, shortage-iff, shortage-names}
+
+-- the answer is a plan
+abbrev pub IsPlan : Answer → Type 0
+IsPlan (Refused r) = ⊥
+IsPlan (Planned t) = Unit {0}
+
+-- A day within the limits (1 to 4) and of the path's kind, with memory that is long enough: only 7 can be refused.
+module _ (P : Path) (d : Day) (m : Memory) (limits : DayLimits d) (room : Roomy P d (sizesOf m)) (kind : first (P .own d) ≡ none) where
+  only-shortage : refusal P d (sizesOf m) ≡ shortage d
+  only-shortage = roomy-refusal P d (sizesOf m) room kind ∙ (first-passed (dayTests d) (shortage d ∷ []) (day-passes d limits) ∙ first-one (shortage d))
+
+  -- Demand 2: the answer is a plan exactly if some amounts keep conditions (2) to (4).
+  pub planned-iff : (r : Answer) (after : Memory) → Runs P d m r after → IsPlan r ↔ ((x : ℕ → ℕ) × Feasible d x)
+  planned-iff (Refused q) after runs =
+      (λ none. absurd none, λ w. Option·none-ne-some q (sym (shortage-iff d .1 w) ∙ (sym only-shortage ∙ gives-is (runs .0))))
+  planned-iff (Planned t) after runs = (λ _. (at (after .slots), runs .1 .plan .feasible), λ _. tt)
+
+  -- Demand 2: otherwise it is refusal 7 with the first period whose summed need exceeds the summed capacity.
+  pub refused-first : (q : Refusal) (after : Memory) → Runs P d m (Refused q) after → FirstShort d q
+  refused-first q after runs = shortage-names d q (sym only-shortage ∙ gives-is (runs .0))
+
+-- Demand 3, in its words, with the answer's own cost: every other plan that keeps the rules costs at least as much,
+-- and one that costs the same has the larger amount in the last period where the two differ.
+pub cheapest-first : (P : Path) (d : Day) (m : Memory) (t : Totals) (after : Memory) → Runs P d m (Planned t) after
+    → (y : ℕ → ℕ) → Feasible d y
+    → (t .cost ≤ cost d y)
+    × (t .cost ≡ cost d y → ((k : ℕ) → k < periods d → at (after .slots) k ≡ y k) ⊎ LastSmaller (periods d) (at (after .slots)) y)
+cheapest-first P d m t after runs y f =
+    let first = plan-first d (at (after .slots)) y (runs .1 .plan) f in
+    let e = runs .1 .counts .cost in
+    (omega (arith, first .0), λ same. first .1 (sym e ∙ same))
+
+-- the full path, which has no test of its own
+module _ (d : Day) (m : Memory) (limits : DayLimits d) (room : Roomy full d (sizesOf m)) where
+  pub full-planned-iff : (r : Answer) (after : Memory) → Runs full d m r after → IsPlan r ↔ ((x : ℕ → ℕ) × Feasible d x)
+  full-planned-iff = planned-iff full d m limits room refl
+
+  pub full-refused-first : (q : Refusal) (after : Memory) → Runs full d m (Refused q) after → FirstShort d q
+  full-refused-first = refused-first full d m limits room refl
+
+pub full-cheapest-first : (d : Day) (m : Memory) (t : Totals) (after : Memory) → Runs full d m (Planned t) after
+    → (y : ℕ → ℕ) → Feasible d y
+    → (t .cost ≤ cost d y)
+    × (t .cost ≡ cost d y → ((k : ℕ) → k < periods d → at (after .slots) k ≡ y k) ⊎ LastSmaller (periods d) (at (after .slots)) y)
+full-cheapest-first = cheapest-first full
+
+-- In a run of the equal path's plan at most one period is part-loaded; the others make 0 or c.
+module _ (d : Day) (m : Memory) (t : Totals) (after : Memory) (runs : Runs equal d m (Planned t) after)
+    (a b : ℕ) (run : Run d (at (after .slots)) a b) where
+  abbrev x : ℕ → ℕ
+  x = at (after .slots)
+
+  abbrev M : Model
+  M = modelOf (problemOf d)
+
+  best : OptimalTo M (periods d) (total d) x
+  best = optimal-iff d x .0 (runs .1 .plan)
+
+  interval : Regeneration M x a b
+  interval =
+      let inside = run .inside in
+      record {
+        ahead = run .ahead;
+        empty = omega (arith, run .empty, floor-below M (model-rising (problemOf d)) (periods d) (total d) x (best .feasible) a (omega (arith, run .ahead)));
+        never = λ i u v. omega (arith, run .above i u v);
+      }
+
+  pub equal-run-one : (i j : ℕ) → a ≤ i → i < b → a ≤ j → j < b → PartLoaded d x i → PartLoaded d x j → i ≡ j
+  equal-run-one i j ai ib aj jb p q =
+      interval-one M (model-rising (problemOf d)) (model-unlimited (problemOf d)) (periods d) x best a b interval i j ai ib aj jb
+      (record { inside = omega (arith, run .inside); some = p .0; room = p .1 })
+      (record { inside = omega (arith, run .inside); some = q .0; room = q .1 })
+
+  pub equal-run-others : (k : ℕ) → a ≤ k → k < b → ¬ PartLoaded d x k → (x k ≡ 0) ⊎ (x k ≡ at (d .capacity) 0)
+  equal-run-others k ak kb h =
+      let inside : k < periods d = omega (arith, run .inside) in
+      let kind = admitted equal d (sizesOf m) (runs .0) .own in
+      let c = equal-passed d (sym (first-one (unequal d)) ∙ kind) k inside in
+      ⊎-elim inl
+      (λ (some : 0 < x k).
+      ⊎-elim (λ (e : x k ≡ at (d .capacity) k). inr (e ∙ c)) (λ (room : x k < at (d .capacity) k). absurd (h (some, room)))
+      (eq-or-lt-of-le (runs .1 .plan .feasible .within k inside)))
+      (eq-zero-or-pos (x k))

@@ -1,0 +1,88 @@
+//! Lent cells, every one of which holds the mark before a call; and counts.
+ghost use Prim.Native.Nat.{_<_};
+
+pub const MARK: u16 = 119;
+
+// Whether a cell is not as the call must leave it: the first ones are free, or zero where they are to be cleared; the later ones keep
+// the mark.
+fn spoilt(v: u64, first: bool, cleared: bool) -> bool {
+    if first {
+        return cleared && v != 0;
+    }
+    v != 119
+}
+
+fn wide_8(v: u8) -> u64 {
+    v as u64
+}
+
+fn wide_16(v: u16) -> u64 {
+    v as u64
+}
+
+fn wide_32(v: u32) -> u64 {
+    v as u64
+}
+
+// Whether cells are as a call must leave them, of which so many are free, or cleared.
+pub fn bytes_left(cells: &[u8], free: usize, cleared: bool) -> bool {
+    let mut i = 0;
+    while i < cells.len() {
+        if spoilt(wide_8(cells[i]), i < free, cleared) {
+            return false;
+        }
+        i += 1;
+    }
+    true
+}
+
+pub fn amounts_left(cells: &[u16], free: usize, cleared: bool) -> bool {
+    let mut i = 0;
+    while i < cells.len() {
+        if spoilt(wide_16(cells[i]), i < free, cleared) {
+            return false;
+        }
+        i += 1;
+    }
+    true
+}
+
+pub fn rates_left(cells: &[u32], free: usize, cleared: bool) -> bool {
+    let mut i = 0;
+    while i < cells.len() {
+        if spoilt(wide_32(cells[i]), i < free, cleared) {
+            return false;
+        }
+        i += 1;
+    }
+    true
+}
+
+pub fn costs_left(cells: &[u64], free: usize, cleared: bool) -> bool {
+    let mut i = 0;
+    while i < cells.len() {
+        if spoilt(cells[i], i < free, cleared) {
+            return false;
+        }
+        i += 1;
+    }
+    true
+}
+
+// One more of kind k.
+pub fn count(counts: &mut [u64; 16], k: usize)
+    requires { ⌜ k < 16 ⌝ }
+{
+    let n = counts[k];
+    if n < 1000000 {
+        counts[k] = n + 1;
+    }
+}
+
+pub fn count_if(counts: &mut [u64; 16], k: usize, more: bool)
+    requires { ⌜ k < 16 ⌝ }
+{
+    if more {
+        count(counts, k);
+    }
+}

@@ -1,0 +1,112 @@
+//! Tries every call of the library on the days, plans and files of standard input, and prints a line for each answer. What it reads is
+//! the file stdin beside src/, which says how its lines are laid out; what it writes is compared with the file stdout.
+mod cells;
+mod files;
+mod paths;
+mod print;
+mod text;
+mod tiny;
+mod weighing;
+
+use libc::STDIN_FILENO;
+
+// The trials of a day, by the line's kind.
+fn day(
+    line: &[u8],
+    demand: &[u16],
+    capacity: &[u16],
+    setup: &[u32],
+    unit: &[u32],
+    holding: &[u32],
+) {
+    let kind = text::kind(line);
+    if check::same(kind, b"day") {
+        paths::all(line, demand, capacity, setup, unit, holding);
+        tiny::searched(line, demand, capacity, setup, unit, holding);
+        return files::write(line, 1640, demand, capacity, setup, unit, holding);
+    }
+    if check::same(kind, b"weigh") {
+        return weighing::weigh(line, demand, capacity, setup, unit, holding);
+    }
+    if check::same(kind, b"compare") {
+        return weighing::compare(line, demand, capacity, setup, unit, holding);
+    }
+    if check::same(kind, b"write") {
+        return files::write(
+            line,
+            text::size_at(line),
+            demand,
+            capacity,
+            setup,
+            unit,
+            holding,
+        );
+    }
+    paths::lent(
+        paths::named(kind),
+        line,
+        demand,
+        capacity,
+        setup,
+        unit,
+        holding,
+    );
+}
+
+// A line that begins with a day's five tables: demands; capacities; setup, unit and holding costs.
+fn tables(line: &[u8]) {
+    let mut demand = [0u16; 128];
+    let mut capacity = [0u16; 128];
+    let mut setup = [0u32; 128];
+    let mut unit = [0u32; 128];
+    let mut holding = [0u32; 128];
+    let n = text::amounts(text::field(line, 1), &mut demand);
+    let c = text::amounts(text::field(line, 2), &mut capacity);
+    let b = text::rates(text::field(line, 3), n, &mut setup);
+    let p = text::rates(text::field(line, 4), n, &mut unit);
+    let h = text::rates(text::field(line, 5), n, &mut holding);
+    day(
+        line,
+        &demand[0..n],
+        &capacity[0..c],
+        &setup[0..b],
+        &unit[0..p],
+        &holding[0..h],
+    );
+}
+
+// A line: the kind of trial, its name, and fields. A line that begins with '#', and an empty one, says nothing.
+fn trial(line: &[u8]) {
+    let kind = text::kind(line);
+    if line.len() == 0 || text::find(line, 0, b'#', true) == 0 {
+        return;
+    }
+    if check::same(kind, b"file") {
+        return files::file(line);
+    }
+    if check::same(kind, b"cut") {
+        return files::cut(line);
+    }
+    if check::same(kind, b"change") {
+        return files::change(line);
+    }
+    if check::same(kind, b"made-up") {
+        return tiny::made_up(line);
+    }
+    tables(line);
+}
+
+fn lines(input: &[u8]) {
+    let mut at = 0;
+    while at < input.len() {
+        let end = text::find(input, at, b'\n', true);
+        trial(&input[at..end]);
+        at = end + 1;
+    }
+}
+
+fn main() {
+    let mut input = io::large_buffer();
+    let n = io::read_full(STDIN_FILENO, &mut input);
+    lines(&input[0..n]);
+}

@@ -1,0 +1,323 @@
+//! The three paths, in lent memory whose every cell holds the mark.
+ghost use Prim.Native.Nat.{_≤_};
+use crate::cells;
+use crate::cells::MARK;
+use crate::print;
+use crate::text;
+use day::Answer;
+use day::Totals;
+
+pub enum Path {
+    Full,
+    Uncapped,
+    Equal,
+}
+
+pub fn named(kind: &[u8]) -> Path {
+    if check::same(kind, b"uncapped") {
+        return Path::Uncapped;
+    }
+    if check::same(kind, b"equal") {
+        return Path::Equal;
+    }
+    Path::Full
+}
+
+fn name_of(path: Path) {
+    match path {
+        Path::Full => print::text(b" full"),
+        Path::Uncapped => print::text(b" uncapped"),
+        Path::Equal => print::text(b" equal"),
+    }
+}
+
+// The cells that a path needs (document 01's table).
+struct Cells {
+    costs: usize,
+    choices: usize,
+}
+
+fn cells_of(path: Path, n: usize, total: usize) -> Cells
+    requires { ⌜ (n ≤ 128) × (total ≤ 4097) ⌝ }
+    ensures { λ r. ⌜ (r .costs ≤ 8196) × (r .choices ≤ 16785408) ⌝ }
+{
+    match path {
+        Path::Full => Cells {
+            costs: 2 * (total + 1),
+            choices: text::product(n, total + 1),
+        },
+        Path::Uncapped => Cells {
+            costs: n + 1,
+            choices: n + 1,
+        },
+        Path::Equal => Cells {
+            costs: 6 * (n + 1),
+            choices: text::product(4 * (n + 1), n + 1),
+        },
+    }
+}
+
+// The day's whole demand; 4,097 where it is more than 4,096.
+pub fn total(demand: &[u16]) -> usize
+    ensures { λ r. ⌜ r ≤ 4097 ⌝ }
+{
+    let mut sum = 0;
+    let mut i = 0;
+    while i < demand.len() {
+        sum = text::least(sum + text::wide(demand[i]), 4097);
+        i += 1;
+    }
+    sum
+}
+
+fn needed(path: Path, demand: &[u16]) -> Cells
+    ensures { λ r. ⌜ (r .costs ≤ 8196) × (r .choices ≤ 16785408) ⌝ }
+{
+    cells_of(path, text::least(demand.len(), 128), total(demand))
+}
+
+// What a call answered, and whether it left every lent cell as document 01 says.
+pub struct Outcome {
+    pub answer: Answer,
+    pub kept: bool,
+}
+
+fn plan(
+    path: Path,
+    demand: &[u16],
+    capacity: &[u16],
+    setup: &[u32],
+    unit: &[u32],
+    holding: &[u32],
+    costs: &mut [u64],
+    choices: &mut [u16],
+    slots: &mut [u16],
+) -> Answer {
+    match path {
+        Path::Full => full::plan(
+            demand,
+            capacity,
+            setup,
+            unit,
+            holding,
+            costs,
+            choices,
+            slots,
+        ),
+        Path::Uncapped => uncapped::plan(
+            demand,
+            capacity,
+            setup,
+            unit,
+            holding,
+            costs,
+            choices,
+            slots,
+        ),
+        Path::Equal => equal::plan(
+            demand,
+            capacity,
+            setup,
+            unit,
+            holding,
+            costs,
+            choices,
+            slots,
+        ),
+    }
+}
+
+// After a refusal every cell holds the mark. After a plan the needed cells hold zero; the later ones, and the slots after the plan,
+// hold the mark.
+fn as_left(costs: &[u64], choices: &[u16], slots: &[u16], needed: Cells, n: usize) -> bool {
+    cells::costs_left(costs, needed.costs, true)
+        && cells::amounts_left(choices, needed.choices, true)
+        && cells::amounts_left(slots, n, false)
+}
+
+fn planned(answer: Answer) -> bool {
+    match answer {
+        Answer::Refused(_) => false,
+        Answer::Planned(_) => true,
+    }
+}
+
+pub fn run(
+    path: Path,
+    demand: &[u16],
+    capacity: &[u16],
+    setup: &[u32],
+    unit: &[u32],
+    holding: &[u32],
+    costs: &mut [u64],
+    choices: &mut [u16],
+    slots: &mut [u16],
+) -> Outcome {
+    let answer = plan(
+        path,
+        demand,
+        capacity,
+        setup,
+        unit,
+        holding,
+        costs,
+        choices,
+        slots,
+    );
+    if planned(answer) {
+        let kept = as_left(costs, choices, slots, needed(path, demand), demand.len());
+        return Outcome { answer, kept };
+    }
+    let none = Cells {
+        costs: 0,
+        choices: 0,
+    };
+    let kept = as_left(costs, choices, slots, none, 0);
+    Outcome { answer, kept }
+}
+
+fn print_plan(t: Totals, plan: &[u16]) {
+    print::amounts(plan);
+    print::number(b" cost ", t.cost);
+    print::number(b" starts ", t.setups);
+}
+
+fn print_run(line: &[u8], path: Path, run: Outcome, slots: &[u16], n: usize) {
+    print::text(text::name(line));
+    name_of(path);
+    let answer = run.answer;
+    match answer {
+        Answer::Refused(r) => print::refusal(r),
+        Answer::Planned(t) => {
+            let plan = text::least(n, slots.len());
+            print_plan(t, &slots[0..plan]);
+        }
+    }
+    print::unless(run.kept);
+    print::end();
+}
+
+// One path in lent memory.
+fn shown(
+    path: Path,
+    line: &[u8],
+    demand: &[u16],
+    capacity: &[u16],
+    setup: &[u32],
+    unit: &[u32],
+    holding: &[u32],
+    costs: &mut [u64],
+    choices: &mut [u16],
+    slots: &mut [u16],
+) {
+    let r = run(
+        path,
+        demand,
+        capacity,
+        setup,
+        unit,
+        holding,
+        costs,
+        choices,
+        slots,
+    );
+    print_run(line, path, r, slots, demand.len());
+}
+
+// One path in so many cells and slots.
+fn within(
+    path: Path,
+    line: &[u8],
+    demand: &[u16],
+    capacity: &[u16],
+    setup: &[u32],
+    unit: &[u32],
+    holding: &[u32],
+    costs: usize,
+    choices: usize,
+    slots: usize,
+) {
+    let mut cost_area = [119u64; 8196];
+    let mut choice_area = [MARK; 393314];
+    let mut slot_area = [MARK; 130];
+    let a = text::least(costs, 8196);
+    let b = text::least(choices, 393314);
+    let c = text::least(slots, 130);
+    shown(
+        path,
+        line,
+        demand,
+        capacity,
+        setup,
+        unit,
+        holding,
+        &mut cost_area[0..a],
+        &mut choice_area[0..b],
+        &mut slot_area[0..c],
+    );
+}
+
+// One path in two cells and a slot more than it needs.
+fn roomy(
+    path: Path,
+    line: &[u8],
+    demand: &[u16],
+    capacity: &[u16],
+    setup: &[u32],
+    unit: &[u32],
+    holding: &[u32],
+) {
+    let need = needed(path, demand);
+    let slots = text::least(demand.len(), 128) + 1;
+    within(
+        path,
+        line,
+        demand,
+        capacity,
+        setup,
+        unit,
+        holding,
+        need.costs + 2,
+        need.choices + 2,
+        slots,
+    );
+}
+
+pub fn all(
+    line: &[u8],
+    demand: &[u16],
+    capacity: &[u16],
+    setup: &[u32],
+    unit: &[u32],
+    holding: &[u32],
+) {
+    roomy(Path::Full, line, demand, capacity, setup, unit, holding);
+    roomy(Path::Uncapped, line, demand, capacity, setup, unit, holding);
+    roomy(Path::Equal, line, demand, capacity, setup, unit, holding);
+}
+
+// One path in as many cost cells, choice cells and slots as field 6 says.
+pub fn lent(
+    path: Path,
+    line: &[u8],
+    demand: &[u16],
+    capacity: &[u16],
+    setup: &[u32],
+    unit: &[u32],
+    holding: &[u32],
+) {
+    let mut memory = [0u32; 3];
+    text::rates(text::field(line, 6), 1, &mut memory);
+    within(
+        path,
+        line,
+        demand,
+        capacity,
+        setup,
+        unit,
+        holding,
+        text::size(memory[0]),
+        text::size(memory[1]),
+        text::size(memory[2]),
+    );
+}

@@ -1,0 +1,77 @@
+//! What the trials print.
+use day::Refusal;
+use libc::STDOUT_FILENO;
+
+pub fn text(words: &[u8]) {
+    io::write_all(STDOUT_FILENO, words);
+}
+
+pub fn number(words: &[u8], n: u64) {
+    io::write_all(STDOUT_FILENO, words);
+    io::print_decimal(STDOUT_FILENO, n);
+}
+
+pub fn end() {
+    text(b"\n");
+}
+
+pub fn refusal(r: Refusal) {
+    number(b" refused ", r.number() as u64);
+    number(b" period ", r.period() as u64);
+}
+
+fn amount(x: u16) {
+    number(b" ", x as u64);
+}
+
+pub fn amounts(plan: &[u16]) {
+    let mut k = 0;
+    while k < plan.len() {
+        amount(plan[k]);
+        k += 1;
+    }
+}
+
+fn byte(x: u8) {
+    io::print_hex(STDOUT_FILENO, x as u64, 2);
+}
+
+fn hex(part: &[u8]) {
+    let mut k = 0;
+    while k < part.len() {
+        byte(part[k]);
+        k += 1;
+    }
+}
+
+// How many bytes there are, and what they are.
+pub fn bytes(part: &[u8]) {
+    number(b" bytes ", part.len() as u64);
+    if 0 < part.len() {
+        text(b" ");
+        hex(part);
+    }
+}
+
+// Says so where a call did not leave lent cells as it must.
+pub fn unless(kept: bool) {
+    if !kept {
+        text(b", WRONG CELLS");
+    }
+}
+
+fn one_count(k: usize, n: u64) {
+    if 0 < n {
+        number(b" ", k as u64);
+        number(b": ", n);
+    }
+}
+
+// How many there are of each kind.
+pub fn counts(of: [u64; 16]) {
+    let mut k = 0;
+    while k < 16 {
+        one_count(k, of[k]);
+        k += 1;
+    }
+}

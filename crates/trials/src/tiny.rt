@@ -1,0 +1,183 @@
+//! Tiny days: the plain search, alone and beside the three paths.
+ghost use Prim.Native.Nat.{_<_};
+use crate::cells;
+use crate::cells::MARK;
+use crate::paths;
+use crate::paths::Path;
+use crate::print;
+use crate::text;
+use day::Answer;
+use plain::Best;
+use plain::Capacities;
+
+fn print_best(best: Best, n: usize) {
+    if !best.found {
+        return print::text(b" no plan");
+    }
+    let found = best.plan;
+    let plan = [found[0], found[1], found[2], found[3]];
+    let k = text::least(n, 4);
+    print::amounts(&plan[0..k]);
+    print::number(b" cost ", best.cost);
+    print::number(b" starts ", best.setups);
+}
+
+// What the plain search finds, where the day is tiny.
+pub fn searched(
+    line: &[u8],
+    demand: &[u16],
+    capacity: &[u16],
+    setup: &[u32],
+    unit: &[u32],
+    holding: &[u32],
+) {
+    if 4 < demand.len() || 8 < paths::total(demand) {
+        return;
+    }
+    print::text(text::name(line));
+    print::text(b" search");
+    print_best(
+        plain::search(demand, capacity, setup, unit, holding),
+        demand.len(),
+    );
+    print::end();
+}
+
+fn capacities_refused(answer: Answer) -> bool {
+    match answer {
+        Answer::Planned(_) => false,
+        Answer::Refused(r) => r.number() == 8 || r.number() == 9,
+    }
+}
+
+// Counts: 0, days with a plan; 1, 2, 3, days on which the full, the uncapped and the equal path agreed with the search; 4, calls that
+// refused the day's capacities (8 or 9); 5, calls that left lent cells as they must.
+fn see(
+    path: Path,
+    k: usize,
+    best: Best,
+    demand: &[u16],
+    capacity: &[u16],
+    setup: &[u32],
+    unit: &[u32],
+    holding: &[u32],
+    counts: &mut [u64; 16],
+)
+    requires { ⌜ k < 16 ⌝ }
+{
+    let mut costs = [119u64; 32];
+    let mut choices = [MARK; 102];
+    let mut slots = [MARK; 5];
+    let run = paths::run(
+        path,
+        demand,
+        capacity,
+        setup,
+        unit,
+        holding,
+        &mut costs,
+        &mut choices,
+        &mut slots,
+    );
+    let answer = run.answer;
+    cells::count_if(counts, k, plain::agrees(best, demand.len(), answer, &slots));
+    cells::count_if(counts, 4, capacities_refused(answer));
+    cells::count_if(counts, 5, run.kept);
+}
+
+fn compare(
+    demand: &[u16],
+    capacity: &[u16],
+    setup: &[u32],
+    unit: &[u32],
+    holding: &[u32],
+    counts: &mut [u64; 16],
+) {
+    let best = plain::search(demand, capacity, setup, unit, holding);
+    cells::count_if(counts, 0, best.found);
+    see(
+        Path::Full,
+        1,
+        best,
+        demand,
+        capacity,
+        setup,
+        unit,
+        holding,
+        counts,
+    );
+    see(
+        Path::Uncapped,
+        2,
+        best,
+        demand,
+        capacity,
+        setup,
+        unit,
+        holding,
+        counts,
+    );
+    see(
+        Path::Equal,
+        3,
+        best,
+        demand,
+        capacity,
+        setup,
+        unit,
+        holding,
+        counts,
+    );
+}
+
+// The day of a seed, and the seed of the next one.
+fn one_day(seed: u32, capacities: Capacities, counts: &mut [u64; 16]) -> u32 {
+    let d = plain::make_up(seed, capacities);
+    let n = d.n;
+    let demand = d.demand;
+    let capacity = d.capacity;
+    let setup = d.setup;
+    let unit = d.unit;
+    let holding = d.holding;
+    compare(
+        &demand[0..n],
+        &capacity[0..n],
+        &setup[0..n],
+        &unit[0..n],
+        &holding[0..n],
+        counts,
+    );
+    d.seed
+}
+
+fn days(capacities: Capacities, seed: u32, days: u32, counts: &mut [u64; 16]) {
+    let mut s = seed;
+    let mut i = 0;
+    while i < days {
+        s = one_day(s, capacities, counts);
+        i += 1;
+    }
+}
+
+fn named(name: &[u8]) -> Capacities {
+    if check::same(name, b"equal") {
+        return Capacities::Equal;
+    }
+    if check::same(name, b"unbound") {
+        return Capacities::Unbound;
+    }
+    Capacities::Any
+}
+
+// Made-up days with the capacities that the trial is named after: from the seed, and as many, as field 1 says.
+pub fn made_up(line: &[u8]) {
+    let mut numbers = [0u32; 2];
+    let mut counts = [0u64; 16];
+    text::rates(text::field(line, 1), 1, &mut numbers);
+    days(named(text::name(line)), numbers[0], numbers[1], &mut counts);
+    print::text(b"made-up ");
+    print::text(text::name(line));
+    print::text(text::field(line, 1));
+    print::counts(counts);
+    print::end();
+}

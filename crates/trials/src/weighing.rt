@@ -1,0 +1,90 @@
+//! The weigher.
+ghost use mathlib.Core.Path.{_≡_};
+ghost use lib.IntN.{natAbs};
+use crate::print;
+use crate::text;
+use weigher::Compared;
+use weigher::Rule;
+use weigher::Verdict;
+use weigher::Weighed;
+
+fn broken(rule: Rule, period: u16) {
+    print::number(b" broken ", rule.number() as u64);
+    print::number(b" period ", period as u64);
+}
+
+fn print_verdict(v: Verdict) {
+    match v {
+        Verdict::Broken(rule, period) => broken(rule, period),
+        Verdict::Holds(t) => {
+            print::number(b" cost ", t.cost);
+            print::number(b" starts ", t.setups);
+        }
+    }
+}
+
+// A number without its sign.
+fn magnitude(d: i64) -> u64
+    ensures { λ r. ⌜ r ≡ natAbs d ⌝ }
+{
+    if d < 0 {
+        return ((-1 - d) as u64) + 1;
+    }
+    d as u64
+}
+
+fn print_difference(d: i64) {
+    if d < 0 {
+        return print::number(b" difference -", magnitude(d));
+    }
+    print::number(b" difference ", magnitude(d));
+}
+
+// The plan of field 6.
+pub fn weigh(
+    line: &[u8],
+    demand: &[u16],
+    capacity: &[u16],
+    setup: &[u32],
+    unit: &[u32],
+    holding: &[u32],
+) {
+    let mut plan = [0u16; 128];
+    let n = text::amounts(text::field(line, 6), &mut plan);
+    print::text(text::name(line));
+    match weigher::weigh(demand, capacity, setup, unit, holding, &plan[0..n]) {
+        Weighed::Refused(r) => print::refusal(r),
+        Weighed::Judged(v) => print_verdict(v),
+    }
+    print::end();
+}
+
+// The plans of fields 6 and 7.
+pub fn compare(
+    line: &[u8],
+    demand: &[u16],
+    capacity: &[u16],
+    setup: &[u32],
+    unit: &[u32],
+    holding: &[u32],
+) {
+    let mut plan = [0u16; 128];
+    let mut other = [0u16; 128];
+    let n = text::amounts(text::field(line, 6), &mut plan);
+    let m = text::amounts(text::field(line, 7), &mut other);
+    print::text(text::name(line));
+    match weigher::compare(
+        demand,
+        capacity,
+        setup,
+        unit,
+        holding,
+        &plan[0..n],
+        &other[0..m],
+    ) {
+        Compared::Refused(r) => print::refusal(r),
+        Compared::Broken(rule, period) => broken(rule, period),
+        Compared::Difference(d) => print_difference(d),
+    }
+    print::end();
+}

@@ -1,0 +1,199 @@
+//! The program `dayplan`, run by its script as a station runs it: what it prints beside the plain implementation, and that it
+//! tells of an input or an output that fails.
+//!
+//!     programs [SEED]
+use outside::input::{self, Call, Size};
+use outside::plain::{self, Day, Path};
+use outside::random::Random;
+use std::fs::{self, File};
+use std::io::Write;
+use std::path::PathBuf;
+use std::process::{Command, Output, Stdio};
+use std::thread::sleep;
+use std::time::Duration;
+
+const SEED: u64 = 1979;
+
+/// Document 01's: the longest file that the program reads, and the cells of its areas.
+const LONGEST: usize = 1635;
+const COSTS: usize = 1000;
+const CHOICES: usize = 24_000;
+
+/// What the program prints on a file.
+fn printed(file: &[u8]) -> String {
+    let refused = |refusal: &plain::Refusal| format!("refused {} period {}\n", refusal.number, refusal.period);
+    if file.len() > LONGEST {
+        return refused(&plain::Refusal { number: 12, period: 0 });
+    }
+    if let Some(refusal) = plain::read_refusals(file, plain::MAX_PERIODS).first() {
+        return refused(refusal);
+    }
+    let day = plain::day_in(file, plain::walk(file).unwrap());
+    if let Some(refusal) = plain::path_refusals(Path::Full, &day, COSTS, CHOICES, plain::MAX_PERIODS).first() {
+        return refused(refusal);
+    }
+    let planned = plain::plan(&day).expect("no plan, and no shortage");
+    let mut text = format!("periods {} cost {} starts {}\n", day.periods(), planned.totals.cost, planned.totals.setups);
+    let mut made = 0;
+    for (i, &amount) in planned.plan.iter().enumerate() {
+        made += amount as u64;
+        text += &format!("{} made {amount} left {}\n", i + 1, made - day.demand_to(i + 1));
+    }
+    text
+}
+
+/// A day of n periods that needs `total` in all, as evenly as can be, with uneven costs.
+fn day(n: usize, total: usize) -> Day {
+    let cost = |factor: usize, high: usize| (0..n).map(|i| (1 + factor * i % high) as u32).collect();
+    Day {
+        demand: (0..n).map(|i| (total * (i + 1) / n - total * i / n) as u16).collect(),
+        capacity: vec![total as u16; n],
+        setup: cost(7, 50),
+        unit: cost(3, 5),
+        holding: cost(5, 4),
+    }
+}
+
+/// Files with what document 01 says of them, where it is in one line.
+fn files() -> Vec<(&'static str, Vec<u8>, Option<&'static str>)> {
+    let longest = plain::file_of(&day(96, 200));
+    assert_eq!(longest.len(), LONGEST);
+    let with = |mut file: Vec<u8>, more: &[u8]| {
+        file.extend(more);
+        file
+    };
+    let of = |n, total| plain::file_of(&day(n, total));
+    let m3 = Day { demand: vec![2], capacity: vec![1], setup: vec![5], unit: vec![2], holding: vec![9] };
+    let m4 = Day { demand: vec![2, 3], capacity: vec![5; 2], setup: vec![10; 2], unit: vec![1; 2], holding: vec![1; 2] };
+    vec![
+        ("M3", plain::file_of(&m3), Some("refused 7 period 1\n")),
+        ("M4", plain::file_of(&m4), Some("periods 2 cost 18 starts 1\n1 made 5 left 3\n2 made 0 left 0\n")),
+        ("an empty file", vec![], Some("refused 11 period 0\n")),
+        ("1,635 bytes", longest.clone(), None),
+        ("1,636 bytes", with(longest.clone(), &[0]), Some("refused 12 period 0\n")),
+        ("1,636 bytes that begin with an unknown kind", vec![7; LONGEST + 1], Some("refused 12 period 0\n")),
+        ("1,635 bytes of an unknown kind", vec![7; LONGEST], Some("refused 10 period 0\n")),
+        ("97 periods", of(97, 200), Some("refused 12 period 0\n")),
+        ("one file after another", with(longest.clone(), &longest), Some("refused 12 period 0\n")),
+        ("no periods", vec![2, 0, 0], Some("refused 1 period 0\n")),
+        ("96 periods, all choice cells", of(96, 249), None),
+        ("96 periods, one unit of need too much", of(96, 250), Some("refused 5 period 0\n")),
+        ("63 periods, three choice cells too few", of(63, 380), Some("refused 5 period 0\n")),
+        ("48 periods, all cells of both areas", of(48, 499), None),
+        ("49 periods, a row of choices too many", of(49, 499), Some("refused 5 period 0\n")),
+        ("2 periods, all cost cells", of(2, 499), None),
+        ("2 periods, two cost cells too few", of(2, 500), Some("refused 5 period 0\n")),
+        ("1 period, all cost cells", of(1, 499), None),
+        ("1 period, two cost cells too few", of(1, 500), Some("refused 5 period 0\n")),
+    ]
+}
+
+/// The runs so far.
+struct Runs {
+    root: PathBuf,
+    count: usize,
+}
+
+impl Runs {
+    fn script(&self) -> Command {
+        let mut command = Command::new(self.root.join("dayplan"));
+        command.current_dir(&self.root);
+        command
+    }
+
+    /// A file of the tests' own.
+    fn put(&self, name: &str, bytes: &[u8]) -> PathBuf {
+        let path = self.root.join("target/programs").join(name);
+        fs::create_dir_all(path.parent().unwrap()).unwrap();
+        fs::write(&path, bytes).unwrap();
+        path
+    }
+
+    fn answers(&mut self, what: &str, output: Output, expected: &str) {
+        let (stdout, stderr) = (String::from_utf8_lossy(&output.stdout), String::from_utf8_lossy(&output.stderr));
+        assert!(
+            stdout == expected && stderr.is_empty() && output.status.success(),
+            "dayplan on {what}: {}\nexpected:\n{expected}seen:\n{stdout}{stderr}",
+            output.status
+        );
+        self.count += 1;
+    }
+
+    fn on_file(&mut self, what: &str, bytes: &[u8]) {
+        let file = File::open(self.put("in.day", bytes)).unwrap();
+        let output = self.script().stdin(file).output().unwrap();
+        self.answers(what, output, &printed(bytes));
+    }
+
+    /// The file comes through a pipe, a piece at a time.
+    fn in_pieces(&mut self, bytes: &[u8], piece: usize) {
+        let mut child = self.script().stdin(Stdio::piped()).stdout(Stdio::piped()).stderr(Stdio::piped()).spawn().unwrap();
+        let mut pipe = child.stdin.take().unwrap();
+        for part in bytes.chunks(piece) {
+            pipe.write_all(part).unwrap();
+            sleep(Duration::from_millis(1));
+        }
+        drop(pipe);
+        let output = child.wait_with_output().unwrap();
+        self.answers(&format!("pieces of {piece} bytes"), output, &printed(bytes));
+    }
+
+    /// A command of the shell in which input or output fails: `$day` is a file, `$to` one that can be written, `$run` the script
+    /// or the program. Both are to say so on standard error, and the script by its status.
+    fn fails(&mut self, what: &str, command: &str, bytes: &[u8]) {
+        let (day, to) = (self.put("in.day", bytes), self.put("out", b""));
+        for run in ["dayplan", "target/bin/dayplan"] {
+            let run = self.root.join(run);
+            let output = Command::new("sh").args(["-c", command]).env("day", &day).env("to", &to).env("run", &run).output().unwrap();
+            let told = !output.stderr.is_empty();
+            let ended = !output.status.success() || run.ends_with("bin/dayplan");
+            assert!(told && ended, "{}, {what}: {}, {output:?}", run.display(), output.status);
+            self.count += 1;
+        }
+    }
+
+    /// Nobody reads what is printed: the signal ends the program, and the script by it.
+    fn reader_gone(&mut self, bytes: &[u8]) {
+        let mut child = self.script().stdin(Stdio::piped()).stdout(Stdio::piped()).stderr(Stdio::null()).spawn().unwrap();
+        drop(child.stdout.take());
+        child.stdin.take().unwrap().write_all(bytes).unwrap();
+        assert!(!child.wait().unwrap().success(), "dayplan, with nobody to read what it prints");
+        self.count += 1;
+    }
+}
+
+fn main() {
+    let seed = match std::env::args().nth(1) {
+        None => SEED,
+        Some(word) => word.parse().expect("the seed is a number"),
+    };
+    let root = PathBuf::from(env!("CARGO_MANIFEST_DIR")).parent().unwrap().to_path_buf();
+    let mut runs = Runs { root, count: 0 };
+    for (what, file, line) in files() {
+        if let Some(line) = line {
+            assert_eq!(printed(&file), line, "{what}");
+        }
+        runs.on_file(what, &file);
+    }
+    let mut random = Random::new(seed);
+    for _ in 0..60 {
+        let size = random.pick(&[Size::Tiny, Size::Middle, Size::Long]);
+        let file = input::valid(&mut random, Call::Read, size).file;
+        runs.on_file("a made-up file", &file);
+        let file = input::changed(&mut random, Call::Read, size).file;
+        runs.on_file("a changed file", &file);
+    }
+    let longest = plain::file_of(&day(96, 249));
+    for piece in [1, 16, 100, 1000] {
+        runs.in_pieces(&longest, piece);
+    }
+    for file in [&longest[..], b"\x07"] {
+        runs.fails("standard output closed", "\"$run\" < \"$day\" >&-", file);
+        runs.fails("a full device", "\"$run\" < \"$day\" > /dev/full", file);
+        runs.reader_gone(file);
+    }
+    runs.fails("a disk that fills up after some of it", "trap '' XFSZ; ulimit -f 1; \"$run\" < \"$day\" > \"$to\"", &longest);
+    runs.fails("standard input closed", "\"$run\" <&-", &[]);
+    runs.fails("a folder for a file", "\"$run\" < /", &[]);
+    println!("programs: seed {seed}, {} runs of dayplan, each as it should be", runs.count);
+}
