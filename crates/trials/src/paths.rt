@@ -135,10 +135,22 @@ fn as_left(costs: &[u64], choices: &[u16], slots: &[u16], needed: Cells, n: usiz
         && cells::amounts_left(slots, n, false)
 }
 
-fn planned(answer: Answer) -> bool {
+// How many cells of each area must hold zero after an answer.
+fn cleared(answer: Answer, path: Path, demand: &[u16]) -> Cells {
     match answer {
-        Answer::Refused(_) => false,
-        Answer::Planned(_) => true,
+        Answer::Refused(_) => Cells {
+            costs: 0,
+            choices: 0,
+        },
+        Answer::Planned(_) => needed(path, demand),
+    }
+}
+
+// How many slots hold the plan.
+fn filled(answer: Answer, n: usize) -> usize {
+    match answer {
+        Answer::Refused(_) => 0,
+        Answer::Planned(_) => n,
     }
 }
 
@@ -164,16 +176,12 @@ pub fn run(
         choices,
         slots,
     );
-    if planned(answer) {
-        let kept = as_left(costs, choices, slots, needed(path, demand), demand.len());
-        return Outcome { answer, kept };
+    let needed = cleared(answer, path, demand);
+    let n = filled(answer, demand.len());
+    Outcome {
+        answer,
+        kept: as_left(costs, choices, slots, needed, n),
     }
-    let none = Cells {
-        costs: 0,
-        choices: 0,
-    };
-    let kept = as_left(costs, choices, slots, none, 0);
-    Outcome { answer, kept }
 }
 
 fn print_plan(t: Totals, plan: &[u16]) {
