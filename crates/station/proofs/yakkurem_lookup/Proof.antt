@@ -7,6 +7,7 @@ use native.Mathlib.Omega.{arith}
 use denote.Ref.{now}
 use borrow.Author.Needs.{needs}
 use Rattle.day.specs.File.{recordAt, periodsIn}
+use Rattle.day.specs.Figures.{checks-is}
 use Rattle.day.specs.Tests.{passed, refused}
 use Rattle.dayfile.specs.Answers.{badLookup}
 use Rattle.dayfile.specs.Passed.{lookup-passed}
@@ -21,7 +22,7 @@ abbrev period : tie.After-check → ℕ
 period c = c .before .before .args .period
 
 admitted : (c : tie.After-enum-told) → badLookup (file (c .before .before)) (period (c .before .before)) ≡ none
-admitted c = passed _ (c .before .before .check .ensures) (c .enum-told .given .1)
+admitted c = passed _ (checks-is _ _ (c .before .before .check .ensures)) (c .enum-told .given .1)
 
 asked : (c : tie.After-enum-told) → let p = c .before .before in (1 ≤ period p) × (period p ≤ periodsIn (file p))
 asked c = let p = c .before .before in lookup-passed (file p) (period p) (admitted c)
@@ -33,7 +34,7 @@ whole c = let p = c .before .before in period-at (file p) (period p - 1) (omega 
 returns : tie.Need-returns
 returns c =
     let p = c .before .before .before .before in
-    rw (refused (badLookup (file p) (period p)) (p .check .ensures) (c .before .before .r .given .1), c .refused .ensures) refl
+    rw (refused (badLookup (file p) (period p)) (checks-is _ _ (p .check .ensures)) (c .before .before .r .given .1), c .refused .ensures) refl
 
 record-at-requires : tie.Need-record-at-requires
 record-at-requires c κs = omega (arith, asked c)
