@@ -39,7 +39,7 @@ pub record BodyAt (file : RefT (List ℕ)) (p : ℕ) (r : RefT (List ℕ)) : Typ
   pub block : r .ptr .0 ≡ file .ptr .0
   pub offset : r .ptr .1 ≡ file .ptr .1 + (p + 1)
 
--- the part handed out for period i, counted from 1: the body of its record, or an empty part where the lookup is refused
+-- the part handed out for period i, counted from 1: the body of its record, or an empty part where the lookup is refused (where that lies is free)
 abbrev pub Part : Option Refusal → RefT (List ℕ) → ℕ → RefT (List ℕ) → Type 0
 Part none file i r = BodyAt file (recordAt (now file) (i - 1)) r
 Part (some refusal) file i r = now r ≡ []

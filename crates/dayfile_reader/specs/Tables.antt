@@ -3,20 +3,18 @@
 use mathlib.Core.Path.{_≡_, refl, ap, _∙_}
 use mathlib.Core.List.{List, [], _∷_, _++_}
 use mathlib.Core.Option.{none}
-use Prim.Native.Nat.{ℕ, zero, suc, _+_, _-_, _≤_, _<_}
+use Prim.Native.Nat.{ℕ, zero, suc, _+_, _≤_, _<_}
 use native.Mathlib.Nat.{le-of-suc-le-suc}
 use native.Mathlib.Numerals.{add-one}
 use native.Mathlib.Omega.{arith}
 use borrow.Author.Tests.{ltb-false}
-use lib.ListN.{length, take, drop, set}
-use lib.Seq.{take-at}
-use Rattle.day.specs.Sums.{listOf, length-listOf}
+use lib.ListN.{length, set}
 use Rattle.day.specs.Day.{Day, dayOf, maxPeriods}
 use Rattle.day.specs.declared.Refusal.the-variants.{FewSlots}
 use Rattle.day.specs.Refusals.{badSlots, badValue}
 use Rattle.day.specs.Tests.{not-refused}
 use Rattle.day.specs.File.{recordAt, next, body, number2, number4, periodsIn, walk, field, dayIn}
-use Rattle.dayfile.specs.Answers.{Cells, fileTests, shortest, badRead, withFirst, withPeriods, withDay}
+use Rattle.dayfile.specs.Answers.{Cells, fileTests, shortest, badRead, withFirst, withPeriods}
 use Rattle.checks.specs.Passed.{count-passed}
 use Rattle.dayfile.specs.Passed.{each-passed}
 use Rattle.dayfile.specs.Layout.{WholePeriod, period-at}

@@ -7,7 +7,6 @@ use mathlib.Core.Path.{_≡_, refl, sym, ap, subst, _∙_}
 use mathlib.Core.List.{List, [], _∷_, _++_}
 use mathlib.Core.Option.{Option, none, Option·none-ne-some}
 use Prim.Native.Nat.{ℕ, _≤_}
-use native.Mathlib.Omega.{arith}
 use borrow.Author.Tests.{le-ltb}
 use lib.ListN.{length, take, drop}
 use lib.Seq.{take-at}
@@ -22,7 +21,7 @@ use Rattle.dayfile.specs.declared.ReadAnswer.{ReadAnswer}
 use Rattle.dayfile.specs.declared.ReadAnswer.the-variants as reader
 use Rattle.dayfile.specs.declared.WriteAnswer.{WriteAnswer}
 use Rattle.dayfile.specs.declared.WriteAnswer.the-variants as writer
-use Rattle.dayfile.specs.Answers.{fileTests, badRead, badWrite, shortest, firstOf, withTables, withDay, withFile, Reading, Writing}
+use Rattle.dayfile.specs.Answers.{fileTests, badRead, badWrite, shortest, firstOf, withTables, Reading, Writing}
 use Rattle.dayfile.specs.Passed.{each-passed}
 use Rattle.dayfile.specs.Layout.{laid-out, counted, walk-clean, day-lengths, day-in-front, with-day}
 use Rattle.dayfile_writer.specs.RoundTrip.{Bytes, only-file, file-layout, reads-back}

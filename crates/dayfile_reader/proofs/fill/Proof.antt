@@ -84,7 +84,8 @@ returns c =
 pub fill-spec : {M : Type 1} → statement M
 fill-spec =
     tie.close
-    (tie.spec Inv-loop μ-loop loop-holds add-start next-requires sub-decode sub-decode part-decode-end decode-requires
-    put-requires (λ c. omega arith) (λ c. omega arith) loop-again (λ c. c .before .loop .inv .cells .demand)
+    (tie.spec
+    Inv-loop μ-loop loop-holds add-start next-requires sub-decode sub-decode part-decode-end decode-requires put-requires
+    (λ c. omega arith) (λ c. omega arith) loop-again (λ c. c .before .loop .inv .cells .demand)
     (λ c. c .before .loop .inv .cells .capacity) (λ c. c .before .loop .inv .cells .setup)
     (λ c. c .before .loop .inv .cells .unit) (λ c. c .before .loop .inv .cells .holding) returns)

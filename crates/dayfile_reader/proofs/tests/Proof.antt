@@ -56,6 +56,4 @@ returns-3 c =
     group-decides (fileTests (file p) ++ (room p ∷ [])) (value p ∷ []) ok (alone (value p) (c .values .ensures))
 
 pub tests-spec : {M : Type 1} → statement M
-tests-spec =
-    tie.close
-    (tie.spec (λ c κs. search needs) (λ c. search needs) returns (λ c. search needs) returns-2 values-requires returns-3)
+tests-spec = tie.close (tie.spec (λ c κs. search needs) (λ c. search needs) returns (λ c. search needs) returns-2 values-requires returns-3)

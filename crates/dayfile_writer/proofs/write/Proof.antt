@@ -68,5 +68,6 @@ returns-3 c =
 pub write-spec : {M : Type 1} → statement M
 write-spec =
     tie.close
-    (tie.spec (λ c κs. search needs) (λ c. search needs) returns (λ c. search needs) size-fits (λ c. omega (arith, limits c .few))
-    returns-2 put-file-requires (λ c. search needs) returns-3)
+    (tie.spec
+    (λ c κs. search needs) (λ c. search needs) returns (λ c. search needs) size-fits (λ c. omega (arith, limits c .few)) returns-2
+    put-file-requires (λ c. search needs) returns-3)

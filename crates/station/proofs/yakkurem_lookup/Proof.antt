@@ -55,5 +55,6 @@ returns-2 c =
 pub yakkurem-lookup-spec : {M : Type 1} → statement M
 yakkurem-lookup-spec =
     tie.close
-    (tie.spec (λ c κs. search needs) (λ c. search needs) (λ c κs. search needs) returns (λ c. search needs) (λ c. asked c .0)
+    (tie.spec
+    (λ c κs. search needs) (λ c. search needs) (λ c κs. search needs) returns (λ c. search needs) (λ c. asked c .0)
     record-at-requires add-t9 body-requires returns-2)

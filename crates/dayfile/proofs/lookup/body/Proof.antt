@@ -48,5 +48,6 @@ returns-2 c = rw (admitted (c .before .before)) (rw (c .before .record-at .ensur
 pub body-spec : {M : Type 1} → statement M
 body-spec =
     tie.close
-    (tie.spec (λ c κs. search needs) (λ c. search needs) (λ c. search needs) (λ c. search needs) (λ c. search needs)
-    (λ c. search needs) returns sub-record-at record-at-requires body-requires returns-2)
+    (tie.spec
+    (λ c κs. search needs) (λ c. search needs) (λ c. search needs) (λ c. search needs) (λ c. search needs) (λ c. search needs)
+    returns sub-record-at record-at-requires body-requires returns-2)
