@@ -135,22 +135,10 @@ fn as_left(costs: &[u64], choices: &[u16], slots: &[u16], needed: Cells, n: usiz
         && cells::amounts_left(slots, n, false)
 }
 
-// How many cells of each area must hold zero after an answer.
-fn cleared(answer: Answer, path: Path, demand: &[u16]) -> Cells {
+fn planned(answer: Answer) -> bool {
     match answer {
-        Answer::Refused(_) => Cells {
-            costs: 0,
-            choices: 0,
-        },
-        Answer::Planned(_) => needed(path, demand),
-    }
-}
-
-// How many slots hold the plan.
-fn filled(answer: Answer, n: usize) -> usize {
-    match answer {
-        Answer::Refused(_) => 0,
-        Answer::Planned(_) => n,
+        Answer::Refused(_) => false,
+        Answer::Planned(_) => true,
     }
 }
 
@@ -176,12 +164,16 @@ pub fn run(
         choices,
         slots,
     );
-    let needed = cleared(answer, path, demand);
-    let n = filled(answer, demand.len());
-    Outcome {
-        answer,
-        kept: as_left(costs, choices, slots, needed, n),
+    if planned(answer) {
+        let kept = as_left(costs, choices, slots, needed(path, demand), demand.len());
+        return Outcome { answer, kept };
     }
+    let none = Cells {
+        costs: 0,
+        choices: 0,
+    };
+    let kept = as_left(costs, choices, slots, none, 0);
+    Outcome { answer, kept }
 }
 
 fn print_plan(t: Totals, plan: &[u16]) {
