@@ -1,18 +1,18 @@
--- `trials::cells::rates_left` is safe and ends: the index stays within the cells. Assumes nothing.
+-- `trials::files::cut` is safe and ends: the length stays within the file. Assumes nothing.
 use Prim.Native.Nat.{_-_, _≤_}
 use lib.ListN.{length}
 use borrow.Author.Needs.{needs}
-use Rattle.trials.proofs.cells.rates_left.Statement.{statement}
-use Rattle.trials.proofs.cells.rates_left.Tie as tie
+use Rattle.trials.proofs.files.cut.Statement.{statement}
+use Rattle.trials.proofs.files.cut.Tie as tie
 
 abbrev Inv-loop : tie.InvT-loop
-Inv-loop cells free cleared i₀ i = i ≤ length cells
+Inv-loop file counts₀ k₀ counts k = k ≤ length file
 
 abbrev μ-loop : tie.MeasureT-loop
-μ-loop cells free cleared i₀ i = length cells - i
+μ-loop file counts₀ k₀ counts k = length file - k
 
-pub rates-left-spec : {M : Type 1} → statement M
-rates-left-spec =
+pub cut-spec : {M : Type 1} → statement M
+cut-spec =
     tie.close
     (tie.spec
     Inv-loop
@@ -20,9 +20,9 @@ rates-left-spec =
     (λ c. search needs)
     (λ c. search needs)
     (λ c. search needs)
-    (λ c κs. search needs)
-    (λ c κs. search needs)
     (λ c. search needs)
+    (λ c κs. search needs)
+    (λ c κs. search needs)
     (λ c. search needs)
     (λ c. search needs)
     (λ c. search needs)
