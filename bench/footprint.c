@@ -19,7 +19,6 @@ static size_t n;
 
 static uint64_t answer[2], code;
 static int64_t difference[1];
-static uint8_t body[16];
 
 static void full(void) { code = yakkurem_full(TABLES, MEMORY, answer); }
 static void uncapped(void) { code = yakkurem_uncapped(TABLES, MEMORY, answer); }
@@ -27,7 +26,7 @@ static void equal(void) { code = yakkurem_equal(TABLES, MEMORY, answer); }
 static void weigh(void) { code = yakkurem_weigh(TABLES, plan, PERIODS, answer); }
 static void compare(void) { code = yakkurem_compare(TABLES, plan, PERIODS, plan, PERIODS, difference); }
 static void write_file(void) { code = yakkurem_write(TABLES, file, sizeof file, answer); }
-static void lookup(void) { code = yakkurem_lookup(file, 17 * n + 3, n, body); }
+static void lookup(void) { code = yakkurem_lookup(file, 17 * n + 3, n, answer); }
 static void read_file(void) {
     code = yakkurem_read(file, 17 * n + 3, need, PERIODS, capacity, PERIODS, start, PERIODS, unit, PERIODS, upkeep, PERIODS, answer);
 }

@@ -6,8 +6,9 @@
  * each period, nothing for making if the amount is 0, else start + unit * amount; and upkeep * the charge left.
  *
  * Every slice is passed as a pointer and the number of its elements. What a caller must see to, and nothing else: a pointer
- * is not NULL (also with length 0), is aligned for its elements, and leads to as many as are said; and what a call
- * writes overlaps nothing else that it is passed. Any contents and any lengths are answered.
+ * is not NULL (also with length 0), is aligned for its elements, and leads to as many as are said; and what a call may
+ * write (work areas, slots, tables to fill, bytes to write, the out-array: all that is not const) overlaps nothing else that
+ * it is passed. What it only reads may overlap. Any contents and any lengths are answered.
  *
  * Limits: n is 1 to 96; need at most 4096, in one period and over the day; start at most 1000000000; unit and upkeep at
  * most 1000000.
@@ -27,7 +28,7 @@
  *      7  summed need exceeds summed capacity, first in this period: there is no plan
  *
  * On any code but 0 nothing that was lent changes, and the out-array (the last parameter) is not written.
- * The calls keep no state and use no heap, no file and no clock. Of the C library they use memset and memcpy at most.
+ * The calls keep no state and use no heap, no file and no clock. Of the C library they use memset alone.
  */
 #ifndef YAKKUREM_H
 #define YAKKUREM_H
@@ -80,8 +81,9 @@ uint64_t yakkurem_read(
     const uint8_t *file, size_t bytes, uint16_t *need, size_t needs, uint16_t *capacity, size_t capacities, uint32_t *start, size_t starts,
     uint32_t *unit, size_t units, uint32_t *upkeep, size_t upkeeps, uint64_t periods[1]);
 
-/* Copies the body of the numbered period record of a day file. Refusals in order: 10, 11, 12, 1, 13. */
-uint64_t yakkurem_lookup(const uint8_t *file, size_t bytes, size_t period, uint8_t body[16]);
+/* Finds the body of the numbered period record of a day file: part holds where it begins in file, counted from 0, and its
+ * length, 16. No byte is copied: the body is file + part[0]. Refusals in order: 10, 11, 12, 1, 13. */
+uint64_t yakkurem_lookup(const uint8_t *file, size_t bytes, size_t period, uint64_t part[2]);
 
 /* Writes the day file, 17 * n + 3 bytes, at the front of out; count is how many. Later bytes keep their contents.
  * Refusals in order: 1, 2, 3, 6. */

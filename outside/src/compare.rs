@@ -102,9 +102,8 @@ fn accepted_comparison(input: &Input, seen: &mut Seen) {
 /// What the papers say.
 pub fn expected(input: &Input) -> Seen {
     let unwritten = match input.call {
-        Call::Full | Call::Uncapped | Call::Equal | Call::Weigh => wide(&out::<u64, 2>()),
+        Call::Full | Call::Uncapped | Call::Equal | Call::Weigh | Call::Lookup => wide(&out::<u64, 2>()),
         Call::Compare => wide(&out::<i64, 1>()),
-        Call::Lookup => wide(&out::<u8, 16>()),
         Call::Read | Call::Write => wide(&out::<u64, 1>()),
     };
     let mut seen = Seen { code: 0, out: unwritten, lent: before(input) };
@@ -131,7 +130,7 @@ pub fn expected(input: &Input) -> Seen {
             fill(&mut seen.lent[4], &day.holding);
             seen.out = vec![n as u64];
         }
-        Call::Lookup => seen.out = wide(plain::body(&input.file, input.period)),
+        Call::Lookup => seen.out = plain::place(input.period).map(|v| v as u64).into(),
         Call::Write => {
             let file = plain::file_of(&input.day);
             fill(&mut seen.lent[0], &file);
@@ -197,9 +196,9 @@ pub fn actual(given: &Input) -> Seen {
         }
         Call::Read => run_read(input),
         Call::Lookup => {
-            let mut body = out();
-            let code = codes::lookup(&input.file, input.period, &mut body);
-            Seen { code, out: wide(&body), lent: vec![] }
+            let mut part = out();
+            let code = codes::lookup(&input.file, input.period, &mut part);
+            Seen { code, out: wide(&part), lent: vec![] }
         }
         Call::Write => {
             let mut bytes: Vec<u8> = pattern(0, input.lent[0]);
@@ -242,7 +241,7 @@ pub fn results_agree(input: &Input, seen: &Seen) -> bool {
             yakkurem::read(&input.file, filled) == if accepted { Ok(seen.out[0]) } else { Err(refusal) }
         }
         Call::Lookup => match yakkurem::lookup(&input.file, input.period) {
-            Ok(body) => accepted && seen.out == wide(&body),
+            Ok(body) => accepted && std::ptr::eq(body, plain::body(&input.file, input.period)),
             Err(why) => why == refusal,
         },
         Call::Write => yakkurem::write(tables(input), &mut vec![0; input.lent[0]]) == if accepted { Ok(seen.out[0]) } else { Err(refusal) },

@@ -336,10 +336,15 @@ pub fn walk(file: &[u8]) -> Result<usize, Refusal> {
     }
 }
 
+/// Where the body of period i, counted from 1, begins in a file that walks cleanly, and how long it is.
+pub fn place(i: usize) -> [usize; 2] {
+    [(1 + PERIOD_BODY) * (i - 1) + 1, PERIOD_BODY]
+}
+
 /// The body of period i, counted from 1, of a file that walks cleanly.
 pub fn body(file: &[u8], i: usize) -> &[u8] {
-    let at = (1 + PERIOD_BODY) * (i - 1) + 1;
-    &file[at..at + PERIOD_BODY]
+    let [start, length] = place(i);
+    &file[start..start + length]
 }
 
 /// The day of a file that walks cleanly.

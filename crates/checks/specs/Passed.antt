@@ -5,7 +5,7 @@
 --     binding-passed                        9
 --     admitted                              all tests of a path: what its work relies on
 -- Assumes nothing.
-use mathlib.Core.Path.{_≡_, refl, sym, ap}
+use mathlib.Core.Path.{_≡_, refl, sym, ap, _∙_}
 use mathlib.Core.Bool.{Bool, false, not, _||_}
 use mathlib.Core.List.{List, [], _∷_}
 use mathlib.Core.Option.{Option, none, some, Option·none-ne-some, Option·some-ne-none, Option·some-injective}
@@ -23,7 +23,7 @@ use Rattle.day.specs.Day.{Day, periods, maxPeriods, maxDemand, maxCapacity, max
 use Rattle.day.specs.Day.{demandTo, capacityTo, total}
 use Rattle.day.specs.Refusals.{numberOf, periodOf, refuseAt, anywhere, first, badCount, badLengths, aboveLimit, badValue, tableTests, badTotal, dayTests}
 use Rattle.day.specs.Refusals.{badAreas, badSlots, short, shortage, differs, unequal, binds, binding}
-use Rattle.day.specs.Tests.{first-split, first-one, not-refused, nowhere, neither}
+use Rattle.day.specs.Tests.{first-split, first-passed, first-one, not-refused, nowhere, neither}
 use Rattle.day.specs.Outcome.{Path, Sizes, Roomy, memoryTests, pathTests, refusal}
 use Rattle.checks.specs.declared.Needed.{Needed}
 
@@ -213,16 +213,13 @@ admitted P d s e =
       own = three .1;
     }
 
--- and the other way round: a day within the limits passes tests 1 to 4
+-- and the other way round: a day within the limits passes tests 1 to 3, and 4
 pub lengths-pass : (d : Day) → SameLengths d → badLengths d ≡ none
 lengths-pass d s = simp (eq-eqb _ _ (s .capacity), eq-eqb _ _ (s .setup), eq-eqb _ _ (s .unit), eq-eqb _ _ (s .holding))
 
-pub day-passes : (d : Day) → DayLimits d → first (dayTests d) ≡ none
-day-passes d g = rw (count, lengths-pass d (l .lengths), value, le-ltb _ _ (g .total)) refl
+pub tables-pass : (d : Day) → Limits d → first (tableTests d) ≡ none
+tables-pass d l = rw (count, lengths-pass d (l .lengths), value) refl
   where
-    l : Limits d
-    l = g .limits
-
     count : badCount (periods d) ≡ none
     count = rw (ne-eqb (periods d) 0 (λ e. omega (arith, l .nonempty)), le-ltb maxPeriods (periods d) (l .few)) refl
 
@@ -232,3 +229,7 @@ day-passes d g = rw (count, lengths-pass d (l .lengths), value, le-ltb _ _ (g .t
 
     value : badValue d ≡ none
     value = ap (refuseAt AboveLimit) (nothing-found (aboveLimit d) (periods d) (λ k h. inside k (l .within k h)))
+
+pub day-passes : (d : Day) → DayLimits d → first (dayTests d) ≡ none
+day-passes d g =
+    first-passed (tableTests d) (badTotal d ∷ []) (tables-pass d (g .limits)) ∙ rw (le-ltb _ _ (g .total)) refl

@@ -8,6 +8,7 @@ ghost use lib.Dec.{ltb};
 ghost use lib.ListN.{length};
 ghost use Rattle.day.specs.Sums.{Term, at, sumTo};
 ghost use Rattle.day.specs.Day.{dayOf, maxPeriods, maxDemand, maxCapacity, maxSetup, maxRate};
+ghost use Rattle.day.specs.Lent.{dayBefore};
 ghost use Rattle.day.specs.Refusals.{checked, first, badCount, badLengths, badValue, tableTests, dayTests, badAreas, badSlots};
 ghost use Rattle.day.specs.Refusals.{shortage, unequal, binding};
 ghost use Rattle.day.specs.Outcome.{pathTests, refusal, sizes};
@@ -40,10 +41,7 @@ pub fn count(n: usize) -> Check
 
 // 2: every table is as long as the demand table
 fn lengths(demand: &[u16], capacity: &[u16], setup: &[u32], unit: &[u32], holding: &[u32]) -> Check
-    ensures { λ r. ⌜
-        r ≡ checked (badLengths
-        (dayOf (now (demand .entry)) (now (capacity .entry)) (now (setup .entry)) (now (unit .entry)) (now (holding .entry))))
-        ⌝ }
+    ensures { λ r. ⌜ r ≡ checked (badLengths (dayBefore demand capacity setup unit holding)) ⌝ }
 {
     let n = demand.len();
     if capacity.len() != n || setup.len() != n || unit.len() != n || holding.len() != n {
@@ -68,10 +66,7 @@ pub fn values(
     holding: &[u32],
 ) -> Check
     requires { ⌜ Readable (dayOf (now demand) (now capacity) (now setup) (now unit) (now holding)) ⌝ }
-    ensures { λ r. ⌜
-        r ≡ checked (badValue
-        (dayOf (now (demand .entry)) (now (capacity .entry)) (now (setup .entry)) (now (unit .entry)) (now (holding .entry))))
-        ⌝ }
+    ensures { λ r. ⌜ r ≡ checked (badValue (dayBefore demand capacity setup unit holding)) ⌝ }
 {
     let mut i = 0;
     while i < demand.len() {
@@ -91,10 +86,7 @@ pub fn tables(
     unit: &[u32],
     holding: &[u32],
 ) -> Check
-    ensures { λ r. ⌜
-        r ≡ checked (first (tableTests
-        (dayOf (now (demand .entry)) (now (capacity .entry)) (now (setup .entry)) (now (unit .entry)) (now (holding .entry)))))
-        ⌝ }
+    ensures { λ r. ⌜ r ≡ checked (first (tableTests (dayBefore demand capacity setup unit holding))) ⌝ }
 {
     if let Check::Refused(r) = count(demand.len()) {
         return Check::Refused(r);
@@ -121,10 +113,7 @@ pub fn total(demand: &[u16]) -> u64
 
 // 1, 2, 3, 4, which open every call on a day
 pub fn day(demand: &[u16], capacity: &[u16], setup: &[u32], unit: &[u32], holding: &[u32]) -> Check
-    ensures { λ r. ⌜
-        r ≡ checked (first (dayTests
-        (dayOf (now (demand .entry)) (now (capacity .entry)) (now (setup .entry)) (now (unit .entry)) (now (holding .entry)))))
-        ⌝ }
+    ensures { λ r. ⌜ r ≡ checked (first (dayTests (dayBefore demand capacity setup unit holding))) ⌝ }
 {
     if let Check::Refused(r) = tables(demand, capacity, setup, unit, holding) {
         return Check::Refused(r);
@@ -287,11 +276,7 @@ pub fn path(
     choices: usize,
     slots: usize,
 ) -> Check
-    ensures { λ r. ⌜
-        r ≡ checked (refusal (pathOf kind)
-        (dayOf (now (demand .entry)) (now (capacity .entry)) (now (setup .entry)) (now (unit .entry)) (now (holding .entry)))
-        (sizes costs choices slots))
-        ⌝ }
+    ensures { λ r. ⌜ r ≡ checked (refusal (pathOf kind) (dayBefore demand capacity setup unit holding) (sizes costs choices slots)) ⌝ }
 {
     if let Check::Refused(r) = day(demand, capacity, setup, unit, holding) {
         return Check::Refused(r);

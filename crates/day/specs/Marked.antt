@@ -22,7 +22,7 @@ pub data Claim : Type 0 where
   refused : (period : ℕ) → Claim
 
 -- needs; capacities; b; p; h, one value for all periods; the claims
-pub record Row : Type 0 where
+pub record MarkedRow : Type 0 where
   pub demand : List ℕ
   pub capacity : List ℕ
   pub setup : ℕ
@@ -30,11 +30,11 @@ pub record Row : Type 0 where
   pub holding : ℕ
   pub claims : List Claim
 
-abbrev row : (demand capacity : List ℕ) (b p h : ℕ) → List Claim → Row
+abbrev row : (demand capacity : List ℕ) (b p h : ℕ) → List Claim → MarkedRow
 row demand capacity b p h claims = record { demand = demand; capacity = capacity; setup = b; unit = p; holding = h; claims = claims }
 
 -- M1 to M12
-abbrev pub marked : List Row
+abbrev pub marked : List MarkedRow
 marked =
     row (0 ∷ []) (0 ∷ []) 5 1 1 (planned (0 ∷ []) 0 0 ∷ [])
     ∷ row (1 ∷ []) (1 ∷ []) 5 2 9 (planned (1 ∷ []) 7 1 ∷ [])
@@ -51,7 +51,7 @@ marked =
     ∷ []
 
 -- the day of a row
-abbrev pub dayOfRow : Row → Day
+abbrev pub dayOfRow : MarkedRow → Day
 dayOfRow r = record {
   demand = r .demand;
   capacity = r .capacity;
@@ -88,10 +88,10 @@ pub record RefusedAt (d : Day) (i : ℕ) : Type 0 where
   pub short : capacityTo d i < demandTo d i
   pub before : (j : ℕ) → j < i → demandTo d j ≤ capacityTo d j
 
-abbrev pub Right : Day → Claim → Type 0
-Right d (planned x c s) = PlannedAs d x c s
-Right d (costs x c) = Costs d x c
-Right d (refused i) = RefusedAt d i
+abbrev pub ClaimHolds : Day → Claim → Type 0
+ClaimHolds d (planned x c s) = PlannedAs d x c s
+ClaimHolds d (costs x c) = Costs d x c
+ClaimHolds d (refused i) = RefusedAt d i
 
 abbrev pub All : {A : Type 0} → (A → Type 0) → List A → Type 0
 All P [] = Unit {0}
@@ -116,7 +116,7 @@ brought? i none = none
 brought? i (some q) = Option·map (λ p. (q, (refl, p))) (both (sure (ℕ-discrete (numberOf q) 7)) (sure (ℕ-discrete (periodOf q) i)))
 
 -- the test of a claim
-abbrev right? : (d : Day) (c : Claim) → Option (Right d c)
+abbrev right? : (d : Day) (c : Claim) → Option (ClaimHolds d c)
 right? d (planned x c s) =
     Option·map
     (λ p. record { given = brought d (p .0); amounts = p .1 .0; plan = p .1 .1 .0; cost = p .1 .1 .1 .0; setups = p .1 .1 .1 .1 })
@@ -145,6 +145,6 @@ right? d (refused i) =
     (both (sure (decLt (capacityTo d i) (demandTo d i))) (sure (below? (λ j. decLe (demandTo d j) (capacityTo d j)) i))))))
 
 -- Every row's claims hold of the written meaning.
-pub marked-right : All (λ r. All (Right (dayOfRow r)) (r .claims)) marked
+pub marked-right : All (λ r. All (ClaimHolds (dayOfRow r)) (r .claims)) marked
 unfolding iff? implies? both-below below? Dec·and feasible? smaller? precedes? decLe decLt ℕ-discrete
 marked-right = given (all? (λ r. all? (right? (dayOfRow r)) (r .claims)) marked) tt

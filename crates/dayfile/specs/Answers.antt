@@ -1,33 +1,21 @@
 -- What the calls on day files answer, and what they leave in lent memory; document 01's order of their tests.
--- Main definitions: `Lookup`, `Reading` and `Writing`, the contracts of the calls. Assumes nothing.
+-- Main definitions: `Lookup`, `Reading` and `Writing`, the contracts of the calls; `readFigures`, `writeFigures`. Assumes nothing.
 use mathlib.Core.Path.{_≡_}
 use mathlib.Core.Option.{Option, none, some}
 use mathlib.Core.List.{List, [], _∷_, _++_}
 use Prim.Native.Nat.{ℕ, _+_, _-_, _≤_, min}
-use lib.ListN.{length, drop}
+use lib.ListN.{length, take, drop}
 use denote.Ref.{RefT, now}
-use denote.Triple.Both.{Both}
 use Rattle.day.specs.Sums.{listOf}
-use Rattle.day.specs.Day.{Day, dayOf}
+use Rattle.day.specs.Day.{Day, dayOf, periods}
 use Rattle.day.specs.File.{body, recordAt, number2, number4, periodsIn, walk, noSuchPeriod, field, dayIn, fileOf}
-use Rattle.day.specs.Refusals.{first, badCount, badSlots, badValue, tableTests}
+use Rattle.day.specs.Refusals.{Gives, first, badCount, badSlots, badValue, tableTests}
 use Rattle.day.specs.declared.Refusal.{Refusal}
+use Rattle.day.specs.Figures.{Figures, acceptedWith, refusedWith}
 use Rattle.dayfile.specs.declared.ReadAnswer.{ReadAnswer}
 use Rattle.dayfile.specs.declared.ReadAnswer.the-variants.{Refused, Periods}
 use Rattle.dayfile.specs.declared.WriteAnswer.{WriteAnswer}
 use Rattle.dayfile.specs.declared.WriteAnswer.the-variants as Write
-
--- a lent table at both moments of a call; five of them as a day, when the call begins and when it ends
-abbrev pub Lent : Type 0
-Lent = Both (RefT (List ℕ)) (RefT (List ℕ))
-
-abbrev pub dayBefore : (demand capacity setup unit holding : Lent) → Day
-dayBefore demand capacity setup unit holding =
-    dayOf (now (demand .entry)) (now (capacity .entry)) (now (setup .entry)) (now (unit .entry)) (now (holding .entry))
-
-abbrev pub dayAfter : (demand capacity setup unit holding : Lent) → Day
-dayAfter demand capacity setup unit holding =
-    dayOf (now (demand .exit)) (now (capacity .exit)) (now (setup .exit)) (now (unit .exit)) (now (holding .exit))
 
 -- each table has at least n cells
 pub record Cells (n : ℕ) (tables : Day) : Type 0 where
@@ -51,7 +39,7 @@ pub record BodyAt (file : RefT (List ℕ)) (p : ℕ) (r : RefT (List ℕ)) : Typ
   pub block : r .ptr .0 ≡ file .ptr .0
   pub offset : r .ptr .1 ≡ file .ptr .1 + (p + 1)
 
--- the part handed out for period i, counted from 1: the body of its record, or an empty part where the lookup is refused
+-- the part handed out for period i, counted from 1: the body of its record, or an empty part where the lookup is refused (where that lies is free)
 abbrev pub Part : Option Refusal → RefT (List ℕ) → ℕ → RefT (List ℕ) → Type 0
 Part none file i r = BodyAt file (recordAt (now file) (i - 1)) r
 Part (some refusal) file i r = now r ≡ []
@@ -87,9 +75,29 @@ withPeriods s k tables =
 abbrev pub withDay : List ℕ → Day → Day
 withDay s tables = withPeriods s (periodsIn s) tables
 
--- refused, no cell changes; accepted, the count of periods is given and their numbers fill the tables' first cells
+-- a day at the tables' front, whose later cells stay; and the tables' first n cells as a day
+abbrev pub withTables : Day → Day → Day
+withTables d tables =
+    let n = periods d in
+    dayOf
+    (d .demand ++ drop n (tables .demand))
+    (d .capacity ++ drop n (tables .capacity))
+    (d .setup ++ drop n (tables .setup))
+    (d .unit ++ drop n (tables .unit))
+    (d .holding ++ drop n (tables .holding))
+
+abbrev pub firstOf : ℕ → Day → Day
+firstOf n tables =
+    dayOf (take n (tables .demand)) (take n (tables .capacity)) (take n (tables .setup)) (take n (tables .unit)) (take n (tables .holding))
+
+-- a reading's answer in figures: the count of periods
+abbrev pub readFigures : ReadAnswer → Figures ℕ
+readFigures (Refused r) = refusedWith r
+readFigures (Periods n) = acceptedWith (n ∷ [])
+
+-- refused, by number and period, no cell changes; accepted, the count of periods is given and their numbers fill the tables' first cells
 abbrev pub Reading : List ℕ → Day → ReadAnswer → Day → Type 0
-Reading s before (Refused r) after = (badRead s (shortest before) ≡ some r) × (after ≡ before)
+Reading s before (Refused r) after = Gives (badRead s (shortest before)) r × (after ≡ before)
 Reading s before (Periods n) after = (badRead s (shortest before) ≡ none) × (n ≡ periodsIn s) × (after ≡ withDay s before)
 
 -- a writing: 1, 2, 3, and 6 where the slice is shorter than the file
@@ -100,7 +108,12 @@ badWrite d room = first (tableTests d ++ (badSlots room (length (fileOf d)) ∷ 
 abbrev pub withFile : Day → List ℕ → List ℕ
 withFile d out = fileOf d ++ drop (length (fileOf d)) out
 
--- refused, no byte changes; accepted, the file is written and its length given
+-- a writing's answer in figures: the count of bytes
+abbrev pub writeFigures : WriteAnswer → Figures ℕ
+writeFigures (Write.Refused r) = refusedWith r
+writeFigures (Write.Bytes n) = acceptedWith (n ∷ [])
+
+-- refused, by number and period, no byte changes; accepted, the file is written and its length given
 abbrev pub Writing : Day → List ℕ → WriteAnswer → List ℕ → Type 0
-Writing d before (Write.Refused r) after = (badWrite d (length before) ≡ some r) × (after ≡ before)
+Writing d before (Write.Refused r) after = Gives (badWrite d (length before)) r × (after ≡ before)
 Writing d before (Write.Bytes n) after = (badWrite d (length before) ≡ none) × (n ≡ length (fileOf d)) × (after ≡ withFile d before)

@@ -1,6 +1,7 @@
 -- Laws of the layout.
 --     period-at, end-found            the records that `periodsIn` counts are whole periods, and the one after them is not
 --     walked-none, -more, -end        a walk over the period records, record by record
+--     day-in-front, with-day          the tables that a reading filled begin with the file's day
 --     laid-out; counted, walk-clean   the walk meets no fault exactly if the file is laid out as document 01 says
 -- Assumes nothing.
 use mathlib.Core.Path.{_≡_, refl, _∙_}
@@ -15,13 +16,15 @@ use lib.Arith.{le-zero}
 use lib.Dec.{eqb, leb, ltb}
 use lib.ListN.{length, take, drop, length-take, length-drop}
 use borrow.Author.Tests.{eqb-true, leb-true, leb-false, ltb-false, lt-ltb, le-ltb, le-leb, eq-eqb, not-true, not-false}
-use Rattle.day.specs.Sums.{at, length-listOf}
-use Rattle.day.specs.Day.{maxPeriods}
+use lib.Seq.{take-at}
+use Rattle.day.specs.Sums.{at, listOf, length-listOf}
+use Rattle.day.specs.Day.{Day, maxPeriods}
 use Rattle.day.specs.Find.{find, find-none, find-here, none-found, nothing-found, some-found}
 use Rattle.day.specs.Tests.{not-refused, neither}
 use Rattle.day.specs.File.{periodKind, endKind, isKind, bodyLength, body, number2, next, recordAt, Layout}
-use Rattle.day.specs.File.{isPeriod, periodsIn, orZero, unknownKind, truncated, wrongEnd, walk, dayIn}
+use Rattle.day.specs.File.{isPeriod, periodsIn, orZero, unknownKind, truncated, wrongEnd, walk, field, dayIn}
 use Rattle.checks.specs.Passed.{SameLengths, Readable}
+use Rattle.dayfile.specs.Answers.{withFirst, withDay, withTables, firstOf}
 use Rattle.dayfile.specs.Passed.{each-passed}
 
 -- a body of a known kind has 2 bytes at least
@@ -173,3 +176,13 @@ day-lengths s = record {
 
 pub day-readable : (s : List ℕ) → periodsIn s ≤ maxPeriods → Readable (dayIn s)
 day-readable s l = record { few = rw length-listOf l; lengths = day-lengths s }
+
+-- tables that a reading filled: the file's day stands at their front
+with-front : (f : ℕ → ℕ) (n : ℕ) (l : List ℕ) → take n (withFirst f n l) ≡ listOf f n
+with-front f n l = take-at (listOf f n) (drop n l) n (length-listOf f n)
+
+pub day-in-front : (s : List ℕ) (n : ℕ) (before after : Day) → n ≡ periodsIn s → after ≡ withDay s before → firstOf n after ≡ dayIn s
+day-in-front s n before after e w = rw (e, w) (simp with-front)
+
+pub with-day : (s : List ℕ) (before : Day) → withDay s before ≡ withTables (dayIn s) before
+with-day s before = rw (length-listOf (field number2 0 s) (periodsIn s)) refl

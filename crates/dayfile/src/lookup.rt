@@ -1,6 +1,7 @@
 // The body of a numbered period record, and the refusal of such a lookup.
 ghost use mathlib.Core.Path.{_≡_};
 ghost use Rattle.day.specs.Refusals.{checked};
+ghost use Rattle.day.specs.Figures.{Checks};
 ghost use Rattle.day.specs.File.{noSuchPeriod};
 ghost use Rattle.dayfile.specs.Answers.{badLookup, Lookup};
 use crate::layout;
@@ -19,7 +20,7 @@ fn number(n: usize, period: usize) -> Check
 
 // Why a lookup is refused, or that it is not: 10, 11, 12, then 1, then 13.
 pub fn check(file: &[u8], period: usize) -> Check
-    ensures { λ r. ⌜ r ≡ checked (badLookup (now (file .entry)) period) ⌝ }
+    ensures { λ r. ⌜ Checks (badLookup (now (file .entry)) period) r ⌝ }
 {
     let n = layout::periods(file);
     if let Check::Refused(r) = layout::tests(file, n) {

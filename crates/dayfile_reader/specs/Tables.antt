@@ -1,23 +1,20 @@
 -- The lent tables: filled by the reader, period by period.
--- Main statements: `read-passed`, what an accepted reading tells; `read-turn`, a turn of the loop that fills; `day-in-front`, what it
--- leaves. Assumes nothing.
+-- Main statements: `read-passed`, what an accepted reading tells; `read-turn`, a turn of the loop that fills. Assumes nothing.
 use mathlib.Core.Path.{_≡_, refl, ap, _∙_}
 use mathlib.Core.List.{List, [], _∷_, _++_}
 use mathlib.Core.Option.{none}
-use Prim.Native.Nat.{ℕ, zero, suc, _+_, _-_, _≤_, _<_}
+use Prim.Native.Nat.{ℕ, zero, suc, _+_, _≤_, _<_}
 use native.Mathlib.Nat.{le-of-suc-le-suc}
 use native.Mathlib.Numerals.{add-one}
 use native.Mathlib.Omega.{arith}
 use borrow.Author.Tests.{ltb-false}
-use lib.ListN.{length, take, drop, set}
-use lib.Seq.{take-at}
-use Rattle.day.specs.Sums.{listOf, length-listOf}
+use lib.ListN.{length, set}
 use Rattle.day.specs.Day.{Day, dayOf, maxPeriods}
 use Rattle.day.specs.declared.Refusal.the-variants.{FewSlots}
 use Rattle.day.specs.Refusals.{badSlots, badValue}
 use Rattle.day.specs.Tests.{not-refused}
 use Rattle.day.specs.File.{recordAt, next, body, number2, number4, periodsIn, walk, field, dayIn}
-use Rattle.dayfile.specs.Answers.{Cells, fileTests, shortest, badRead, withFirst, withPeriods, withDay}
+use Rattle.dayfile.specs.Answers.{Cells, fileTests, shortest, badRead, withFirst, withPeriods}
 use Rattle.checks.specs.Passed.{count-passed}
 use Rattle.dayfile.specs.Passed.{each-passed}
 use Rattle.dayfile.specs.Layout.{WholePeriod, period-at}
@@ -80,22 +77,6 @@ same-cells s k before after e w =
       unit = with-length _ k _ (w .unit);
       holding = with-length _ k _ (w .holding);
     })
-
--- the first n cells of filled tables are the file's day
-with-front : (f : ℕ → ℕ) (n : ℕ) (l : List ℕ) → take (n - 0) (withFirst f n l) ≡ listOf f n
-with-front f n l = take-at (listOf f n) (drop n l) (n - 0) (rw length-listOf (omega arith))
-
-abbrev pub firstOf : ℕ → Day → Day
-firstOf n tables =
-    dayOf
-    (take (n - 0) (tables .demand))
-    (take (n - 0) (tables .capacity))
-    (take (n - 0) (tables .setup))
-    (take (n - 0) (tables .unit))
-    (take (n - 0) (tables .holding))
-
-pub day-in-front : (s : List ℕ) (n : ℕ) (before after : Day) → n ≡ periodsIn s → after ≡ withDay s before → firstOf n after ≡ dayIn s
-day-in-front s n before after e w = rw (e, w) (simp with-front)
 
 -- one period more
 periods-more : (s : List ℕ) (k : ℕ) (before : Day) → Cells (suc k) before

@@ -1,58 +1,101 @@
--- What demand 2 asks of the writer: a file reads as given tables exactly if it is the file that the writer makes of them
--- (`read-is-written`, `written-is-read`). Assumes nothing.
-use mathlib.Core.Path.{_≡_, refl, sym, ap, _∙_}
+-- What demand 2 asks of reader and writer, of their contracts `Reading` and `Writing`:
+--     written-is-read     what the writer wrote, the reader accepts, and it fills the tables with the very day
+--     read-is-written     a file that the reader accepted is, byte for byte, what the writer makes of the tables that it filled
+--     room-suffices       with room the writer refuses no day within the limits
+-- Assumes nothing.
+use mathlib.Core.Path.{_≡_, refl, sym, ap, subst, _∙_}
 use mathlib.Core.List.{List, [], _∷_, _++_}
-use mathlib.Core.Option.{none}
-use Prim.Native.Nat.{ℕ}
-use native.Mathlib.Omega.{arith}
-use borrow.Author.Tests.{le-ltb, eq-eqb}
-use lib.ListN.{length}
+use mathlib.Core.Option.{Option, none, Option·none-ne-some}
+use Prim.Native.Nat.{ℕ, _≤_}
+use borrow.Author.Tests.{le-ltb}
+use lib.ListN.{length, take, drop}
+use lib.Seq.{take-at}
 use Rattle.day.specs.Sums.{length-listOf}
-use Rattle.day.specs.Day.{Day, periods, maxPeriods}
-use Rattle.day.specs.Refusals.{first, badCount, badLengths, badValue, badSlots, tableTests}
-use Rattle.day.specs.Tests.{first-split}
+use Rattle.day.specs.Day.{Day, periods}
+use Rattle.day.specs.declared.Refusal.{Refusal}
+use Rattle.day.specs.Refusals.{Gives, badCount, badValue, badSlots, tableTests}
+use Rattle.day.specs.Tests.{first-split, first-passed}
 use Rattle.day.specs.File.{number2, periodsIn, field, dayIn, fileOf}
-use Rattle.checks.specs.Passed.{SameLengths, tables-passed}
-use Rattle.dayfile.specs.Answers.{fileTests, badRead, badWrite}
+use Rattle.checks.specs.Passed.{Limits, tables-passed, lengths-pass, tables-pass}
+use Rattle.dayfile.specs.declared.ReadAnswer.{ReadAnswer}
+use Rattle.dayfile.specs.declared.ReadAnswer.the-variants as reader
+use Rattle.dayfile.specs.declared.WriteAnswer.{WriteAnswer}
+use Rattle.dayfile.specs.declared.WriteAnswer.the-variants as writer
+use Rattle.dayfile.specs.Answers.{fileTests, badRead, badWrite, shortest, firstOf, withTables, Reading, Writing}
 use Rattle.dayfile.specs.Passed.{each-passed}
-use Rattle.dayfile.specs.Layout.{laid-out, counted, walk-clean, day-lengths}
+use Rattle.dayfile.specs.Layout.{laid-out, counted, walk-clean, day-lengths, day-in-front, with-day}
 use Rattle.dayfile_writer.specs.RoundTrip.{Bytes, only-file, file-layout, reads-back}
 
--- the reader, with tables to spare, takes the file and gives the day
-pub record Reads (s : List ℕ) (d : Day) : Type 0 where
-  pub taken : badRead s maxPeriods ≡ none
-  pub gives : dayIn s ≡ d
+-- no refusal is given where there is none
+not-given : {o : Option Refusal} {r : Refusal} → o ≡ none → Gives o r → ⊥
+not-given e g = Option·none-ne-some _ (sym e ∙ g .is)
 
--- the writer, with room for the file, takes the day and makes the file
-pub record Writes (d : Day) (s : List ℕ) : Type 0 where
-  pub taken : badWrite d (length s) ≡ none
-  pub makes : fileOf d ≡ s
+-- an accepted reading: the count of the day's periods is given, the tables' first cells are the day, and later cells stay
+pub record DayRead (d before : Day) (answer : ReadAnswer) (after : Day) : Type 0 where
+  pub count : answer ≡ reader.Periods (periods d)
+  pub tables : after ≡ withTables d before
 
-good-lengths : (d : Day) → SameLengths d → badLengths d ≡ none
-good-lengths d w =
-    simp (eq-eqb _ _ (w .capacity), eq-eqb _ _ (w .setup), eq-eqb _ _ (w .unit), eq-eqb _ _ (w .holding))
+-- an accepted writing: the count of the file's bytes is given, they stand at the slice's front, and later bytes stay
+pub record FileWritten (file before : List ℕ) (answer : WriteAnswer) (after : List ℕ) : Type 0 where
+  pub count : answer ≡ writer.Bytes (length file)
+  pub bytes : after ≡ file ++ drop (length file) before
 
-pub read-is-written : (s : List ℕ) (d : Day) → Bytes s → Reads s d → Writes d s
-read-is-written s d h w =
-    let n = periodsIn s in
-    let each = each-passed (fileTests s ++ (badSlots maxPeriods n ∷ badValue (dayIn s) ∷ [])) (w .taken) in
+-- where the tests refuse nothing, a writing is accepted
+accepts : (d : Day) (before after : List ℕ) (answer : WriteAnswer) → badWrite d (length before) ≡ none → Writing d before answer after
+    → FileWritten (fileOf d) before answer after
+accepts d before after (writer.Refused r) e w = absurd (not-given e (w .0))
+accepts d before after (writer.Bytes n) e w = record { count = ap writer.Bytes (w .1); bytes = w .2 }
+
+pub room-suffices : (d : Day) (before after : List ℕ) (answer : WriteAnswer) → Limits d → length (fileOf d) ≤ length before
+    → Writing d before answer after
+    → FileWritten (fileOf d) before answer after
+room-suffices d before after answer limits room w =
+    let last = badSlots (length before) (length (fileOf d)) in
+    let fits : last ≡ none = rw (le-ltb (length before) (length (fileOf d)) room) refl in
+    accepts d before after answer (first-passed (tableTests d) (last ∷ []) (tables-pass d limits) ∙ rw fits refl) w
+
+pub read-is-written : (s : List ℕ) (n : ℕ) (before after : Day) (out out′ : List ℕ) (answer : WriteAnswer) → Bytes s
+    → Reading s before (reader.Periods n) after → Writing (firstOf n after) out answer out′ → length s ≤ length out
+    → FileWritten s out answer out′
+read-is-written s n before after out out′ answer h r w room =
+    let each = each-passed (fileTests s ++ (badSlots (shortest before) (periodsIn s) ∷ badValue (dayIn s) ∷ [])) (r .0) in
+    let day = day-in-front s n before after (r .1) (r .2) in
     let made = sym (only-file s h (laid-out s (each .0))) in
-    let counts : badCount (periods (dayIn s)) ≡ none = ap badCount (length-listOf (field number2 0 s) n) ∙ each .1 .0 in
-    let fits : badSlots (length s) (length (fileOf (dayIn s))) ≡ none = rw (made, le-ltb (length s) (length s) (omega arith)) refl in
-    rw (← w .gives)
-    (record { taken = rw (counts, good-lengths (dayIn s) (day-lengths s), each .1 .1 .1 .0, fits) refl; makes = made })
+    let counts : badCount (periods (dayIn s)) ≡ none = ap badCount (length-listOf (field number2 0 s) (periodsIn s)) ∙ each .1 .0 in
+    let fits : badSlots (length out) (length (fileOf (dayIn s))) ≡ none = rw (made, le-ltb (length out) (length s) room) refl in
+    let ok : badWrite (dayIn s) (length out) ≡ none =
+    rw (counts, lengths-pass (dayIn s) (day-lengths s), each .1 .1 .1 .0, fits) refl in
+    subst
+    (λ (file : List ℕ). FileWritten file out answer out′)
+    made
+    (accepts (dayIn s) out out′ answer ok (subst (λ (d : Day). Writing d out answer out′) day w))
 
-pub written-is-read : (s : List ℕ) (d : Day) → Writes d s → Reads s d
-written-is-read s d w =
-    let n = periods d in
-    let room = badSlots (length s) (length (fileOf d)) in
-    let limits = tables-passed d (first-split (tableTests d) (room ∷ []) (w .taken) .0) in
-    let each = each-passed (tableTests d ++ (room ∷ [])) (w .taken) in
-    let back = reads-back d (limits .lengths) in
-    let value = ap badValue back ∙ each .1 .1 .0 in
+-- the file of a day that the writer took, with tables of a cell for each period
+file-taken : (d : Day) (room cells : ℕ) → badWrite d room ≡ none → periods d ≤ cells → badRead (fileOf d) cells ≡ none
+file-taken d room cells e l =
+    let last = badSlots room (length (fileOf d)) in
+    let limits = tables-passed d (first-split (tableTests d) (last ∷ []) e .0) in
+    let each = each-passed (tableTests d ++ (last ∷ [])) e in
+    let value = ap badValue (reads-back d (limits .lengths)) ∙ each .1 .1 .0 in
     let laid = file-layout d in
-    rw (← w .makes)
-    (record {
-      taken = rw (value, walk-clean (fileOf d) n laid, counted (fileOf d) n laid, each .0, le-ltb maxPeriods n (limits .few)) refl;
-      gives = back;
-    })
+    rw (value, walk-clean (fileOf d) (periods d) laid, counted (fileOf d) (periods d) laid, each .0, le-ltb cells (periods d) l) refl
+
+pub written-is-read : (d : Day) (n : ℕ) (out out′ : List ℕ) (before after : Day) (answer : ReadAnswer)
+    → Writing d out (writer.Bytes n) out′ → Reading (take n out′) before answer after → periods d ≤ shortest before
+    → DayRead d before answer after
+written-is-read d n out out′ before after answer w r room =
+    let file : take n out′ ≡ fileOf d = rw (w .2) (take-at (fileOf d) (drop (length (fileOf d)) out) n (sym (w .1))) in
+    let last = badSlots (length out) (length (fileOf d)) in
+    let limits = tables-passed d (first-split (tableTests d) (last ∷ []) (w .0) .0) in
+    go answer
+    (file-taken d (length out) (shortest before) (w .0) room)
+    (reads-back d (limits .lengths))
+    (subst (λ (s : List ℕ). Reading s before answer after) file r)
+  where
+    go : (answer : ReadAnswer) → badRead (fileOf d) (shortest before) ≡ none → dayIn (fileOf d) ≡ d → Reading (fileOf d) before answer after
+        → DayRead d before answer after
+    go (reader.Refused x) ok back q = absurd (not-given ok (q .0))
+    go (reader.Periods k) ok back q = record {
+      count = ap reader.Periods (q .1 ∙ counted (fileOf d) (periods d) (file-layout d));
+      tables = q .2 ∙ (with-day (fileOf d) before ∙ ap (λ (e : Day). withTables e before) back);
+    }

@@ -59,33 +59,44 @@ fn read_input(file: &mut [u8]) -> Input
     Input::Bytes(have)
 }
 
+// Writes a line, or says on standard error that it could not.
+fn print(line: &[u8]) -> bool {
+    let written = io::write_all(STDOUT_FILENO, line);
+    if !written {
+        os::fail(b"standard output");
+    }
+    written
+}
+
 fn print_refusal(r: Refusal) {
     let mut line = [0u8; 96];
     let n = lines::refusal_line(r, &mut line);
-    io::write_all(STDOUT_FILENO, &line[0..n]);
+    print(&line[0..n]);
 }
 
-fn print_amount(demand: &[u16], plan: &[u16], i: usize)
+fn print_amount(demand: &[u16], plan: &[u16], i: usize) -> bool
     requires { ⌜ HavePeriods (now demand) (now plan) (i + 1) ⌝ }
 {
     let mut line = [0u8; 96];
     let n = lines::amount_line(demand, plan, i, &mut line);
-    io::write_all(STDOUT_FILENO, &line[0..n]);
+    print(&line[0..n])
 }
 
-fn print_totals(n: usize, totals: Totals) {
+fn print_totals(n: usize, totals: Totals) -> bool {
     let mut line = [0u8; 96];
     let end = lines::plan_line(n as u64, totals.cost, totals.setups, &mut line);
-    io::write_all(STDOUT_FILENO, &line[0..end]);
+    print(&line[0..end])
 }
 
-// A line for each period.
+// A line for each period, as long as they can be written.
 fn print_amounts(demand: &[u16], plan: &[u16])
     requires { ⌜ HavePeriods (now demand) (now plan) (length (now demand)) ⌝ }
 {
     let mut i = 0;
     while i < demand.len() {
-        print_amount(demand, plan, i);
+        if !print_amount(demand, plan, i) {
+            return;
+        }
         i += 1;
     }
 }
@@ -109,8 +120,9 @@ fn plan(demand: &[u16], capacity: &[u16], setup: &[u32], unit: &[u32], holding: 
             print_refusal(r);
         }
         Answer::Planned(totals) => {
-            print_totals(demand.len(), totals);
-            print_amounts(demand, &slots);
+            if print_totals(demand.len(), totals) {
+                print_amounts(demand, &slots);
+            }
         }
     }
 }

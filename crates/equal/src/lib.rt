@@ -3,7 +3,8 @@
 ghost use Prim.Native.Nat.{ℕ};
 ghost use lib.ListN.{length};
 ghost use Rattle.day.specs.Day.{dayOf};
-ghost use Rattle.day.specs.Outcome.{memoryOf, sizes, Accepted, Runs};
+ghost use Rattle.day.specs.Lent.{dayBefore, memoryBefore, memoryAfter};
+ghost use Rattle.day.specs.Outcome.{sizes, Accepted, Runs};
 ghost use Rattle.day.specs.Paths.{equal};
 ghost use Rattle.checks.specs.Passed.{Admitted};
 ghost use Rattle.theory.specs.Problem.{problemWith};
@@ -61,10 +62,10 @@ fn work(
         (dayOf (now demand) (now capacity) (now setup) (now unit) (now holding))
         (sizes (length (now costs)) (length (now choices)) (length (now slots))) ⌝ }
     ensures { λ r. ⌜ Accepted equal
-        (dayOf (now (demand .entry)) (now (capacity .entry)) (now (setup .entry)) (now (unit .entry)) (now (holding .entry)))
+        (dayBefore demand capacity setup unit holding)
         r
-        (memoryOf (now (costs .entry)) (now (choices .entry)) (now (slots .entry)))
-        (memoryOf (now (costs .exit)) (now (choices .exit)) (now (slots .exit))) ⌝ }
+        (memoryBefore costs choices slots)
+        (memoryAfter costs choices slots) ⌝ }
 {
     let n = demand.len();
     let needed = checks::cells(PathKind::Equal, n, 0);
@@ -97,10 +98,10 @@ pub fn plan(
     slots: &mut [u16],
 ) -> Answer
     ensures { λ r. ⌜ Runs equal
-        (dayOf (now (demand .entry)) (now (capacity .entry)) (now (setup .entry)) (now (unit .entry)) (now (holding .entry)))
-        (memoryOf (now (costs .entry)) (now (choices .entry)) (now (slots .entry)))
+        (dayBefore demand capacity setup unit holding)
+        (memoryBefore costs choices slots)
         r
-        (memoryOf (now (costs .exit)) (now (choices .exit)) (now (slots .exit))) ⌝ }
+        (memoryAfter costs choices slots) ⌝ }
 {
     if let Check::Refused(r) = checks::path(
         PathKind::Equal,

@@ -2,6 +2,7 @@
 ghost use mathlib.Core.Path.{_≡_};
 ghost use mathlib.Core.Option.{none};
 ghost use Rattle.day.specs.Day.{dayOf};
+ghost use Rattle.day.specs.Lent.{dayBefore, memoryBefore, memoryAfter};
 ghost use Rattle.day.specs.Outcome.{memoryOf, sizesOf, refusal, Accepted, Runs};
 ghost use Rattle.day.specs.Paths.{full};
 ghost use Rattle.theory.specs.Problem.{problemWith};
@@ -31,8 +32,8 @@ fn fill_and_read(
     ensures { λ _. ⌜ PlanLeft
         (problemWith (now (demand .entry)) (now (capacity .entry)) (now (setup .entry)) (now (unit .entry)) (now (holding .entry)))
         needed
-        (memoryOf (now (costs .entry)) (now (choices .entry)) (now (slots .entry)))
-        (memoryOf (now (costs .exit)) (now (choices .exit)) (now (slots .exit))) ⌝ }
+        (memoryBefore costs choices slots)
+        (memoryAfter costs choices slots) ⌝ }
 {
     let cost_cells = needed.costs;
     let choice_cells = needed.choices;
@@ -65,10 +66,10 @@ fn work(
         (dayOf (now demand) (now capacity) (now setup) (now unit) (now holding))
         (sizesOf (memoryOf (now costs) (now choices) (now slots))) ≡ none ⌝ }
     ensures { λ r. ⌜ Accepted full
-        (dayOf (now (demand .entry)) (now (capacity .entry)) (now (setup .entry)) (now (unit .entry)) (now (holding .entry)))
+        (dayBefore demand capacity setup unit holding)
         r
-        (memoryOf (now (costs .entry)) (now (choices .entry)) (now (slots .entry)))
-        (memoryOf (now (costs .exit)) (now (choices .exit)) (now (slots .exit))) ⌝ }
+        (memoryBefore costs choices slots)
+        (memoryAfter costs choices slots) ⌝ }
 {
     let total = checks::total(demand) as usize;
     let needed = checks::cells(PathKind::Full, demand.len(), total);
@@ -102,10 +103,10 @@ pub fn plan(
     slots: &mut [u16],
 ) -> Answer
     ensures { λ r. ⌜ Runs full
-        (dayOf (now (demand .entry)) (now (capacity .entry)) (now (setup .entry)) (now (unit .entry)) (now (holding .entry)))
-        (memoryOf (now (costs .entry)) (now (choices .entry)) (now (slots .entry)))
+        (dayBefore demand capacity setup unit holding)
+        (memoryBefore costs choices slots)
         r
-        (memoryOf (now (costs .exit)) (now (choices .exit)) (now (slots .exit))) ⌝ }
+        (memoryAfter costs choices slots) ⌝ }
 {
     if let Check::Refused(r) = checks::path(
         PathKind::Full,

@@ -1,6 +1,6 @@
 -- The head of the queue is the choice of recursion (5), unless making nothing is as cheap.
 -- Main statements: `best-none`, `best-head` and `best-either`, for an empty queue and one that is not. Assumes nothing.
-use mathlib.Core.Path.{_≡_, refl, ap, _∙_}
+use mathlib.Core.Path.{_≡_, refl, ap}
 use mathlib.Core.List.{List}
 use mathlib.Core.Logic.{⊎-elim}
 use Prim.Native.Nat.{ℕ, zero, suc, _+_, _-_, _*_, _≤_, _<_}
@@ -45,27 +45,23 @@ first-best s row X v f =
     ap (choiceOf s row X) r
 
 module _ (s : Stage) (row : ℕ → ℕ) (X : ℕ) (under : X ≤ s .top) where
-  price-key : (Y : ℕ) → Y < X → priceOf s row X (X - Y) + s .unit * (s .top - X) ≡ keyOf s row Y
+  price-key : (Y : ℕ) → Y < X → priceOf s row X (X - Y) + s .unit * (s .top - X) ≡ keyOf s row Y + s .setup
   price-key Y l = go (X - Y) refl
     where
-      go : (v : ℕ) → v ≡ X - Y → priceOf s row X v + s .unit * (s .top - X) ≡ keyOf s row Y
+      go : (v : ℕ) → v ≡ X - Y → priceOf s row X v + s .unit * (s .top - X) ≡ keyOf s row Y + s .setup
       go zero e = absurd (omega arith)
       go (suc v) e =
-          let rest : ℕ = s .top - X in
-          let x : X - suc v ≡ Y = omega arith in
-          let y : s .top - (s .top - Y) ≡ Y = omega arith in
-          let d : s .top - Y ≡ suc (v + rest) = omega arith in
-          let m : s .unit * suc (v + rest) ≡ s .unit * suc v + s .unit * rest =
-          ap (λ (k : ℕ). s .unit * k) (omega arith) ∙ mul-add (s .unit) (suc v) rest in
-          rw (x, y, d) (omega arith)
+          let y : X - suc v ≡ Y = omega arith in
+          let d : s .top - Y ≡ suc v + (s .top - X) = omega arith in
+          rw (y, d, mul-add) (omega arith)
 
   -- prices for one X compare as keys
   prices : {P : Type 0} (Y Z : ℕ) → Y < X → Z < X → Ahead P (keyOf s row Y) (keyOf s row Z)
       → Ahead P (priceOf s row X (X - Y)) (priceOf s row X (X - Z))
-  prices {P} Y Z l m k = go _ _ (s .unit * (s .top - X)) _ _ (price-key Y l) (price-key Z m) k
+  prices {P} Y Z l m k = go _ _ (s .unit * (s .top - X)) (s .setup) _ _ (price-key Y l) (price-key Z m) k
     where
-      go : (p q c i j : ℕ) → p + c ≡ i → q + c ≡ j → Ahead P i j → Ahead P p q
-      go p q c i j e f h = (omega (arith, h .0), λ g. omega (arith, h .1 g))
+      go : (p q c d i j : ℕ) → p + c ≡ i + d → q + c ≡ j + d → Ahead P i j → Ahead P p q
+      go p q c d i j e f h = (omega (arith, h .0), λ g. omega (arith, h .1 g))
 
 -- the head is the cheapest candidate, of equals the last
 head-first : {s : Stage} {row : ℕ → ℕ} {cells : List ℕ} {X head tail : ℕ} → Queue s row cells X head tail → (Y : ℕ) → Candidate s X Y

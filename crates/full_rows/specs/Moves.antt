@@ -2,14 +2,13 @@
 -- Main statements: `queue-enter` and `queue-trim`. Assumes nothing.
 use mathlib.Core.Path.{_≡_, refl, ap}
 use mathlib.Core.List.{List}
-use Prim.Native.Nat.{ℕ, _+_, _-_, _≤_, _<_, min}
+use Prim.Native.Nat.{ℕ, _+_, _-_, _*_, _≤_, _<_, min}
 use native.Mathlib.Nat.{le-trans}
 use native.Mathlib.Decide.{decLt}
 use native.Mathlib.Omega.{arith}
 use lib.ListN.{length, set}
 use lib.Seq.{getD-set-same, getD-set-other}
 use Rattle.day.specs.Sums.{at}
-use Rattle.day.specs.Plan.{making}
 use Rattle.full_rows.specs.declared.Stage.{Stage}
 use Rattle.full_rows.specs.Queue.{keyOf, Entry, Candidate, Substitute, Queue, Window, Trimmed, Outdone}
 
@@ -57,7 +56,7 @@ module _ {s : Stage} {row : ℕ → ℕ} where
       }
     where
       key-is : (Y : ℕ) → Y ≤ s .high → keyOf s row′ Y ≡ keyOf s row Y
-      key-is Y h = ap (λ (d : ℕ). d + making (s .setup) (s .unit) (s .top - Y)) (e (s .top - (s .top - Y)) (omega arith))
+      key-is Y h = ap (λ (d : ℕ). d + s .unit * (s .top - Y)) (e Y h)
 
       key-at : (i : ℕ) → head ≤ i → i < tail → keyOf s row′ (at cells′ i) ≡ keyOf s row (at cells i)
       key-at i a b = let g = f i a in rw g (key-is (at cells i) (q .entries i a b .high))

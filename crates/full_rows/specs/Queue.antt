@@ -5,16 +5,16 @@
 -- Main definitions: `Queue` and `Window`. Assumes nothing.
 use mathlib.Core.Path.{_≡_}
 use mathlib.Core.List.{List}
-use Prim.Native.Nat.{ℕ, _+_, _-_, _≤_, _<_}
+use Prim.Native.Nat.{ℕ, _+_, _-_, _*_, _≤_, _<_}
 use lib.ListN.{length}
 use Rattle.day.specs.Sums.{at}
 use Rattle.full_rows.specs.declared.Stage.{Stage}
 use Rattle.full_rows.specs.declared.Next.{Next}
-use Rattle.full_rows.specs.Row.{priceOf, bestOf, cellOf}
+use Rattle.full_rows.specs.Row.{bestOf, cellOf}
 
--- what the total `top` would cost by one amount from Y, whatever the capacity
+-- what the total `top` would cost from Y, without the setup
 abbrev pub keyOf : Stage → (ℕ → ℕ) → ℕ → ℕ
-keyOf s row Y = priceOf s row (s .top) (s .top - Y)
+keyOf s row Y = row Y + s .unit * (s .top - Y)
 
 -- Y is below X, and can be reached before the stage
 pub record Entry (s : Stage) (X Y : ℕ) : Type 0 where

@@ -99,13 +99,13 @@ fn cell_for(s: Stage, best: Choice, total: usize) -> Cell
     }
 }
 
-// What a total before the stage is compared by.
+// What a total before the stage is compared by; without the setup, so that the queue's loop has one branch less.
 fn key(s: Stage, costs: &[u64], from: usize, before: usize) -> u64
     requires { ⌜ Open s (now costs) from ⌝ }
     requires { ⌜ Entry s (s .top + 1) before ⌝ }
     ensures { λ r. ⌜ r ≡ keyOf s (rowAt (now (costs .entry)) from) before ⌝ }
 {
-    choice_for(s, costs, from, s.top, s.top - before).price
+    costs[from + before] + (s.unit as u64) * ((s.top - before) as u64)
 }
 
 // Where the queue ends once the entries at its back that the newcomer outdoes have left.

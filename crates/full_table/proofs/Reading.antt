@@ -18,7 +18,7 @@ drop-set l j v h =
     ∙ ap (λ (t : List ℕ). v ∷ t) (drop-set-lt (suc j) l j v (omega arith)))
 
 -- k periods are still to be read, and `left` is their total
-pub record Reading (choices slots : List ℕ) (n T : ℕ) (slots′ : List ℕ) (base left k : ℕ) : Type 0 where
+pub record BackRead (choices slots : List ℕ) (n T : ℕ) (slots′ : List ℕ) (base left k : ℕ) : Type 0 where
   pub inside : k ≤ n
   pub row : base ≡ k * (T + 1)
   pub under : left ≤ T
@@ -34,7 +34,7 @@ pub record Turn (choices : List ℕ) (T base left k : ℕ) : Type 0 where
   pub fits : at choices (base - (T + 1) + left) ≤ left
 
 module _ {choices slots : List ℕ} {n T : ℕ} (r : Traceable choices slots n T) where
-  pub reading-none : Reading choices slots n T slots (n * (T + 1)) T n
+  pub reading-none : BackRead choices slots n T slots (n * (T + 1)) T n
   reading-none =
       record {
         inside = omega arith;
@@ -45,7 +45,7 @@ module _ {choices slots : List ℕ} {n T : ℕ} (r : Traceable choices slots n T
         size = refl;
       }
 
-  module _ {slots′ : List ℕ} {base left k : ℕ} (c : Reading choices slots n T slots′ base left k) where
+  module _ {slots′ : List ℕ} {base left k : ℕ} (c : BackRead choices slots n T slots′ base left k) where
     step-down : (j : ℕ) → k ≡ suc j → (base - (T + 1) ≡ j * (T + 1)) × (T + 1 ≤ base) × (base ≤ n * (T + 1))
     step-down j e =
         let m : k * (T + 1) ≡ j * (T + 1) + (T + 1) = rw e (suc-mul j (T + 1)) in
@@ -65,11 +65,11 @@ module _ {choices slots : List ℕ} {n T : ℕ} (r : Traceable choices slots n T
         }
 
     pub reading-more : (a : ℕ) → 0 < k → a ≡ cellAt choices T (k - 1) left
-        → Reading choices slots n T (set slots′ (k - 1) a) (base - (T + 1)) (left - a) (k - 1)
+        → BackRead choices slots n T (set slots′ (k - 1) a) (base - (T + 1)) (left - a) (k - 1)
     reading-more a l is = go (k - 1) (omega arith) is
       where
         go : (j : ℕ) → k ≡ suc j → a ≡ cellAt choices T j left
-            → Reading choices slots n T (set slots′ j a) (base - (T + 1)) (left - a) j
+            → BackRead choices slots n T (set slots′ j a) (base - (T + 1)) (left - a) j
         go j e q =
             let t = rw e at (c .traced) in
             let p = rw e at (c .plan) in
@@ -83,6 +83,6 @@ module _ {choices slots : List ℕ} {n T : ℕ} (r : Traceable choices slots n T
               size = length-set slots′ j (cellAt choices T j left) ∙ c .size;
             })
 
-  pub reading-all : {slots′ : List ℕ} {base left k : ℕ} → Reading choices slots n T slots′ base left k → k ≤ 0
+  pub reading-all : {slots′ : List ℕ} {base left k : ℕ} → BackRead choices slots n T slots′ base left k → k ≤ 0
       → slots′ ≡ planRead choices n T ++ drop n slots
   reading-all {slots′} {base} {left} {k} c l = let e : k ≡ 0 = omega arith in rw e at (c .plan)

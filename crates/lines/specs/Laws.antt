@@ -9,14 +9,14 @@ use native.Mathlib.Numerals.{add-one}
 use native.Mathlib.Omega.{arith}
 use borrow.Author.Tests.{lt-ltb, le-ltb}
 use lib.Dec.{ltb}
-use lib.ListN.{length, take, drop}
+use lib.ListN.{length, take}
 use lib.Seq.{getD-take, length-take-le, paste, length-paste, take-paste, take-all}
 use Rattle.io.specs.Digits.{digits, Fewest}
 use Rattle.day.specs.Sums.{at, sumTo, sum-ext}
 use Rattle.day.specs.Day.{Day}
 use Rattle.day.specs.Plan.{inventory}
 use Rattle.day.specs.Find.{find-here, nothing-found}
-use Rattle.lines.specs.Text.{places, placesOf, decimal, labelled, periodLine, amountLine, Put, PutLabelled, put-put}
+use Rattle.lines.specs.Text.{places, placesOf, decimal, periodLine, amountLine, Put, PutLabelled, put-put}
 
 -- all of a text, copied
 pub pasted-put : (line : List ℕ) (place : ℕ) (text : List ℕ) → place + length text ≤ length line

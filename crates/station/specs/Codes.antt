@@ -1,30 +1,23 @@
 -- What a C program sees of a call's answer: one code, and the call's out-array (include/yakkurem.h).
--- Main definitions: `codeOf`, and what is seen of each answer; `code-splits` takes a code apart. Assumes nothing.
-use mathlib.Core.Path.{_≡_, _∙_}
+-- Main definitions: `codeOf`; `seenOf`, what is seen of an answer's figures; `Shows`. Main statements: `code-splits` takes a code apart; `place-holds`:
+-- where a lookup points the record's body stands. Assumes nothing.
+use mathlib.Core.Path.{_≡_, refl, _∙_}
 use mathlib.Core.List.{List, [], _∷_}
 use mathlib.Core.Option.{Option, none, some}
-use Prim.Native.Nat.{ℕ, _+_, _*_, _/_, _%_, _<_}
+use Prim.Native.Nat.{ℕ, _+_, _-_, _*_, _/_, _%_, _<_}
 use native.Mathlib.Nat.{add-mul-mod-self-left, mod-eq-of-lt, add-mul-div-left, div-eq-of-lt, zero-add}
 use native.Mathlib.Omega.{arith}
-use lib.IntN.{ℤ}
-use denote.Ref.{now}
+use lib.ListN.{take, drop}
+use denote.Ref.{RefT, now}
+use denote.Triple.Both.{Both}
 use Rattle.day.specs.declared.Refusal.{Refusal}
-use Rattle.day.specs.Refusals.{numberOf, periodOf}
-use Rattle.day.specs.declared.Answer.{Answer}
-use Rattle.day.specs.declared.Answer.the-variants as answer
-use Rattle.day.specs.Outcome.{memoryOf, Path, Runs}
-use Rattle.dayfile.specs.declared.ReadAnswer.{ReadAnswer}
-use Rattle.dayfile.specs.declared.ReadAnswer.the-variants as reader
-use Rattle.dayfile.specs.declared.WriteAnswer.{WriteAnswer}
-use Rattle.dayfile.specs.declared.WriteAnswer.the-variants as writer
-use Rattle.dayfile.specs.Answers.{Lent, dayBefore, dayAfter, Reading, Writing}
-use Rattle.weigher.specs.declared.Rule.{Rule}
-use Rattle.weigher.specs.declared.Verdict.the-variants.{Holds, Broken}
-use Rattle.weigher.specs.declared.Weighed.{Weighed}
-use Rattle.weigher.specs.declared.Weighed.the-variants.{Refused, Judged}
-use Rattle.weigher.specs.declared.Compared.{Compared}
-use Rattle.weigher.specs.declared.Compared.the-variants as compared
-use Rattle.weigher.specs.Answers.{ruleNumber}
+use Rattle.day.specs.File.{body, recordAt}
+use Rattle.day.specs.Figures.{Figures, acceptedWith, refusedWith, answerFigures}
+use Rattle.day.specs.Outcome.{Path, Runs}
+use Rattle.day.specs.Lent.{Lent, dayBefore, dayAfter, memoryBefore, memoryAfter}
+use Rattle.dayfile.specs.Answers.{badLookup, Reading, Writing, readFigures, writeFigures}
+use Rattle.dayfile.specs.Passed.{lookup-passed}
+use Rattle.dayfile.specs.Layout.{period-at}
 
 -- the code of a number and a period; 0 is the code of an accepted call, which has neither
 abbrev pub codeOf : (number period : ℕ) → ℕ
@@ -45,63 +38,40 @@ pub record Seen (A : Type 0) : Type 0 where
 abbrev pub seen : {A : Type 0} → ℕ → List A → Seen A
 seen code out = record { code = code; out = out }
 
--- an accepted call writes its out-array; any other leaves it as it was
-abbrev pub accepted : {A : Type 0} → List A → Seen A
-accepted values = seen (codeOf 0 0) values
+-- what is seen of an answer's figures: an accepted call writes its out-array, any other leaves it as it was
+abbrev pub outOf : {A : Type 0} → List A → Option (List A) → List A
+outOf before none = before
+outOf before (some values) = values
 
-abbrev pub refused : {A : Type 0} → List A → Refusal → Seen A
-refused before r = seen (codeOf (numberOf r) (periodOf r)) before
+abbrev pub seenOf : {A : Type 0} → List A → Figures A → Seen A
+seenOf before f = seen (codeOf (f .number) (f .period)) (outOf before (f .values))
 
-abbrev pub broken : {A : Type 0} → List A → Rule → ℕ → Seen A
-broken before r i = seen (codeOf (ruleNumber r) i) before
+-- a lookup: where the body of period i's record begins in the file, counted from 0, and how long it is
+abbrev pub placeOf : List ℕ → ℕ → List ℕ
+placeOf s i = (recordAt s (i - 1) + 1) ∷ 16 ∷ []
 
--- a weighing: cost and setups of a plan that holds
-abbrev pub seenWeighed : List ℕ → Weighed → Seen ℕ
-seenWeighed before (Refused r) = refused before r
-seenWeighed before (Judged (Broken r i)) = broken before r i
-seenWeighed before (Judged (Holds t)) = accepted (t .cost ∷ t .setups ∷ [])
+pub place-holds : (s : List ℕ) (i : ℕ) → badLookup s i ≡ none → take 16 (drop (recordAt s (i - 1) + 1) s) ≡ body s (recordAt s (i - 1))
+place-holds s i e = rw (period-at s (i - 1) (omega (arith, lookup-passed s i e)) .kind) refl
 
--- a comparison: the difference
-abbrev pub seenCompared : List ℤ → Compared → Seen ℤ
-seenCompared before (compared.Refused r) = refused before r
-seenCompared before (compared.Broken r i) = broken before r i
-seenCompared before (compared.Difference v) = accepted (v ∷ [])
-
--- a lookup: the body's bytes
 abbrev pub seenLookup : List ℕ → Option Refusal → List ℕ → Seen ℕ
-seenLookup before none bytes = accepted bytes
-seenLookup before (some r) bytes = refused before r
+seenLookup before none place = seenOf before (acceptedWith place)
+seenLookup before (some r) place = seenOf before (refusedWith r)
 
--- a path: cost and setups of the plan
-abbrev pub seenAnswer : List ℕ → Answer → Seen ℕ
-seenAnswer before (answer.Refused r) = refused before r
-seenAnswer before (answer.Planned t) = accepted (t .cost ∷ t .setups ∷ [])
-
--- a reading: the count of periods
-abbrev pub seenReading : List ℕ → ReadAnswer → Seen ℕ
-seenReading before (reader.Refused r) = refused before r
-seenReading before (reader.Periods n) = accepted (n ∷ [])
-
--- a writing: the count of bytes
-abbrev pub seenWriting : List ℕ → WriteAnswer → Seen ℕ
-seenWriting before (writer.Refused r) = refused before r
-seenWriting before (writer.Bytes n) = accepted (n ∷ [])
+abbrev pub LookupShows : (file : Lent) → ℕ → (part : Lent) → ℕ → Type 0
+LookupShows file i part r =
+    let s = now (file .entry) in seen r (now (part .exit)) ≡ seenLookup (now (part .entry)) (badLookup s i) (placeOf s i)
 
 -- some answer that the call may give, and what is seen of it: code r, and the out-array as the call finds and leaves it
-pub record Shows {A : Type 0} (Given : A → Type 0) (show : List ℕ → A → Seen ℕ) (out : Lent) (r : ℕ) : Type 0 where
+pub record Shows {A B : Type 0} (Given : A → Type 0) (figures : A → Figures B) (out : Both (RefT (List B)) (RefT (List B))) (r : ℕ) : Type 0 where
   pub answer : A
   pub given : Given answer
-  pub shown : seen r (now (out .exit)) ≡ show (now (out .entry)) answer
+  pub shown : seen r (now (out .exit)) ≡ seenOf (now (out .entry)) (figures answer)
 
 abbrev pub PathShows : Path → (demand capacity setup unit holding costs choices slots answer : Lent) → ℕ → Type 0
 PathShows P demand capacity setup unit holding costs choices slots answer r =
     Shows
-    (λ a.
-    Runs P (dayBefore demand capacity setup unit holding)
-    (memoryOf (now (costs .entry)) (now (choices .entry)) (now (slots .entry)))
-    a
-    (memoryOf (now (costs .exit)) (now (choices .exit)) (now (slots .exit))))
-    seenAnswer
+    (λ a. Runs P (dayBefore demand capacity setup unit holding) (memoryBefore costs choices slots) a (memoryAfter costs choices slots))
+    answerFigures
     answer
     r
 
@@ -109,7 +79,7 @@ abbrev pub ReadShows : (file demand capacity setup unit holding periods : Lent) 
 ReadShows file demand capacity setup unit holding periods r =
     Shows
     (λ a. Reading (now (file .entry)) (dayBefore demand capacity setup unit holding) a (dayAfter demand capacity setup unit holding))
-    seenReading
+    readFigures
     periods
     r
 
@@ -117,6 +87,6 @@ abbrev pub WriteShows : (demand capacity setup unit holding out count : Lent) �
 WriteShows demand capacity setup unit holding out count r =
     Shows
     (λ a. Writing (dayBefore demand capacity setup unit holding) (now (out .entry)) a (now (out .exit)))
-    seenWriting
+    writeFigures
     count
     r

@@ -1,14 +1,13 @@
 //! The library's calls as a C program has them: the answer as one code, its numbers in an out-array (include/yakkurem.h).
 ghost use mathlib.Core.Path.{_≡_};
-ghost use Prim.Native.Nat.{_-_};
-ghost use lib.ListN.{length};
 ghost use Rattle.day.specs.Refusals.{numberOf, periodOf};
-ghost use Rattle.day.specs.File as File;
 ghost use Rattle.day.specs.Paths.{full, uncapped, equal};
-ghost use Rattle.dayfile.specs.Answers.{dayBefore, badLookup};
-ghost use Rattle.weigher.specs.Answers.{weighedOf, comparedOf, ruleNumber};
-ghost use Rattle.station.specs.Codes.{codeOf, seen, seenAnswer, seenWeighed, seenCompared, seenReading, seenLookup, seenWriting};
-ghost use Rattle.station.specs.Codes.{PathShows, ReadShows, WriteShows};
+ghost use Rattle.day.specs.Lent.{dayBefore};
+ghost use Rattle.day.specs.Figures.{answerFigures};
+ghost use Rattle.dayfile.specs.Answers.{readFigures, writeFigures};
+ghost use Rattle.weigher.specs.Answers.{Weighs, Compares, weighedFigures, comparedFigures, ruleNumber};
+ghost use Rattle.station.specs.Codes.{codeOf, seen, seenOf, Shows};
+ghost use Rattle.station.specs.Codes.{PathShows, ReadShows, LookupShows, WriteShows};
 use day::Answer;
 use day::Check;
 use day::Refusal;
@@ -40,7 +39,7 @@ fn broken(rule: Rule, period: u16) -> u64
 
 // What is shown of a path's answer: the cost and setups of its plan.
 fn planned(a: Answer, answer: &mut [u64; 2]) -> u64
-    ensures { λ r. ⌜ seen r (now (answer .exit)) ≡ seenAnswer (now (answer .entry)) a ⌝ }
+    ensures { λ r. ⌜ seen r (now (answer .exit)) ≡ seenOf (now (answer .entry)) (answerFigures a) ⌝ }
 {
     match a {
         Answer::Refused(r) => refused(r),
@@ -53,7 +52,7 @@ fn planned(a: Answer, answer: &mut [u64; 2]) -> u64
 
 // Of a weighing: the cost and setups of a plan that holds.
 fn weighed(w: Weighed, answer: &mut [u64; 2]) -> u64
-    ensures { λ r. ⌜ seen r (now (answer .exit)) ≡ seenWeighed (now (answer .entry)) w ⌝ }
+    ensures { λ r. ⌜ seen r (now (answer .exit)) ≡ seenOf (now (answer .entry)) (weighedFigures w) ⌝ }
 {
     match w {
         Weighed::Refused(r) => refused(r),
@@ -69,7 +68,7 @@ fn weighed(w: Weighed, answer: &mut [u64; 2]) -> u64
 
 // Of a comparison: the difference.
 fn compared(c: Compared, difference: &mut [i64; 1]) -> u64
-    ensures { λ r. ⌜ seen r (now (difference .exit)) ≡ seenCompared (now (difference .entry)) c ⌝ }
+    ensures { λ r. ⌜ seen r (now (difference .exit)) ≡ seenOf (now (difference .entry)) (comparedFigures c) ⌝ }
 {
     match c {
         Compared::Refused(r) => refused(r),
@@ -83,7 +82,7 @@ fn compared(c: Compared, difference: &mut [i64; 1]) -> u64
 
 // Of a reading: the count of periods.
 fn read(a: ReadAnswer, periods: &mut [u64; 1]) -> u64
-    ensures { λ r. ⌜ seen r (now (periods .exit)) ≡ seenReading (now (periods .entry)) a ⌝ }
+    ensures { λ r. ⌜ seen r (now (periods .exit)) ≡ seenOf (now (periods .entry)) (readFigures a) ⌝ }
 {
     match a {
         ReadAnswer::Refused(r) => refused(r),
@@ -96,7 +95,7 @@ fn read(a: ReadAnswer, periods: &mut [u64; 1]) -> u64
 
 // Of a writing: the count of bytes.
 fn written(a: WriteAnswer, count: &mut [u64; 1]) -> u64
-    ensures { λ r. ⌜ seen r (now (count .exit)) ≡ seenWriting (now (count .entry)) a ⌝ }
+    ensures { λ r. ⌜ seen r (now (count .exit)) ≡ seenOf (now (count .entry)) (writeFigures a) ⌝ }
 {
     match a {
         WriteAnswer::Refused(r) => refused(r),
@@ -105,20 +104,6 @@ fn written(a: WriteAnswer, count: &mut [u64; 1]) -> u64
             0
         }
     }
-}
-
-// A part of 16 bytes as an array.
-fn array(part: &[u8]) -> [u8; 16]
-    requires { ⌜ length (now part) ≡ 16 ⌝ }
-    ensures { λ r. ⌜ r ≡ now (part .entry) ⌝ }
-{
-    let mut bytes = [0; 16];
-    let mut k = 0;
-    while k < 16 {
-        bytes[k] = part[k];
-        k += 1;
-    }
-    bytes
 }
 
 // The plan of any day, by recursion (5); the answer is its cost and setups.
@@ -216,14 +201,10 @@ pub extern "C" fn yakkurem_weigh(
     plan: &[u16],
     answer: &mut [u64; 2],
 ) -> u64
-    ensures { λ r. ⌜
-        seen r (now (answer .exit))
-        ≡ seenWeighed (now (answer .entry)) (weighedOf (dayBefore demand capacity setup unit holding) (now (plan .entry))) ⌝ }
+    ensures { λ r. ⌜ Shows (Weighs (dayBefore demand capacity setup unit holding) (now (plan .entry))) weighedFigures answer r ⌝ }
 {
-    weighed(
-        weigher::weigh(demand, capacity, setup, unit, holding, plan),
-        answer,
-    )
+    let w = weigher::weigh(demand, capacity, setup, unit, holding, plan);
+    weighed(w, answer)
 }
 
 // Weighs two plans; the answer is the first one's cost less the second's.
@@ -239,9 +220,8 @@ pub extern "C" fn yakkurem_compare(
     difference: &mut [i64; 1],
 ) -> u64
     ensures { λ r. ⌜
-        seen r (now (difference .exit))
-        ≡ seenCompared (now (difference .entry))
-        (comparedOf (dayBefore demand capacity setup unit holding) (now (first .entry)) (now (second .entry))) ⌝ }
+        Shows (Compares (dayBefore demand capacity setup unit holding) (now (first .entry)) (now (second .entry)))
+        comparedFigures difference r ⌝ }
 {
     let c = weigher::compare(demand, capacity, setup, unit, holding, first, second);
     compared(c, difference)
@@ -264,18 +244,20 @@ pub extern "C" fn yakkurem_read(
     read(a, periods)
 }
 
-// The body of a numbered period record, copied into the out-array: C can't be handed a part of the file.
+// Where the body of a numbered period record lies in the file; the answer is its first byte, counted from 0, and its length.
+// No byte is copied: the body is that part of the caller's own file.
 #[no_mangle]
-pub extern "C" fn yakkurem_lookup(file: &[u8], period: usize, body: &mut [u8; 16]) -> u64
-    ensures { λ r. ⌜
-        seen r (now (body .exit))
-        ≡ seenLookup (now (body .entry)) (badLookup (now (file .entry)) period)
-        (File.body (now (file .entry)) (File.recordAt (now (file .entry)) (period - 1))) ⌝ }
+pub extern "C" fn yakkurem_lookup(file: &[u8], period: usize, part: &mut [u64; 2]) -> u64
+    ensures { λ r. ⌜ LookupShows file period part r ⌝ }
 {
     if let Check::Refused(r) = dayfile::lookup::check(file, period) {
         return refused(r);
     }
-    *body = array(dayfile::lookup::body(file, period));
+    let at = dayfile::layout::record_at(file, period - 1);
+    *part = [
+        (at as u64) + 1,
+        dayfile::layout::body(file, at).len() as u64,
+    ];
     0
 }
 

@@ -2,7 +2,8 @@
 //! It tests, finds the cost and the last lot of every row, reads the plan back, and clears its areas.
 ghost use lib.ListN.{length};
 ghost use Rattle.day.specs.Day.{dayOf};
-ghost use Rattle.day.specs.Outcome.{memoryOf, sizes, Accepted, Runs};
+ghost use Rattle.day.specs.Lent.{dayBefore, memoryBefore, memoryAfter};
+ghost use Rattle.day.specs.Outcome.{sizes, Accepted, Runs};
 ghost use Rattle.day.specs.Paths.{uncapped};
 ghost use Rattle.checks.specs.Passed.{Admitted};
 use day::Answer;
@@ -28,10 +29,10 @@ fn work(
         (dayOf (now demand) (now capacity) (now setup) (now unit) (now holding))
         (sizes (length (now costs)) (length (now choices)) (length (now slots))) ⌝ }
     ensures { λ r. ⌜ Accepted uncapped
-        (dayOf (now (demand .entry)) (now (capacity .entry)) (now (setup .entry)) (now (unit .entry)) (now (holding .entry)))
+        (dayBefore demand capacity setup unit holding)
         r
-        (memoryOf (now (costs .entry)) (now (choices .entry)) (now (slots .entry)))
-        (memoryOf (now (costs .exit)) (now (choices .exit)) (now (slots .exit))) ⌝ }
+        (memoryBefore costs choices slots)
+        (memoryAfter costs choices slots) ⌝ }
 {
     rows::fill(demand, setup, unit, holding, costs, choices);
     slots::read_back(demand, choices, slots);
@@ -53,10 +54,10 @@ pub fn plan(
     slots: &mut [u16],
 ) -> Answer
     ensures { λ r. ⌜ Runs uncapped
-        (dayOf (now (demand .entry)) (now (capacity .entry)) (now (setup .entry)) (now (unit .entry)) (now (holding .entry)))
-        (memoryOf (now (costs .entry)) (now (choices .entry)) (now (slots .entry)))
+        (dayBefore demand capacity setup unit holding)
+        (memoryBefore costs choices slots)
         r
-        (memoryOf (now (costs .exit)) (now (choices .exit)) (now (slots .exit))) ⌝ }
+        (memoryAfter costs choices slots) ⌝ }
 {
     if let Check::Refused(r) = checks::path(
         PathKind::Uncapped,

@@ -1,14 +1,18 @@
 -- What the weigher's two calls answer (document 01, "The weigher"), and the number of each rule.
--- Main definitions: `weighedOf`, `comparedOf`; `ruleNumber`. Assumes nothing.
+-- Main definitions: `Weighs`, `Compares`, the contracts of the calls; `weighedFigures`, `comparedFigures`; `ruleNumber`.
+-- Main statements: `weighs-is`, `compares`. Assumes nothing.
+use mathlib.Core.Path.{_≡_, refl, sym, ap, ap₂, subst, _∙_}
 use mathlib.Core.List.{List, [], _∷_, _++_}
 use mathlib.Core.Option.{Option, none, some}
-use Prim.Native.Nat.{ℕ}
-use lib.ListN.{length}
-use lib.IntN.{pos, _-ℤ_}
+use Prim.Native.Nat.{ℕ, _-_}
+use lib.ListN.{length, getD}
+use lib.IntN.{ℤ, pos, _-ℤ_}
 use Rattle.day.specs.declared.Refusal.{Refusal}
 use Rattle.day.specs.Sums.{at}
 use Rattle.day.specs.Day.{Day, periods}
-use Rattle.day.specs.Refusals.{first, dayTests, badSlots}
+use Rattle.day.specs.Refusals.{Gives, first, dayTests, badSlots}
+use Rattle.day.specs.Tests.{gives-is, is-gives}
+use Rattle.day.specs.Figures.{Figures, acceptedWith, refusedWith}
 use Rattle.weigher.specs.declared.Rule.{Rule}
 use Rattle.weigher.specs.declared.Rule.the-variants.{AboveCapacity, Short, Over}
 use Rattle.weigher.specs.declared.Verdict.{Verdict}
@@ -43,11 +47,79 @@ compareOf (Refused r) w = compared.Refused r
 compareOf (Judged v) (Refused r) = compared.Refused r
 compareOf (Judged v) (Judged w) = betweenOf v w
 
-abbrev pub comparedOf : Day → (plan other : List ℕ) → Compared
-comparedOf d plan other = compareOf (weighedOf d plan) (weighedOf d other)
-
 -- the number of a broken rule, above those of the refusals
 abbrev pub ruleNumber : Rule → ℕ
 ruleNumber AboveCapacity = 101
 ruleNumber Short = 102
 ruleNumber Over = 103
+
+abbrev pub brokenWith : {A : Type 0} → Rule → ℕ → Figures A
+brokenWith r i = record { number = ruleNumber r; period = i; values = none }
+
+-- the answers in figures: a weighing gives cost and setups of a plan that holds, a comparison the difference
+abbrev pub verdictFigures : Verdict → Figures ℕ
+verdictFigures (Holds t) = acceptedWith (t .cost ∷ t .setups ∷ [])
+verdictFigures (Broken r i) = brokenWith r i
+
+abbrev pub weighedFigures : Weighed → Figures ℕ
+weighedFigures (Refused r) = refusedWith r
+weighedFigures (Judged v) = verdictFigures v
+
+abbrev pub comparedFigures : Compared → Figures ℤ
+comparedFigures (compared.Refused r) = refusedWith r
+comparedFigures (compared.Broken r i) = brokenWith r i
+comparedFigures (compared.Difference v) = acceptedWith (v ∷ [])
+
+-- what the weigher promises: the first refusal, by number and period; else the verdict on the plan, by its figures
+abbrev pub Weighs : Day → List ℕ → Weighed → Type 0
+Weighs d plan (Refused r) = Gives (weighRefusal d plan) r
+Weighs d plan (Judged v) = (weighRefusal d plan ≡ none) × (verdictFigures v ≡ verdictFigures (verdictOf d (at plan)))
+
+-- and the comparison: the first refusal of both plans; else what their verdicts compare to
+abbrev pub ComparesAs : Option Refusal → Compared → Compared → Type 0
+ComparesAs o between (compared.Refused r) = Gives o r
+ComparesAs o between (compared.Broken r i) = (o ≡ none) × (comparedFigures (compared.Broken r i) ≡ comparedFigures between)
+ComparesAs o between (compared.Difference v) = (o ≡ none) × (comparedFigures (compared.Difference v) ≡ comparedFigures between)
+
+abbrev pub Compares : Day → (plan other : List ℕ) → Compared → Type 0
+Compares d plan other =
+    ComparesAs
+    (first (weighRefusal d plan ∷ weighRefusal d other ∷ []))
+    (betweenOf (verdictOf d (at plan)) (verdictOf d (at other)))
+
+-- the figures fix a verdict
+abbrev withFigures : Figures ℕ → Option (List ℕ) → Verdict
+withFigures f (some l) = Holds (record { cost = getD l 0 0; setups = getD l 1 0 })
+withFigures f none = Broken (getD (AboveCapacity ∷ Short ∷ []) (f .number - 101) Over) (f .period)
+
+abbrev verdictWith : Figures ℕ → Verdict
+verdictWith f = withFigures f (f .values)
+
+verdict-back : (v : Verdict) → verdictWith (verdictFigures v) ≡ v
+verdict-back (Holds t) = refl
+verdict-back (Broken AboveCapacity i) = refl
+verdict-back (Broken Short i) = refl
+verdict-back (Broken Over i) = refl
+
+-- so there is one answer that keeps the weigher's promise
+pub weighs-is : (d : Day) (plan : List ℕ) (w : Weighed) → Weighs d plan w → w ≡ weighedOf d plan
+weighs-is d plan (Refused r) g = rw (gives-is g) refl
+weighs-is d plan (Judged v) e =
+    let same : v ≡ verdictOf d (at plan) = sym (verdict-back v) ∙ (ap verdictWith (e .1) ∙ verdict-back (verdictOf d (at plan))) in
+    rw (e .0) (ap Judged same)
+
+-- and what two such answers compare to keeps that of the comparison
+compares-as : (o p : Option Refusal) (v w : Verdict) → ComparesAs (first (o ∷ p ∷ [])) (betweenOf v w) (compareOf (orRefused o v) (orRefused p w))
+compares-as (some r) p v w = is-gives refl
+compares-as none (some r) v w = is-gives refl
+compares-as none none (Broken r i) w = (refl, refl)
+compares-as none none (Holds t) (Broken r i) = (refl, refl)
+compares-as none none (Holds t) (Holds u) = (refl, refl)
+
+pub compares : (d : Day) (plan other : List ℕ) (a b : Weighed) (c : Compared) → Weighs d plan a → Weighs d other b → c ≡ compareOf a b
+    → Compares d plan other c
+compares d plan other a b c x y e =
+    subst
+    (Compares d plan other)
+    (sym (e ∙ ap₂ compareOf (weighs-is d plan a x) (weighs-is d other b y)))
+    (compares-as (weighRefusal d plan) (weighRefusal d other) (verdictOf d (at plan)) (verdictOf d (at other)))

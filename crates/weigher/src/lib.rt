@@ -5,8 +5,9 @@ ghost use Prim.Native.Nat.{_^_, _<_};
 ghost use lib.IntN.{pos, _-ℤ_};
 ghost use Rattle.day.specs.Sums.{at};
 ghost use Rattle.day.specs.Day.{dayOf};
+ghost use Rattle.day.specs.Lent.{dayBefore};
 ghost use Rattle.weigher.specs.Verdict.{totalsOf, verdictOf};
-ghost use Rattle.weigher.specs.Answers.{weighedOf, compareOf, comparedOf, ruleNumber};
+ghost use Rattle.weigher.specs.Answers.{Weighs, Compares, compareOf, ruleNumber};
 ghost use Rattle.weigher.specs.Walk.{rulingOf, rulingAt, Room, Weighable, FeasiblePlan, NextPeriod, Signed};
 use day::Check;
 use day::Refusal;
@@ -115,10 +116,7 @@ fn advance(
     s: Sums,
 ) -> Ruling
     requires { ⌜ NextPeriod (dayOf (now demand) (now capacity) (now setup) (now unit) (now holding)) (now plan) i s ⌝ }
-    ensures { λ r.
-        ⌜ r ≡ rulingAt
-        (dayOf (now (demand .entry)) (now (capacity .entry)) (now (setup .entry)) (now (unit .entry)) (now (holding .entry)))
-        (at (now (plan .entry))) i ⌝ }
+    ensures { λ r. ⌜ r ≡ rulingAt (dayBefore demand capacity setup unit holding) (at (now (plan .entry))) i ⌝ }
 {
     let p = Entries {
         demand: demand[i],
@@ -140,10 +138,7 @@ fn walk(
     plan: &[u16],
 ) -> Verdict
     requires { ⌜ Weighable (dayOf (now demand) (now capacity) (now setup) (now unit) (now holding)) (now plan) ⌝ }
-    ensures { λ r.
-        ⌜ r ≡ verdictOf
-        (dayOf (now (demand .entry)) (now (capacity .entry)) (now (setup .entry)) (now (unit .entry)) (now (holding .entry)))
-        (at (now (plan .entry))) ⌝ }
+    ensures { λ r. ⌜ r ≡ verdictOf (dayBefore demand capacity setup unit holding) (at (now (plan .entry))) ⌝ }
 {
     let mut s = Sums {
         cost: 0,
@@ -179,10 +174,7 @@ pub fn totals(
     plan: &[u16],
 ) -> Totals
     requires { ⌜ FeasiblePlan (dayOf (now demand) (now capacity) (now setup) (now unit) (now holding)) (now plan) ⌝ }
-    ensures { λ r.
-        ⌜ r ≡ totalsOf
-        (dayOf (now (demand .entry)) (now (capacity .entry)) (now (setup .entry)) (now (unit .entry)) (now (holding .entry)))
-        (at (now (plan .entry))) ⌝ }
+    ensures { λ r. ⌜ r ≡ totalsOf (dayBefore demand capacity setup unit holding) (at (now (plan .entry))) ⌝ }
 {
     match walk(demand, capacity, setup, unit, holding, plan) {
         Verdict::Holds(t) => t,
@@ -199,10 +191,7 @@ pub fn weigh(
     holding: &[u32],
     plan: &[u16],
 ) -> Weighed
-    ensures { λ r.
-        ⌜ r ≡ weighedOf
-        (dayOf (now (demand .entry)) (now (capacity .entry)) (now (setup .entry)) (now (unit .entry)) (now (holding .entry)))
-        (now (plan .entry)) ⌝ }
+    ensures { λ r. ⌜ Weighs (dayBefore demand capacity setup unit holding) (now (plan .entry)) r ⌝ }
 {
     if let Check::Refused(r) = checks::day(demand, capacity, setup, unit, holding) {
         return Weighed::Refused(r);
@@ -251,10 +240,7 @@ pub fn compare(
     plan: &[u16],
     other: &[u16],
 ) -> Compared
-    ensures { λ r.
-        ⌜ r ≡ comparedOf
-        (dayOf (now (demand .entry)) (now (capacity .entry)) (now (setup .entry)) (now (unit .entry)) (now (holding .entry)))
-        (now (plan .entry)) (now (other .entry)) ⌝ }
+    ensures { λ r. ⌜ Compares (dayBefore demand capacity setup unit holding) (now (plan .entry)) (now (other .entry)) r ⌝ }
 {
     let first = weigh(demand, capacity, setup, unit, holding, plan);
     let second = weigh(demand, capacity, setup, unit, holding, other);

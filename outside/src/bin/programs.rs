@@ -62,7 +62,7 @@ fn files() -> Vec<(&'static str, Vec<u8>, Option<&'static str>)> {
         file.extend(more);
         file
     };
-    let fits = |n, total| plain::file_of(&day(n, total));
+    let of = |n, total| plain::file_of(&day(n, total));
     let m3 = Day { demand: vec![2], capacity: vec![1], setup: vec![5], unit: vec![2], holding: vec![9] };
     let m4 = Day { demand: vec![2, 3], capacity: vec![5; 2], setup: vec![10; 2], unit: vec![1; 2], holding: vec![1; 2] };
     vec![
@@ -73,17 +73,18 @@ fn files() -> Vec<(&'static str, Vec<u8>, Option<&'static str>)> {
         ("1,636 bytes", with(longest.clone(), &[0]), Some("refused 12 period 0\n")),
         ("1,636 bytes that begin with an unknown kind", vec![7; LONGEST + 1], Some("refused 12 period 0\n")),
         ("1,635 bytes of an unknown kind", vec![7; LONGEST], Some("refused 10 period 0\n")),
-        ("97 periods", fits(97, 200), Some("refused 12 period 0\n")),
+        ("97 periods", of(97, 200), Some("refused 12 period 0\n")),
         ("one file after another", with(longest.clone(), &longest), Some("refused 12 period 0\n")),
         ("no periods", vec![2, 0, 0], Some("refused 1 period 0\n")),
-        ("96 periods, all choice cells", fits(96, 249), None),
-        ("96 periods, one need too many", fits(96, 250), Some("refused 5 period 0\n")),
-        ("48 periods, all cells of both areas", fits(48, 499), None),
-        ("49 periods, a row of choices too many", fits(49, 499), Some("refused 5 period 0\n")),
-        ("2 periods, all cost cells", fits(2, 499), None),
-        ("2 periods, two cost cells too few", fits(2, 500), Some("refused 5 period 0\n")),
-        ("1 period, all cost cells", fits(1, 499), None),
-        ("1 period, two cost cells too few", fits(1, 500), Some("refused 5 period 0\n")),
+        ("96 periods, all choice cells", of(96, 249), None),
+        ("96 periods, one unit of need too much", of(96, 250), Some("refused 5 period 0\n")),
+        ("63 periods, three choice cells too few", of(63, 380), Some("refused 5 period 0\n")),
+        ("48 periods, all cells of both areas", of(48, 499), None),
+        ("49 periods, a row of choices too many", of(49, 499), Some("refused 5 period 0\n")),
+        ("2 periods, all cost cells", of(2, 499), None),
+        ("2 periods, two cost cells too few", of(2, 500), Some("refused 5 period 0\n")),
+        ("1 period, all cost cells", of(1, 499), None),
+        ("1 period, two cost cells too few", of(1, 500), Some("refused 5 period 0\n")),
     ]
 }
 

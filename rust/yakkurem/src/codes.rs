@@ -49,7 +49,7 @@ extern "C" {
         need: *mut u16, _: usize, capacity: *mut u16, _: usize, start: *mut u32, _: usize, unit: *mut u32, _: usize, upkeep: *mut u32, _: usize,
         periods: *mut u64,
     ) -> u64;
-    fn yakkurem_lookup(file: *const u8, _: usize, period: usize, body: *mut u8) -> u64;
+    fn yakkurem_lookup(file: *const u8, _: usize, period: usize, part: *mut u64) -> u64;
     fn yakkurem_write(
         need: *const u16, _: usize, capacity: *const u16, _: usize, start: *const u32, _: usize, unit: *const u32, _: usize, upkeep: *const u32, _: usize,
         out: *mut u8, _: usize, count: *mut u64,
@@ -114,8 +114,8 @@ pub fn read(file: &[u8], tables: TablesMut, periods: &mut [u64; 1]) -> u64 {
     }
 }
 
-pub fn lookup(file: &[u8], period: usize, body: &mut [u8; 16]) -> u64 {
-    unsafe { yakkurem_lookup(file.as_ptr(), file.len(), period, body.as_mut_ptr()) }
+pub fn lookup(file: &[u8], period: usize, part: &mut [u64; 2]) -> u64 {
+    unsafe { yakkurem_lookup(file.as_ptr(), file.len(), period, part.as_mut_ptr()) }
 }
 
 #[rustfmt::skip]

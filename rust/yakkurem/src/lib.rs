@@ -131,11 +131,11 @@ pub fn read(file: &[u8], tables: TablesMut) -> Result<u64, Refusal> {
     }
 }
 
-/// The body of a numbered period record of a day file.
-pub fn lookup(file: &[u8], period: usize) -> Result<[u8; 16], Refusal> {
-    let mut body = [0; 16];
-    match codes::lookup(file, period, &mut body) {
-        0 => Ok(body),
+/// The body of a numbered period record of a day file: that very part of the file's bytes.
+pub fn lookup(file: &[u8], period: usize) -> Result<&[u8], Refusal> {
+    let mut part = [0; 2];
+    match codes::lookup(file, period, &mut part) {
+        0 => Ok(&file[part[0] as usize..][..part[1] as usize]),
         code => Err(refusal(code)),
     }
 }

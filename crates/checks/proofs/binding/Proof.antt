@@ -69,21 +69,6 @@ pub binding-spec : {M : Type 1} → statement M
 binding-spec =
     tie.close
     (tie.spec
-    Inv-loop
-    μ-loop
-    total-requires
-    loop-holds
-    (λ c. omega arith)
-    (λ c. omega arith)
-    cast-if1
-    (λ c. omega arith)
-    (λ c. omega arith)
-    returns
-    (λ c. omega arith)
-    (λ c. omega arith)
-    cast-remaining
-    sub-remaining
-    (λ c. omega arith)
-    (λ c. omega arith)
-    loop-again
+    Inv-loop μ-loop total-requires loop-holds (λ c. omega arith) (λ c. omega arith) cast-if1 (λ c. omega arith) (λ c. omega arith)
+    returns (λ c. omega arith) (λ c. omega arith) cast-remaining sub-remaining (λ c. omega arith) (λ c. omega arith) loop-again
     returns-2)

@@ -43,14 +43,5 @@ pub equal-spec : {M : Type 1} → statement M
 equal-spec =
     tie.close
     (tie.spec
-    Inv-loop
-    μ-loop
-    loop-holds
-    (λ c. omega arith)
-    (λ c. omega arith)
-    (λ c. omega arith)
-    returns
-    (λ c. omega arith)
-    (λ c. omega arith)
-    loop-again
-    returns-2)
+    Inv-loop μ-loop loop-holds (λ c. omega arith) (λ c. omega arith) (λ c. omega arith) returns (λ c. omega arith)
+    (λ c. omega arith) loop-again returns-2)

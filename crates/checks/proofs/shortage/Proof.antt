@@ -72,20 +72,6 @@ pub shortage-spec : {M : Type 1} → statement M
 shortage-spec =
     tie.close
     (tie.spec
-    Inv-loop
-    μ-loop
-    loop-holds
-    (λ c. omega arith)
-    (λ c. omega arith)
-    cast-demanded
-    add-demanded
-    (λ c. omega arith)
-    (λ c. omega arith)
-    cast-available
-    add-available
-    (λ c. omega arith)
-    (λ c. omega arith)
-    returns
-    (λ c. omega arith)
-    loop-again
+    Inv-loop μ-loop loop-holds (λ c. omega arith) (λ c. omega arith) cast-demanded add-demanded (λ c. omega arith)
+    (λ c. omega arith) cast-available add-available (λ c. omega arith) (λ c. omega arith) returns (λ c. omega arith) loop-again
     returns-2)

@@ -48,13 +48,5 @@ pub tables-spec : {M : Type 1} → statement M
 tables-spec =
     tie.close
     (tie.spec
-    (λ c κs. search needs)
-    (λ c. search needs)
-    returns
-    (λ c. search needs)
-    (λ c κs. search needs)
-    (λ c. search needs)
-    returns-2
-    (λ c. search needs)
-    values-requires
-    returns-3)
+    (λ c κs. search needs) (λ c. search needs) returns (λ c. search needs) (λ c κs. search needs) (λ c. search needs) returns-2
+    (λ c. search needs) values-requires returns-3)

@@ -32,15 +32,7 @@ returns c =
 
 pub total-spec : {M : Type 1} → statement M
 total-spec =
-    tie.close (tie.spec
-    Inv-loop
-    μ-loop
-    (λ c. omega arith)
-    (λ c. omega arith)
-    (λ c. omega arith)
-    cast-sum
-    add-sum
-    (λ c. omega arith)
-    (λ c. omega arith)
-    loop-again
-    returns)
+    tie.close
+    (tie.spec
+    Inv-loop μ-loop (λ c. omega arith) (λ c. omega arith) (λ c. omega arith) cast-sum add-sum (λ c. omega arith)
+    (λ c. omega arith) loop-again returns)

@@ -1,11 +1,10 @@
 -- `dayfile_reader::fill` meets its contract. The loop's invariant: the first k cells of each table hold the numbers of the file's
 -- first k periods, and record k begins at `at`. The measure is how many periods are left. Assumes nothing.
 use mathlib.Core.Path.{_≡_, refl}
-use mathlib.Core.List.{List}
-use Prim.Native.Nat.{ℕ, _+_, _-_}
+use Prim.Native.Nat.{_-_}
 use native.Mathlib.Omega.{arith}
 use denote.Ref.{now}
-use Rattle.day.specs.Day.{Day, dayOf}
+use Rattle.day.specs.Day.{dayOf}
 use Rattle.dayfile.specs.Layout.{WholePeriod, body-part, period-body}
 use Rattle.dayfile_reader.specs.Tables.{cells-here, PeriodsRead, period-here, read-turn}
 use Rattle.dayfile_reader.proofs.fill.Statement.{statement}
@@ -85,7 +84,8 @@ returns c =
 pub fill-spec : {M : Type 1} → statement M
 fill-spec =
     tie.close
-    (tie.spec Inv-loop μ-loop loop-holds add-start next-requires sub-decode sub-decode part-decode-end decode-requires
-    put-requires (λ c. omega arith) (λ c. omega arith) loop-again (λ c. c .before .loop .inv .cells .demand)
+    (tie.spec
+    Inv-loop μ-loop loop-holds add-start next-requires sub-decode sub-decode part-decode-end decode-requires put-requires
+    (λ c. omega arith) (λ c. omega arith) loop-again (λ c. c .before .loop .inv .cells .demand)
     (λ c. c .before .loop .inv .cells .capacity) (λ c. c .before .loop .inv .cells .setup)
     (λ c. c .before .loop .inv .cells .unit) (λ c. c .before .loop .inv .cells .holding) returns)

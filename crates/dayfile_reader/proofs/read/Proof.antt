@@ -7,7 +7,7 @@ use borrow.Author.Needs.{needs}
 use denote.Ref.{now}
 use Rattle.day.specs.Day.{Day, dayOf}
 use Rattle.day.specs.Refusals.{checked}
-use Rattle.day.specs.Tests.{passed, refused}
+use Rattle.day.specs.Tests.{passed, refused, is-gives}
 use Rattle.dayfile.specs.Answers.{shortest, badRead}
 use Rattle.dayfile_reader.specs.Tables.{read-passed}
 use Rattle.dayfile_reader.proofs.read.Statement.{statement}
@@ -45,7 +45,7 @@ at-fill c = c .before .before .before .before .before
 returns : tie.Need-returns
 returns c =
     let p = c .before .before .before in
-    (refused (badRead (file p) (shortest (lent p))) (tested p) (c .before .r .given .1), refl)
+    (is-gives (refused (badRead (file p) (shortest (lent p))) (tested p) (c .before .r .given .1)), refl)
 
 fill-requires : tie.Need-fill-requires
 fill-requires c κs =
@@ -62,5 +62,6 @@ returns-2 c =
 pub read-spec : {M : Type 1} → statement M
 read-spec =
     tie.close
-    (tie.spec (λ c κs. search needs) (λ c κs. search needs) (λ c κs. search needs) (λ c. search needs) returns (λ c. search needs)
+    (tie.spec
+    (λ c κs. search needs) (λ c κs. search needs) (λ c κs. search needs) (λ c. search needs) returns (λ c. search needs)
     fill-requires (λ c. search needs) (λ c. search needs) (λ c. search needs) (λ c. search needs) (λ c. search needs) returns-2)

@@ -7,5 +7,4 @@ returns : tie.Need-returns
 returns c = cc
 
 pub shortest-spec : {M : Type 1} → statement M
-shortest-spec =
-    tie.close (tie.spec (λ c κs. search needs) (λ c κs. search needs) (λ c κs. search needs) (λ c κs. search needs) returns)
+shortest-spec = tie.close (tie.spec (λ c κs. search needs) (λ c κs. search needs) (λ c κs. search needs) (λ c κs. search needs) returns)

@@ -1,5 +1,5 @@
 -- `dayfile_reader::tests` meets its contract: the file's refusal, or that of the room after it, or that of the values. Assumes nothing.
-use mathlib.Core.Path.{_≡_, refl, _∙_}
+use mathlib.Core.Path.{_≡_, refl}
 use mathlib.Core.List.{List, [], _∷_, _++_}
 use mathlib.Core.Option.{Option, none}
 use Prim.Native.Nat.{ℕ}
@@ -56,6 +56,4 @@ returns-3 c =
     group-decides (fileTests (file p) ++ (room p ∷ [])) (value p ∷ []) ok (alone (value p) (c .values .ensures))
 
 pub tests-spec : {M : Type 1} → statement M
-tests-spec =
-    tie.close
-    (tie.spec (λ c κs. search needs) (λ c. search needs) returns (λ c. search needs) returns-2 values-requires returns-3)
+tests-spec = tie.close (tie.spec (λ c κs. search needs) (λ c. search needs) returns (λ c. search needs) returns-2 values-requires returns-3)

@@ -1,15 +1,16 @@
 -- `dayfile_reader::values` meets its contract: the first n cells of the filled tables are the file's day. Assumes nothing.
 use mathlib.Core.Path.{_≡_, ap, _∙_}
 use mathlib.Core.List.{List}
-use Prim.Native.Nat.{ℕ}
+use Prim.Native.Nat.{ℕ, _-_}
+use native.Mathlib.Omega.{arith}
 use borrow.Author.Needs.{needs}
 use denote.Ref.{now}
 use lib.ListN.{replicate}
 use Rattle.day.specs.Day.{Day, dayOf}
 use Rattle.day.specs.Refusals.{checked, badValue}
 use Rattle.day.specs.File.{dayIn}
-use Rattle.dayfile.specs.Layout.{day-readable}
-use Rattle.dayfile_reader.specs.Tables.{firstOf, day-in-front}
+use Rattle.dayfile.specs.Answers.{firstOf}
+use Rattle.dayfile.specs.Layout.{day-readable, day-in-front}
 use Rattle.dayfile_reader.proofs.values.Statement.{statement}
 use Rattle.dayfile_reader.proofs.values.Tie as tie
 
@@ -32,10 +33,11 @@ tables c =
 abbrev file : tie.After-fill → List ℕ
 file c = now (start c .args .file)
 
-front : (c : tie.After-fill) → firstOf (start c .args .n) (tables c) ≡ dayIn (file c)
+-- a part from 0 to n has n - 0 cells
+front : (c : tie.After-fill) → firstOf (start c .args .n - 0) (tables c) ≡ dayIn (file c)
 front c =
     let zeros : List ℕ = replicate 96 0 in
-    day-in-front (file c) _ (dayOf zeros zeros zeros zeros zeros) (tables c) (start c .pre .0) (c .fill .ensures)
+    day-in-front (file c) (start c .args .n - 0) (dayOf zeros zeros zeros zeros zeros) (tables c) (omega (arith, start c .pre .0)) (c .fill .ensures)
 
 values-requires : tie.Need-values-requires
 values-requires c κs =
@@ -48,7 +50,8 @@ returns c = c .values .ensures ∙ ap (λ (d : Day). checked (badValue d)) (fron
 pub values-spec : {M : Type 1} → statement M
 values-spec =
     tie.close
-    (tie.spec (λ c. search needs) (λ c. search needs) (λ c. search needs) (λ c. search needs) (λ c. search needs)
-    (λ c κs. search needs) (λ c. search needs) (λ c. search needs) (λ c. search needs) (λ c. search needs) (λ c. search needs)
+    (tie.spec
+    (λ c. search needs) (λ c. search needs) (λ c. search needs) (λ c. search needs) (λ c. search needs) (λ c κs. search needs)
     (λ c. search needs) (λ c. search needs) (λ c. search needs) (λ c. search needs) (λ c. search needs) (λ c. search needs)
-    (λ c. search needs) (λ c. search needs) (λ c. search needs) (λ c. search needs) values-requires returns)
+    (λ c. search needs) (λ c. search needs) (λ c. search needs) (λ c. search needs) (λ c. search needs) (λ c. search needs)
+    (λ c. search needs) (λ c. search needs) (λ c. search needs) values-requires returns)

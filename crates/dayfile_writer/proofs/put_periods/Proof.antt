@@ -70,5 +70,6 @@ returns c =
 pub put-periods-spec : {M : Type 1} → statement M
 put-periods-spec =
     tie.close
-    (tie.spec Inv-loop μ-loop loop-holds record-of-requires (λ c. search needs) copy-requires (λ c. omega arith)
-    (λ c. omega arith) (λ c. omega arith) loop-again (λ c. c .before .loop .inv .3) returns)
+    (tie.spec
+    Inv-loop μ-loop loop-holds record-of-requires (λ c. search needs) copy-requires (λ c. omega arith) (λ c. omega arith)
+    (λ c. omega arith) loop-again (λ c. c .before .loop .inv .3) returns)

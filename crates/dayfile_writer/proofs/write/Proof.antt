@@ -10,7 +10,7 @@ use lib.ListN.{length}
 use Rattle.day.specs.declared.Refusal.{Refusal}
 use Rattle.day.specs.Day.{Day, dayOf}
 use Rattle.day.specs.Refusals.{first, tableTests, badSlots}
-use Rattle.day.specs.Tests.{passed, refused, first-passed, first-refused}
+use Rattle.day.specs.Tests.{passed, refused, is-gives, first-passed, first-refused}
 use Rattle.day.specs.File.{fileOf}
 use Rattle.checks.specs.Passed.{Limits, tables-passed}
 use Rattle.dayfile.specs.Answers.{badWrite}
@@ -39,7 +39,8 @@ limits c = tables-passed _ (admitted c)
 returns : tie.Need-returns
 returns c =
     let p = c .before .before .before in
-    (first-refused (tableTests (day p)) (room p) (refused (first (tableTests (day p))) (p .tables .ensures) (c .before .r .given .1)), refl)
+    let tested = refused (first (tableTests (day p))) (p .tables .ensures) (c .before .r .given .1) in
+    (is-gives (first-refused (tableTests (day p)) (room p) tested), refl)
 
 size-fits : tie.Need-mul-size
 size-fits c = omega (arith, limits c .few)
@@ -47,7 +48,8 @@ size-fits c = omega (arith, limits c .few)
 returns-2 : tie.Need-returns-2
 returns-2 c =
     let p = c .before .before .before in
-    (rw (first-passed (tableTests (day p)) (room p) (admitted (c .before)), file-length (day p), lt-ltb _ _ (c .if1 .taken)) refl, refl)
+    let decides = first-passed (tableTests (day p)) (room p) (admitted (c .before)) in
+    (is-gives (rw (decides, file-length (day p), lt-ltb _ _ (c .if1 .taken)) refl), refl)
 
 put-file-requires : tie.Need-put-file-requires
 put-file-requires c κs =
@@ -66,5 +68,6 @@ returns-3 c =
 pub write-spec : {M : Type 1} → statement M
 write-spec =
     tie.close
-    (tie.spec (λ c κs. search needs) (λ c. search needs) returns (λ c. search needs) size-fits (λ c. omega (arith, limits c .few))
-    returns-2 put-file-requires (λ c. search needs) returns-3)
+    (tie.spec
+    (λ c κs. search needs) (λ c. search needs) returns (λ c. search needs) size-fits (λ c. omega (arith, limits c .few)) returns-2
+    put-file-requires (λ c. search needs) returns-3)

@@ -13,11 +13,11 @@ abbrev start : tie.After-plan → tie.Start
 start c = c .before .before .before .before .before .before .before .before .before
 
 abbrev at-plan : tie.After-slots3 → tie.After-plan
-at-plan c = c .before .before .before .before .before .before .before .before
+at-plan c = c .before .before .before .before .before .before .before .before .before
 
 print-amounts-requires : tie.Need-print-amounts-requires
 print-amounts-requires c κs =
-    let totals = c .before .before .before .totals in
+    let totals = c .before .before .before .before .totals in
     let p = at-plan c in
     let a = start p .args in
     let last = p .plan .last .1 .1 .1 .1 .1 in
@@ -35,4 +35,4 @@ plan-spec =
     tie.close
     (tie.spec (λ c. search needs) (λ c. search needs) (λ c. search needs) (λ c κs. search needs) (λ c. search needs)
     (λ c κs. search needs) (λ c. search needs) (λ c κs. search needs) (λ c. search needs) print-amounts-requires
-    (λ c. search needs) (λ c. search needs))
+    (λ c. search needs) (λ c. search needs) (λ c. search needs))

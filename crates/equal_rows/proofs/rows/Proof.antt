@@ -37,7 +37,7 @@ row-more p m a b h rows found k g =
     (eq-or-lt-of-le (omega arith))
 
 -- the rows up to m are found
-record RowsTo (p : Problem) (old new : Areas) (slots₀ slots : List ℕ) (need m : ℕ) : Type 0 where
+record RowsDone (p : Problem) (old new : Areas) (slots₀ slots : List ℕ) (need m : ℕ) : Type 0 where
   inside : m ≤ periods p
   demanded : need ≡ demandTo p m
   low : need ≤ m * 65536
@@ -48,7 +48,7 @@ record RowsTo (p : Problem) (old new : Areas) (slots₀ slots : List ℕ) (need 
 
 abbrev Inv-loop : tie.InvT-loop
 Inv-loop demand setup unit holding full costs₀ choices₀ slots₀ need₀ m₀ costs choices slots need m =
-    RowsTo (constantWith demand full setup unit holding) (areas costs₀ choices₀) (areas costs choices) slots₀ slots need m
+    RowsDone (constantWith demand full setup unit holding) (areas costs₀ choices₀) (areas costs choices) slots₀ slots need m
 
 abbrev μ-loop : tie.MeasureT-loop
 μ-loop demand setup unit holding full costs₀ choices₀ slots₀ need₀ m₀ costs choices slots need m = length demand - m

@@ -1,12 +1,12 @@
 -- `full_table::read_back` meets its contract. The invariant: the slots from k on hold the end of the plan. Assumes nothing.
 use native.Mathlib.Omega.{arith}
 use borrow.Author.Needs.{needs}
-use Rattle.full_table.proofs.Reading.{Reading, Turn, reading-none, reading-turn, reading-more, reading-all}
+use Rattle.full_table.proofs.Reading.{BackRead, Turn, reading-none, reading-turn, reading-more, reading-all}
 use Rattle.full_table.proofs.read_back.Statement.{statement}
 use Rattle.full_table.proofs.read_back.Tie as tie
 
 abbrev Inv-loop : tie.InvT-loop
-Inv-loop choices slots₀ n total width base₀ left₀ k₀ slots base left k = Reading choices slots₀ n total slots base left k
+Inv-loop choices slots₀ n total width base₀ left₀ k₀ slots base left k = BackRead choices slots₀ n total slots base left k
 
 abbrev μ-loop : tie.MeasureT-loop
 μ-loop choices slots₀ n total width base₀ left₀ k₀ slots base left k = k

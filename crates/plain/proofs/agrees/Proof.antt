@@ -56,13 +56,5 @@ pub agrees-spec : {M : Type 1} → statement M
 agrees-spec =
     tie.close
     (tie.spec
-    (λ c. search needs)
-    returns
-    (λ c κs. search needs)
-    (λ c. search needs)
-    returns-2
-    returns-3
-    returns-4
-    (λ c κs. search needs)
-    returns-5
-    returns-6)
+    (λ c. search needs) returns (λ c κs. search needs) (λ c. search needs) returns-2 returns-3 returns-4 (λ c κs. search needs)
+    returns-5 returns-6)

@@ -43,17 +43,5 @@ pub same-plan-spec : {M : Type 1} → statement M
 same-plan-spec =
     tie.close
     (tie.spec
-    Inv-loop
-    μ-loop
-    returns
-    returns-2
-    loop-holds
-    (λ c. search needs)
-    (λ c. search needs)
-    (λ c. search needs)
-    (λ c. search needs)
-    returns-3
-    (λ c. search needs)
-    (λ c. search needs)
-    loop-again
-    returns-4)
+    Inv-loop μ-loop returns returns-2 loop-holds (λ c. search needs) (λ c. search needs) (λ c. search needs) (λ c. search needs)
+    returns-3 (λ c. search needs) (λ c. search needs) loop-again returns-4)

@@ -3,6 +3,7 @@
 use Rattle.day.specs.Day.{dayOf}
 use Rattle.plain.specs.Search.{Chosen, chosen-more}
 use Rattle.plain.specs.Optimal.{chosen-optimal}
+use Rattle.weigher.specs.Answers.{weighs-is}
 use mathlib.Core.Path.{_≡_}
 use Prim.Native.Nat.{ℕ, _-_, _≤_}
 use native.Mathlib.Numerals.{add-one}
@@ -26,7 +27,8 @@ loop-again c =
     let planned = c .before .before .before in
     let start = planned .before .before in
     let more = chosen-more _ (start .loop .m) (start .loop .best) (start .loop .inv .1) in
-    (search needs, rw (add-one, c .better .ensures, c .before .weigh .ensures, planned .plan-of .ensures) more)
+    let w = c .before .weigh in
+    (search needs, rw (add-one, c .better .ensures, weighs-is _ _ (w .result) (w .ensures), planned .plan-of .ensures) more)
 
 returns : tie.Need-returns Inv-loop μ-loop
 returns c =
@@ -39,15 +41,5 @@ pub search-spec : {M : Type 1} → statement M
 search-spec =
     tie.close
     (tie.spec
-    Inv-loop
-    μ-loop
-    (λ c κs. search needs)
-    loop-holds
-    (λ c κs. search needs)
-    (λ c. search needs)
-    (λ c κs. search needs)
-    (λ c κs. search needs)
-    (λ c. search needs)
-    (λ c. search needs)
-    loop-again
-    returns)
+    Inv-loop μ-loop (λ c κs. search needs) loop-holds (λ c κs. search needs) (λ c. search needs) (λ c κs. search needs)
+    (λ c κs. search needs) (λ c. search needs) (λ c. search needs) loop-again returns)

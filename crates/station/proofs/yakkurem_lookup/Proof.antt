@@ -1,17 +1,17 @@
--- `station::yakkurem_lookup` meets its contract: past the check the part is a whole body, of 16 bytes. Assumes nothing.
+-- `station::yakkurem_lookup` meets its contract: past the check the record is a whole period's. Assumes nothing.
 use mathlib.Core.Path.{_≡_, refl}
 use mathlib.Core.List.{List}
 use mathlib.Core.Option.{none}
-use Prim.Native.Nat.{ℕ, _-_}
+use Prim.Native.Nat.{ℕ, _-_, _≤_}
 use native.Mathlib.Omega.{arith}
-use lib.ListN.{length}
 use denote.Ref.{now}
 use borrow.Author.Needs.{needs}
-use Rattle.day.specs.File.{body, recordAt}
+use Rattle.day.specs.File.{recordAt, periodsIn}
+use Rattle.day.specs.Figures.{checks-is}
 use Rattle.day.specs.Tests.{passed, refused}
 use Rattle.dayfile.specs.Answers.{badLookup}
 use Rattle.dayfile.specs.Passed.{lookup-passed}
-use Rattle.dayfile.specs.Layout.{period-at, period-body}
+use Rattle.dayfile.specs.Layout.{WholePeriod, period-at, period-body}
 use Rattle.station.proofs.yakkurem_lookup.Statement.{statement}
 use Rattle.station.proofs.yakkurem_lookup.Tie as tie
 
@@ -22,30 +22,39 @@ abbrev period : tie.After-check → ℕ
 period c = c .before .before .args .period
 
 admitted : (c : tie.After-enum-told) → badLookup (file (c .before .before)) (period (c .before .before)) ≡ none
-admitted c = passed _ (c .before .before .check .ensures) (c .enum-told .given .1)
+admitted c = passed _ (checks-is _ _ (c .before .before .check .ensures)) (c .enum-told .given .1)
 
--- the part is the record's body
-part : (c : tie.After-body)
-    → let p = c .before .before .before in now (c .body .result) ≡ body (file p) (recordAt (file p) (period p - 1))
-part c = (rw (admitted (c .before)) at (c .body .ensures)) .bytes
+asked : (c : tie.After-enum-told) → let p = c .before .before in (1 ≤ period p) × (period p ≤ periodsIn (file p))
+asked c = let p = c .before .before in lookup-passed (file p) (period p) (admitted c)
 
-whole : (s : List ℕ) (i : ℕ) → badLookup s i ≡ none → length (body s (recordAt s (i - 1))) ≡ 16
-whole s i e = period-body s (recordAt s (i - 1)) (period-at s (i - 1) (omega (arith, lookup-passed s i e)))
+-- the record that is found
+whole : (c : tie.After-enum-told) → let p = c .before .before in WholePeriod (file p) (recordAt (file p) (period p - 1))
+whole c = let p = c .before .before in period-at (file p) (period p - 1) (omega (arith, asked c))
 
 returns : tie.Need-returns
 returns c =
     let p = c .before .before .before .before in
-    rw (refused (badLookup (file p) (period p)) (p .check .ensures) (c .before .before .r .given .1), c .refused .ensures) refl
+    rw (refused (badLookup (file p) (period p)) (checks-is _ _ (p .check .ensures)) (c .before .before .r .given .1), c .refused .ensures) refl
 
-array-requires : tie.Need-array-requires
-array-requires c κs = let p = c .before .before .before in rw (part c) (whole (file p) (period p) (admitted (c .before)))
+record-at-requires : tie.Need-record-at-requires
+record-at-requires c κs = omega (arith, asked c)
+
+add-t9 : tie.Need-add-t9
+add-t9 c =
+    let start = c .before .before .before .before .before in
+    rw (c .record-at .ensures) (omega (arith, whole (c .before) .whole, start .good .0 .0))
+
+body-requires : tie.Need-body-requires
+body-requires c κs = rw (c .record-at .ensures) (let w = whole (c .before) in (omega (arith, w .whole), w .whole))
 
 returns-2 : tie.Need-returns-2
-returns-2 c = rw (admitted (c .before .before), c .array .ensures, part (c .before)) refl
+returns-2 c =
+    let w = whole (c .before .before .before) in
+    rw (admitted (c .before .before .before), c .before .body .ensures .bytes, c .before .before .record-at .ensures, period-body _ _ w) refl
 
 pub yakkurem-lookup-spec : {M : Type 1} → statement M
 yakkurem-lookup-spec =
     tie.close
     (tie.spec
-    (λ c κs. search needs) (λ c. search needs) (λ c κs. search needs) returns (λ c. search needs) (λ c κs. search needs) array-requires
-    returns-2)
+    (λ c κs. search needs) (λ c. search needs) (λ c κs. search needs) returns (λ c. search needs) (λ c. asked c .0)
+    record-at-requires add-t9 body-requires returns-2)

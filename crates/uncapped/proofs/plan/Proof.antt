@@ -24,5 +24,5 @@ pub plan-spec : {M : Type 1} → statement M
 plan-spec =
     tie.close
     (tie.spec
-    (λ c κs. search needs) (λ c. search needs) returns (λ c. search needs) work-requires (λ c. search needs)
-    (λ c. search needs) (λ c. search needs) returns-2)
+    (λ c κs. search needs) (λ c. search needs) returns (λ c. search needs) work-requires (λ c. search needs) (λ c. search needs)
+    (λ c. search needs) returns-2)

@@ -6,7 +6,8 @@ use mir.Val.{Fits}
 use borrow.Author.Needs.{needs}
 use Rattle.day.specs.Sums.{at}
 use Rattle.day.specs.Day.{Day, dayOf}
-use Rattle.weigher.specs.Answers.{weighedOf}
+use Rattle.weigher.specs.declared.Weighed.{Weighed}
+use Rattle.weigher.specs.Answers.{Weighs, weighs-is, compares}
 use Rattle.weigher.specs.Walk.{Signed}
 use Rattle.weigher.proofs.Bounds.{weighed-signed}
 use Rattle.weigher.proofs.compare.Statement.{statement}
@@ -18,9 +19,10 @@ at-start c = c .before .before .before .before .before .before .before
 abbrev tables : tie.After-shared-slice-known7 → Day
 tables c = let a = at-start c .args in dayOf (a .demand .now) (a .capacity .now) (a .setup .now) (a .unit .now) (a .holding .now)
 
-signed : (c : tie.After-shared-slice-known7) (plan : List ℕ) → ((k : ℕ) → Fits w16 (at plan k)) → Signed (weighedOf (tables c) plan)
-signed c plan amount =
-    weighed-signed
+signed : (c : tie.After-shared-slice-known7) (plan : List ℕ) (w : Weighed) → ((k : ℕ) → Fits w16 (at plan k)) → Weighs (tables c) plan w → Signed w
+signed c plan w amount promised =
+    rw (weighs-is (tables c) plan w promised)
+    (weighed-signed
     (tables c)
     plan
     (record {
@@ -29,15 +31,23 @@ signed c plan amount =
       unit = c .before .before .before .shared-slice-known4 .given;
       holding = c .before .before .shared-slice-known5 .given;
       amount = amount;
-    })
+    }))
 
 comparison-requires : tie.Need-comparison-requires
 comparison-requires c κs =
     let known = c .before .before in
     let a = at-start known .args in (
-      rw (c .before .weigh .ensures) (signed known (a .plan .now) (known .before .shared-slice-known6 .given)),
-      rw (c .weigh2 .ensures) (signed known (a .other .now) (known .shared-slice-known7 .given)),
+      signed known (a .plan .now) (c .before .weigh .result) (known .before .shared-slice-known6 .given) (c .before .weigh .ensures),
+      signed known (a .other .now) (c .weigh2 .result) (known .shared-slice-known7 .given) (c .weigh2 .ensures),
     )
 
+returns : tie.Need-returns
+returns c =
+    let w = c .before .before in
+    let a = at-start (w .before) .args in
+    compares
+    (tables (w .before)) (a .plan .now) (a .other .now) (w .weigh .result) (c .before .weigh2 .result) (c .comparison .result)
+    (w .weigh .ensures) (c .before .weigh2 .ensures) (c .comparison .ensures)
+
 pub compare-spec : {M : Type 1} → statement M
-compare-spec = tie.close (tie.spec (λ c κs. search needs) (λ c κs. search needs) comparison-requires (λ c. cc))
+compare-spec = tie.close (tie.spec (λ c κs. search needs) (λ c κs. search needs) comparison-requires returns)

@@ -46,5 +46,5 @@ pub walk-spec : {M : Type 1} → statement M
 walk-spec =
     tie.close
     (tie.spec
-    Inv-loop μ-loop loop-holds advance-requires (λ c. search needs) (λ c. search needs) (λ c. search needs) returns (λ c. search needs)
-    (λ c. search needs) (λ c. search needs) loop-again returns-2)
+    Inv-loop μ-loop loop-holds advance-requires (λ c. search needs) (λ c. search needs) (λ c. search needs) returns
+    (λ c. search needs) (λ c. search needs) (λ c. search needs) loop-again returns-2)

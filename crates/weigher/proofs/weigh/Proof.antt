@@ -1,6 +1,6 @@
 -- `weigher::weigh` meets its contract: the tests of the day and the plan's length join to the first refusal; a plan that passes
 -- them is walked. Assumes nothing.
-use mathlib.Core.Path.{_≡_, refl, _∙_}
+use mathlib.Core.Path.{_≡_, refl, ap, _∙_}
 use mathlib.Core.List.{List, [], _∷_}
 use mathlib.Core.Option.{none}
 use Prim.Native.Nat.{ℕ}
@@ -9,9 +9,9 @@ use borrow.Author.Tests.{lt-ltb, le-ltb}
 use lib.ListN.{length}
 use Rattle.day.specs.Day.{Day, dayOf, periods}
 use Rattle.day.specs.Refusals.{first, dayTests, badSlots}
-use Rattle.day.specs.Tests.{passed, refused, first-refused, first-passed, first-one}
+use Rattle.day.specs.Tests.{passed, refused, is-gives, first-refused, first-passed, first-one}
 use Rattle.checks.specs.Passed.{day-passed}
-use Rattle.weigher.specs.Answers.{weighRefusal}
+use Rattle.weigher.specs.Answers.{weighRefusal, verdictFigures}
 use Rattle.weigher.proofs.weigh.Statement.{statement}
 use Rattle.weigher.proofs.weigh.Tie as tie
 
@@ -40,7 +40,7 @@ returns : tie.Need-returns
 returns c =
     let p = c .before .before .before in
     let last = badSlots (length (slots p)) (periods (tables p)) in
-    rw (first-refused (dayTests (tables p)) (last ∷ []) (refused _ (p .day .ensures) (c .before .r .given .1))) refl
+    is-gives (first-refused (dayTests (tables p)) (last ∷ []) (refused _ (p .day .ensures) (c .before .r .given .1)))
 
 walk-requires : tie.Need-walk-requires
 walk-requires c κs =
@@ -52,5 +52,5 @@ weigh-spec =
     tie.close
     (tie.spec
     (λ c κs. search needs) (λ c. search needs) returns (λ c. search needs)
-    (λ c. rw (decides (c .before), lt-ltb _ _ (c .if1 .taken)) refl) walk-requires
-    (λ c. rw (c .walk .ensures, decides (c .before .before), le-ltb _ _ (c .before .if1 .left)) refl))
+    (λ c. is-gives (rw (decides (c .before), lt-ltb _ _ (c .if1 .taken)) refl)) walk-requires
+    (λ c. (rw (decides (c .before .before), le-ltb _ _ (c .before .if1 .left)) refl, ap verdictFigures (c .walk .ensures))))

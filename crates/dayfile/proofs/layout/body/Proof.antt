@@ -12,4 +12,5 @@ returns c = record { bytes = body-part _ _ (c .before .next .ensures); block = r
 pub body-spec : {M : Type 1} → statement M
 body-spec =
     tie.close
-    (tie.spec (λ c. search needs) (λ c κs. search needs) (λ c. search needs) (λ c. search needs) (λ c. search needs) returns)
+    (tie.spec
+    (λ c. search needs) (λ c κs. search needs) (λ c. search needs) (λ c. search needs) (λ c. search needs) returns)

@@ -1,6 +1,6 @@
 -- `dayfile::layout::end_record` meets its contract: each `return` by the tests before it. Assumes nothing.
 use mathlib.Core.Path.{_≡_, sym, _∙_}
-use mathlib.Core.Bool.{true, false, not, _&&_}
+use mathlib.Core.Bool.{false, not, _&&_}
 use mathlib.Core.List.{List}
 use Prim.Native.Nat.{ℕ, _≤_}
 use native.Mathlib.Omega.{arith}
@@ -74,5 +74,6 @@ returns-6 c =
 pub end-record-spec : {M : Type 1} → statement M
 end-record-spec =
     tie.close
-    (tie.spec returns (λ c. search needs) (λ c κs. search needs) returns-2 (λ c κs. search needs) returns-3 returns-4
-    (λ c κs. search needs) number2-requires (λ c. search needs) returns-5 returns-6)
+    (tie.spec
+    returns (λ c. search needs) (λ c κs. search needs) returns-2 (λ c κs. search needs) returns-3 returns-4 (λ c κs. search needs)
+    number2-requires (λ c. search needs) returns-5 returns-6)

@@ -43,5 +43,4 @@ returns c =
     sym (walked-end _ _ _ (c .before .before .loop .inv) (sym (c .before .is-period .ensures) ∙ c .if1 .left))
 
 pub periods-spec : {M : Type 1} → statement M
-periods-spec =
-    tie.close (tie.spec Inv-loop μ-loop loop-holds (λ c κs. search needs) next-requires add-n loop-less loop-again returns)
+periods-spec = tie.close (tie.spec Inv-loop μ-loop loop-holds (λ c κs. search needs) next-requires add-n loop-less loop-again returns)

@@ -30,5 +30,4 @@ returns : tie.Need-returns Inv-loop μ-loop
 returns c = let e : c .before .loop .k ≡ c .before .before .before .args .i = omega arith in rw (← e) (c .before .loop .inv .1)
 
 pub record-at-spec : {M : Type 1} → statement M
-record-at-spec =
-    tie.close (tie.spec Inv-loop μ-loop loop-holds next-requires (λ c. omega arith) (λ c. omega arith) loop-again returns)
+record-at-spec = tie.close (tie.spec Inv-loop μ-loop loop-holds next-requires (λ c. omega arith) (λ c. omega arith) loop-again returns)

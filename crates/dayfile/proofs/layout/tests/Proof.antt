@@ -35,5 +35,5 @@ returns-2 c =
 pub tests-spec : {M : Type 1} → statement M
 tests-spec =
     tie.close
-    (tie.spec (λ c κs. search needs) (λ c κs. search needs) (λ c. search needs) returns (λ c. search needs) (λ c κs. search needs)
-    returns-2)
+    (tie.spec
+    (λ c κs. search needs) (λ c κs. search needs) (λ c. search needs) returns (λ c. search needs) (λ c κs. search needs) returns-2)

@@ -6,6 +6,7 @@ use native.Mathlib.Omega.{arith}
 use borrow.Author.Needs.{needs}
 use denote.Ref.{now}
 use Rattle.day.specs.File.{periodsIn}
+use Rattle.day.specs.Figures.{checks-is}
 use Rattle.day.specs.Tests.{passed, refused}
 use Rattle.dayfile.specs.Answers.{badLookup}
 use Rattle.dayfile.specs.Passed.{lookup-passed}
@@ -18,7 +19,7 @@ start c = c .before .before
 
 -- past the check
 admitted : (c : tie.After-enum-told) → badLookup (now (start (c .before .before) .args .file)) (start (c .before .before) .args .period) ≡ none
-admitted c = passed _ (c .before .before .check .ensures) (c .enum-told .given .1)
+admitted c = passed _ (checks-is _ _ (c .before .before .check .ensures)) (c .enum-told .given .1)
 
 asked : (c : tie.After-enum-told) → let a = start (c .before .before) .args in (1 ≤ a .period) × (a .period ≤ periodsIn (now (a .file)))
 asked c = let a = start (c .before .before) .args in lookup-passed (now (a .file)) (a .period) (admitted c)
@@ -27,7 +28,7 @@ returns : tie.Need-returns
 returns c =
     let p = c .before .before .before in
     let a = start p .args in
-    rw (refused (badLookup (now (a .file)) (a .period)) (p .check .ensures) (c .before .enum-told2 .given .1)) refl
+    rw (refused (badLookup (now (a .file)) (a .period)) (checks-is _ _ (p .check .ensures)) (c .before .enum-told2 .given .1)) refl
 
 sub-record-at : tie.Need-sub-record-at
 sub-record-at c = asked c .0
@@ -47,5 +48,6 @@ returns-2 c = rw (admitted (c .before .before)) (rw (c .before .record-at .ensur
 pub body-spec : {M : Type 1} → statement M
 body-spec =
     tie.close
-    (tie.spec (λ c κs. search needs) (λ c. search needs) (λ c. search needs) (λ c. search needs) (λ c. search needs)
-    (λ c. search needs) returns sub-record-at record-at-requires body-requires returns-2)
+    (tie.spec
+    (λ c κs. search needs) (λ c. search needs) (λ c. search needs) (λ c. search needs) (λ c. search needs) (λ c. search needs)
+    returns sub-record-at record-at-requires body-requires returns-2)

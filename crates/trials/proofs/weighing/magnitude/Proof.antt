@@ -58,5 +58,4 @@ cast-result-2 c =
     rw (toZ-ofZ w64 _ f) (not-less _ f (rw (toZ-ofZ w64 _ f) at (c .if1 .left)))
 
 pub magnitude-spec : {M : Type 1} → statement M
-magnitude-spec =
-    tie.close (tie.spec sub-result cast-result add-result returns cast-result-2 (λ c. search needs))
+magnitude-spec = tie.close (tie.spec sub-result cast-result add-result returns cast-result-2 (λ c. search needs))

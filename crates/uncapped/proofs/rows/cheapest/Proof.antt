@@ -46,6 +46,6 @@ pub cheapest-spec : {M : Type 1} → statement M
 cheapest-spec =
     tie.close
     (tie.spec
-    Inv-loop μ-loop loop-holds (λ c. omega arith) (λ c. omega arith) (λ c. omega arith) (λ c. omega arith)
+    Inv-loop μ-loop loop-holds (λ c. omega arith) (λ c. omega arith) (λ c. omega arith) (λ c. omega arith) (λ c. omega arith)
     (λ c. omega arith) (λ c. omega arith) (λ c. omega arith) (λ c. omega arith) (λ c. omega arith) (λ c. omega arith)
-    (λ c. omega arith) candidate-requires (λ c. omega arith) loop-again returns)
+    candidate-requires (λ c. omega arith) loop-again returns)

@@ -45,5 +45,4 @@ row-spec =
     tie.close
     (tie.spec
     (λ c. search needs) (λ c. search needs) cast-made (λ c. search needs) (λ c. search needs) (λ c. search needs)
-    (λ c. search needs) (λ c. search needs) (λ c. search needs) making-cost-requires add-t23 returns cheapest-requires
-    returns-2)
+    (λ c. search needs) (λ c. search needs) (λ c. search needs) making-cost-requires add-t23 returns cheapest-requires returns-2)

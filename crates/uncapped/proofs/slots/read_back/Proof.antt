@@ -66,5 +66,5 @@ pub read-back-spec : {M : Type 1} → statement M
 read-back-spec =
     tie.close
     (tie.spec
-    Inv-loop μ-loop loop-holds (λ c. omega arith) (λ c. omega arith) cast-from (λ c. omega arith) put-lot-requires
-    loop-less loop-again same-length returns)
+    Inv-loop μ-loop loop-holds (λ c. omega arith) (λ c. omega arith) cast-from (λ c. omega arith) put-lot-requires loop-less
+    loop-again same-length returns)
