@@ -19,7 +19,9 @@ plan-file-spec =
     tie.close
     (tie.spec (λ c. search needs) (λ c. search needs) (λ c. search needs) (λ c. search needs) (λ c. search needs)
     (λ c κs. search needs) (λ c. search needs) (λ c. search needs) (λ c. search needs) (λ c κs. search needs) (λ c. search needs)
-    (λ c. search needs) (λ c. search needs) (λ c. search needs) (λ c. search needs) (λ c. omega (arith, few c)) (λ c. search needs)
-    (λ c. search needs) (λ c. omega (arith, few (c .before .before))) (λ c. search needs) (λ c. search needs) (λ c. omega (arith, few (c .before .before .before .before))) (λ c. search needs)
-    (λ c. search needs) (λ c. omega (arith, few (c .before .before .before .before .before .before))) (λ c. search needs) (λ c. search needs) (λ c. omega (arith, few (c .before .before .before .before .before .before .before .before))) (λ c κs. search needs)
+    (λ c. search needs) (λ c. search needs) (λ c. search needs) (λ c. search needs) (λ c. omega (arith, few c))
+    (λ c. search needs) (λ c. search needs) (λ c. omega (arith, few (c .before .before))) (λ c. search needs) (λ c. search needs)
+    (λ c. omega (arith, few (c .before .before .before .before))) (λ c. search needs) (λ c. search needs)
+    (λ c. omega (arith, few (c .before .before .before .before .before .before))) (λ c. search needs) (λ c. search needs)
+    (λ c. omega (arith, few (c .before .before .before .before .before .before .before .before))) (λ c κs. search needs)
     (λ c. search needs))

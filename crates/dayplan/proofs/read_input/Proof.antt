@@ -20,17 +20,15 @@ abbrev lent : tie.After-known-told Inv-loop μ-loop → tie.At-loop Inv-loop μ-
 lent c = c .before .before .before .before .before .before .before .before
 
 -- what the read gave is not empty, and within the part that was lent
-piece : (c : tie.After-known-told Inv-loop μ-loop) → (0 < c .before .n .given .0 .0) × (c .before .n .given .0 .0 ≤ length (lent c .loop .file) - lent c .loop .have)
+piece : (c : tie.After-known-told Inv-loop μ-loop)
+    → (0 < c .before .n .given .0 .0) × (c .before .n .given .0 .0 ≤ length (lent c .loop .file) - lent c .loop .have)
 piece c =
-    let at-loop = lent c .loop in
-    let q = subst (PieceOf (length (midOf (at-loop .have) (length (at-loop .file) - at-loop .have) (at-loop .file)))) (c .before .n .given .1) (c .before .before .before .before .before .read-piece .ensures) in
-    (q .0, omega (arith, q .1, mid-len (at-loop .have) (length (at-loop .file)) (at-loop .file) (omega arith)))
-
-add-have : tie.Need-add-have Inv-loop μ-loop
-add-have c = omega (arith, piece c)
-
-loop-less : tie.Need-loop-less Inv-loop μ-loop
-loop-less c = omega (arith, piece c)
+    let n = c .before .n .given in
+    let file = lent c .loop .file in
+    let have = lent c .loop .have in
+    let read = c .before .before .before .before .before .read-piece .ensures in
+    let q = subst (PieceOf (length (midOf have (length file - have) file))) (n .1) read in
+    (q .0, omega (arith, q .1, mid-len have (length file) file (omega arith)))
 
 loop-again : tie.Need-loop-again Inv-loop μ-loop
 loop-again c = (omega (arith, piece c), search needs)
@@ -40,4 +38,5 @@ read-input-spec =
     tie.close
     (tie.spec Inv-loop μ-loop (λ c. search needs) (λ c. search needs) (λ c. search needs) (λ c. search needs)
     (λ c κs. search needs) (λ c. search needs) (λ c. search needs) (λ c. search needs) (λ c. search needs) (λ c. search needs)
-    (λ c. search needs) (λ c. search needs) add-have loop-less loop-again (λ c. search needs) (λ c. search needs))
+    (λ c. search needs) (λ c. search needs) (λ c. omega (arith, piece c)) (λ c. omega (arith, piece c)) loop-again
+    (λ c. search needs) (λ c. search needs))
