@@ -9,7 +9,7 @@ use native.Mathlib.Numerals.{add-one}
 use native.Mathlib.Omega.{arith}
 use borrow.Author.Tests.{lt-ltb, le-ltb}
 use lib.Dec.{ltb}
-use lib.ListN.{length, take, drop}
+use lib.ListN.{length, take}
 use lib.Seq.{getD-take, length-take-le, paste, length-paste, take-paste, drop-paste, take-all}
 use Rattle.io.specs.Digits.{digits, Fewest}
 use Rattle.day.specs.Sums.{at, sumTo, sum-ext}

@@ -36,7 +36,16 @@ fn put_labelled(line: &mut [u8], place: usize, word: &[u8], n: u64) -> usize
 }
 
 // A line of three labelled numbers.
-fn three(text: &mut [u8], place: usize, a: &[u8], x: u64, b: &[u8], y: u64, c: &[u8], z: u64) -> usize
+fn three(
+    text: &mut [u8],
+    place: usize,
+    a: &[u8],
+    x: u64,
+    b: &[u8],
+    y: u64,
+    c: &[u8],
+    z: u64,
+) -> usize
     requires { ⌜ place + lineBytes ≤ length (now text) ⌝ }
     requires { ⌜ length (now a) + (length (now b) + length (now c)) ≤ 35 ⌝ }
     ensures { λ r. ⌜

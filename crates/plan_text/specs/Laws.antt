@@ -1,9 +1,9 @@
 -- How the text comes about: a plan's lines one after another, and what the calls' answers say of it.
 -- Main statements: `amounts-more`, `planned-text`, `refused-text`, `read-text`. Assumes nothing.
-use mathlib.Core.Path.{_≡_, refl, sym, ap, subst, _∙_}
-use mathlib.Core.List.{List, [], _∷_, _++_, append-nil}
+use mathlib.Core.Path.{_≡_, refl, sym, ap, subst}
+use mathlib.Core.List.{List, [], _++_, append-nil}
 use mathlib.Core.Option.{Option, none, some}
-use Prim.Native.Nat.{ℕ, zero, suc, _+_, _-_, _*_, _≤_, _<_}
+use Prim.Native.Nat.{ℕ, zero, suc, _+_, _*_, _≤_, _<_}
 use native.Mathlib.Numerals.{add-one}
 use native.Mathlib.Omega.{arith}
 use borrow.Author.Tests.{lt-ltb, le-ltb}
@@ -25,7 +25,7 @@ use Rattle.dayfile.specs.declared.ReadAnswer.the-variants as Read
 use Rattle.dayfile.specs.Answers.{shortest, badRead, Reading}
 use Rattle.dayfile_reader.specs.Tables.{read-passed, firstOf, day-in-front}
 use Rattle.lines.specs.Text.{lineBytes, planLine, amountLine, refusalLine, HavePeriods, Put, PutWithin, put-put}
-use Rattle.plan_text.specs.Text.{lent, amountLines, planText, Says, Printed, PrintedDay, PrintedFile, PrintedText, PrintedAnswer}
+use Rattle.plan_text.specs.Text.{lent, amountLines, planText, Printed, PrintedDay, PrintedFile, PrintedText, PrintedAnswer}
 
 -- the loop over the periods: the lines of the first i stand from the place on, up to `next`
 pub record Lined (demand plan before : List ℕ) (place i : ℕ) (after : List ℕ) (next : ℕ) : Type 0 where
@@ -78,7 +78,9 @@ lines-of-demand d x (suc k) = ap (λ (l : List ℕ). l ++ amountLine d x k) (lin
 -- a planned day's text, and a refused one's
 pub planned-text : (d : Day) (after : Memory) (answer : Answer) (t : Totals) {text later : List ℕ} {r : ℕ} → answer ≡ Planned t
     → Runs full d blank answer after
-    → Put text 0 (planLine (periods d) (t .cost) (t .setups) ++ amountLines (dayOf (d .demand) [] [] [] []) (at (after .slots)) (periods d)) later r
+    → Put text 0
+      (planLine (periods d) (t .cost) (t .setups) ++ amountLines (dayOf (d .demand) [] [] [] []) (at (after .slots)) (periods d))
+      later r
     → PrintedDay d text later r
 planned-text d after answer t e r p =
     let q = subst (λ (a : Answer). Runs full d blank a after) e r in
@@ -91,7 +93,8 @@ planned-text d after answer t e r p =
       put = rw (q .1 .counts .cost, q .1 .counts .setups, lines-of-demand d x (periods d)) at p;
     })
 
-pub refused-day : (d : Day) (after : Memory) (answer : Answer) (refused : Refusal) {text later : List ℕ} {r : ℕ} → answer ≡ Refused refused
+pub refused-day : (d : Day) (after : Memory) (answer : Answer) (refused : Refusal) {text later : List ℕ} {r : ℕ}
+    → answer ≡ Refused refused
     → Runs full d blank answer after
     → Put text 0 (refusalLine refused) later r
     → PrintedDay d text later r
@@ -130,7 +133,8 @@ pub answer-refused : (answer : ReadAnswer) (refused : Refusal) {text later : Lis
     → PrintedAnswer answer text later r
 answer-refused answer refused e p = rw e p
 
-pub answer-accepted : (answer : ReadAnswer) (n : ℕ) (text later : List ℕ) (r : ℕ) → answer ≡ Read.Periods n → PrintedAnswer answer text later r
+pub answer-accepted : (answer : ReadAnswer) (n : ℕ) (text later : List ℕ) (r : ℕ) → answer ≡ Read.Periods n
+    → PrintedAnswer answer text later r
 answer-accepted answer n text later r e = rw e tt
 
 -- is a refused file's text
@@ -145,7 +149,8 @@ refused-file s after answer refused e r p =
     refused-text refused (rw first refl) (rw e at p)
 
 -- the length is tested first
-pub long-text : (s : List ℕ) {text later : List ℕ} {r : ℕ} → 1635 < length s → Put text 0 (refusalLine WrongEnd) later r → PrintedText s text later r
+pub long-text : (s : List ℕ) {text later : List ℕ} {r : ℕ} → 1635 < length s → Put text 0 (refusalLine WrongEnd) later r
+    → PrintedText s text later r
 long-text s l p = refused-text WrongEnd (rw (lt-ltb 1635 (length s) l) refl) p
 
 pub short-text : (s : List ℕ) {text later : List ℕ} {r : ℕ} → length s ≤ 1635 → PrintedFile s text later r → PrintedText s text later r

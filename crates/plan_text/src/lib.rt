@@ -5,7 +5,7 @@ ghost use lib.ListN.{length};
 ghost use Rattle.day.specs.Sums.{at};
 ghost use Rattle.day.specs.Day.{dayOf};
 ghost use Rattle.lines.specs.Text.{planLine, lineBytes, HavePeriods, Put};
-ghost use Rattle.plan_text.specs.Text.{textBytes, tooLong, amountLines, PrintedAnswer, PrintedDay, PrintedFile, PrintedText};
+ghost use Rattle.plan_text.specs.Text.{textBytes, amountLines, PrintedAnswer, PrintedDay, PrintedFile, PrintedText};
 use day::Answer;
 use day::Refusal;
 use day::Totals;

@@ -35,7 +35,8 @@ returns c =
     let line = c .before .before in
     let r = line .before .before .before in
     let p = at-plan (r .before .before) in
-    refused-day (day p) (left p) (p .plan .result) (r .r .given .0 .0) (r .r .given .1) (p .plan .ensures) (line .refusal-line .ensures .put)
+    refused-day (day p) (left p) (p .plan .result) (r .r .given .0 .0) (r .r .given .1) (p .plan .ensures)
+    (line .refusal-line .ensures .put)
 
 returns-2 : tie.Need-returns-2
 returns-2 c =

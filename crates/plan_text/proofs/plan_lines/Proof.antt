@@ -1,5 +1,4 @@
 -- `plan_text::plan_lines` meets its contract: the periods' lines stand after the plan's. Assumes nothing.
-use native.Mathlib.Omega.{arith}
 use borrow.Author.Needs.{needs}
 use Rattle.lines.specs.Text.{put-put}
 use Rattle.plan_text.proofs.plan_lines.Statement.{statement}
