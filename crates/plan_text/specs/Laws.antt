@@ -3,7 +3,7 @@
 use mathlib.Core.Path.{_≡_, refl, sym, ap, subst}
 use mathlib.Core.List.{List, [], _++_, append-nil}
 use mathlib.Core.Option.{Option, none, some}
-use Prim.Native.Nat.{ℕ, zero, suc, _+_, _*_, _≤_, _<_}
+use Prim.Native.Nat.{ℕ, zero, suc, _+_, _-_, _*_, _≤_, _<_}
 use native.Mathlib.Numerals.{add-one}
 use native.Mathlib.Omega.{arith}
 use borrow.Author.Tests.{lt-ltb, le-ltb}
@@ -22,8 +22,9 @@ use Rattle.day.specs.Paths.{full}
 use Rattle.checks.specs.Passed.{admitted}
 use Rattle.dayfile.specs.declared.ReadAnswer.{ReadAnswer}
 use Rattle.dayfile.specs.declared.ReadAnswer.the-variants as Read
-use Rattle.dayfile.specs.Answers.{shortest, badRead, Reading}
-use Rattle.dayfile_reader.specs.Tables.{read-passed, firstOf, day-in-front}
+use Rattle.dayfile.specs.Answers.{shortest, badRead, firstOf, Reading}
+use Rattle.dayfile.specs.Layout.{day-in-front}
+use Rattle.dayfile_reader.specs.Tables.{read-passed}
 use Rattle.lines.specs.Text.{lineBytes, planLine, amountLine, refusalLine, HavePeriods, Put, PutWithin, put-put}
 use Rattle.plan_text.specs.Text.{lent, amountLines, planText, Printed, PrintedDay, PrintedFile, PrintedText, PrintedAnswer}
 
@@ -79,8 +80,8 @@ lines-of-demand d x (suc k) = ap (λ (l : List ℕ). l ++ amountLine d x k) (lin
 pub planned-text : (d : Day) (after : Memory) (answer : Answer) (t : Totals) {text later : List ℕ} {r : ℕ} → answer ≡ Planned t
     → Runs full d blank answer after
     → Put text 0
-      (planLine (periods d) (t .cost) (t .setups) ++ amountLines (dayOf (d .demand) [] [] [] []) (at (after .slots)) (periods d))
-      later r
+    (planLine (periods d) (t .cost) (t .setups) ++ amountLines (dayOf (d .demand) [] [] [] []) (at (after .slots)) (periods d))
+    later r
     → PrintedDay d text later r
 planned-text d after answer t e r p =
     let q = subst (λ (a : Answer). Runs full d blank a after) e r in
@@ -116,15 +117,16 @@ read-few s after answer n e r =
     let q = subst (λ (a : ReadAnswer). Reading s blankDay a after) e r in
     omega (arith, read-passed s blankDay (q .0) .few, q .1)
 
--- its text is that of its day
+-- its text is that of its day; a part from 0 to n has n - 0 cells
 pub read-text : (s : List ℕ) (after : Day) (answer : ReadAnswer) (n : ℕ) {text later : List ℕ} {r : ℕ} → answer ≡ Read.Periods n
     → Reading s blankDay answer after
-    → PrintedDay (firstOf n after) text later r
+    → PrintedDay (firstOf (n - 0) after) text later r
     → PrintedFile s text later r
 read-text s after answer n {text} {later} {r} e run p =
     let q = subst (λ (a : ReadAnswer). Reading s blankDay a after) e run in
     let passed : badRead s 96 ≡ none = subst (λ (k : ℕ). badRead s k ≡ none) blank-shortest (q .0) in
-    let front = day-in-front s n blankDay after (q .1) (q .2) in
+    let cells : n - 0 ≡ n = omega arith in
+    let front : firstOf (n - 0) after ≡ dayIn s = rw cells (day-in-front s n blankDay after (q .1) (q .2)) in
     rw (passed, first-one (refusal full (dayIn s) lent)) (subst (λ (d : Day). PrintedDay d text later r) front p)
 
 -- the line of the reader's refusal
@@ -145,7 +147,7 @@ pub refused-file : (s : List ℕ) (after : Day) (answer : ReadAnswer) (refused :
     → PrintedFile s text later r
 refused-file s after answer refused e r p =
     let q = subst (λ (a : ReadAnswer). Reading s blankDay a after) e r in
-    let first : badRead s 96 ≡ some refused = subst (λ (k : ℕ). badRead s k ≡ some refused) blank-shortest (q .0) in
+    let first : badRead s 96 ≡ some refused = subst (λ (k : ℕ). badRead s k ≡ some refused) blank-shortest (gives-is (q .0)) in
     refused-text refused (rw first refl) (rw e at p)
 
 -- the length is tested first

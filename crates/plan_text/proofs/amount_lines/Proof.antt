@@ -38,5 +38,5 @@ returns c =
 pub amount-lines-spec : {M : Type 1} → statement M
 amount-lines-spec =
     tie.close
-    (tie.spec Inv-loop μ-loop loop-holds amount-line-requires (λ c. search needs) (λ c. search needs) loop-again (λ c. search needs)
-    returns)
+    (tie.spec
+    Inv-loop μ-loop loop-holds amount-line-requires (λ c. search needs) (λ c. search needs) loop-again (λ c. search needs) returns)

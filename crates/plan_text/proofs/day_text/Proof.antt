@@ -49,6 +49,6 @@ returns-2 c =
 pub day-text-spec : {M : Type 1} → statement M
 day-text-spec =
     tie.close
-    (tie.spec (λ c. search needs) (λ c. search needs) (λ c. search needs) (λ c κs. search needs) (λ c. search needs)
-    (λ c κs. search needs) (λ c. search needs) (λ c. search needs) plan-lines-requires (λ c. search needs) returns
-    (λ c. search needs) returns-2)
+    (tie.spec
+    (λ c. search needs) (λ c. search needs) (λ c. search needs) (λ c κs. search needs) (λ c. search needs) (λ c κs. search needs)
+    (λ c. search needs) (λ c. search needs) plan-lines-requires (λ c. search needs) returns (λ c. search needs) returns-2)

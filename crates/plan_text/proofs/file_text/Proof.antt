@@ -45,11 +45,11 @@ returns-2 c =
 pub file-text-spec : {M : Type 1} → statement M
 file-text-spec =
     tie.close
-    (tie.spec (λ c. search needs) (λ c. search needs) (λ c. search needs) (λ c. search needs) (λ c. search needs)
-    (λ c κs. search needs) (λ c. search needs) (λ c. search needs) (λ c κs. search needs) (λ c. search needs) returns
-    (λ c. search needs) (λ c. search needs) (λ c. omega (arith, few c))
-    (λ c. search needs) (λ c. search needs) (λ c. omega (arith, few (c .before .before)))
-    (λ c. search needs) (λ c. search needs) (λ c. omega (arith, few (c .before .before .before .before)))
-    (λ c. search needs) (λ c. search needs) (λ c. omega (arith, few (c .before .before .before .before .before .before)))
-    (λ c. search needs) (λ c. search needs) (λ c. omega (arith, few (at-demand c)))
-    (λ c κs. search needs) (λ c. search needs) returns-2)
+    (tie.spec
+    (λ c. search needs) (λ c. search needs) (λ c. search needs) (λ c. search needs) (λ c. search needs) (λ c κs. search needs)
+    (λ c. search needs) (λ c. search needs) (λ c κs. search needs) (λ c. search needs) returns (λ c. search needs)
+    (λ c. search needs) (λ c. omega (arith, few c)) (λ c. search needs) (λ c. search needs)
+    (λ c. omega (arith, few (c .before .before))) (λ c. search needs) (λ c. search needs)
+    (λ c. omega (arith, few (c .before .before .before .before))) (λ c. search needs) (λ c. search needs)
+    (λ c. omega (arith, few (c .before .before .before .before .before .before))) (λ c. search needs) (λ c. search needs)
+    (λ c. omega (arith, few (at-demand c))) (λ c κs. search needs) (λ c. search needs) returns-2)

@@ -16,4 +16,5 @@ returns-2 c = answer-accepted _ _ _ _ _ (c .enum-told .given .1)
 pub refused-text-spec : {M : Type 1} → statement M
 refused-text-spec =
     tie.close
-    (tie.spec (λ c. search needs) (λ c κs. search needs) (λ c. search needs) (λ c. search needs) returns returns-2)
+    (tie.spec
+    (λ c. search needs) (λ c κs. search needs) (λ c. search needs) (λ c. search needs) returns returns-2)
