@@ -1,7 +1,7 @@
 -- How text comes to stand in a buffer: a copy byte by byte, and a number's digits.
 -- Main statements: `pasted-put`, `number-put`. Assumes nothing.
 use mathlib.Core.Path.{_≡_, refl, sym, ap, _∙_}
-use mathlib.Core.List.{List, _++_}
+use mathlib.Core.List.{List, [], _∷_, _++_}
 use Prim.Native.Nat.{ℕ, zero, suc, _+_, _-_, _^_, _≤_, _<_}
 use native.Mathlib.Nat.{pow-le-pow-right}
 use native.Mathlib.Decide.{decLt}
@@ -10,13 +10,13 @@ use native.Mathlib.Omega.{arith}
 use borrow.Author.Tests.{lt-ltb, le-ltb}
 use lib.Dec.{ltb}
 use lib.ListN.{length, take}
-use lib.Seq.{getD-take, length-take-le, paste, length-paste, take-paste, take-all}
+use lib.Seq.{getD-take, length-take-le, paste, length-paste, take-paste, drop-paste, take-all}
 use Rattle.io.specs.Digits.{digits, Fewest}
 use Rattle.day.specs.Sums.{at, sumTo, sum-ext}
 use Rattle.day.specs.Day.{Day}
 use Rattle.day.specs.Plan.{inventory}
 use Rattle.day.specs.Find.{find-here, nothing-found}
-use Rattle.lines.specs.Text.{places, placesOf, decimal, periodLine, amountLine, Put, PutLabelled, put-put}
+use Rattle.lines.specs.Text.{places, placesOf, decimal, labelled, lineEnd, lineOf, periodLine, amountLine, Put, PutWithin, lineBytes, put-put}
 
 -- all of a text, copied
 pub pasted-put : (line : List ℕ) (place : ℕ) (text : List ℕ) → place + length text ≤ length line
@@ -29,6 +29,7 @@ pasted-put line place text h =
       end = refl;
       inside = omega (arith, length-paste line place text (length text) h (omega arith));
       size = length-paste line place text (length text) h (omega arith);
+      rest = drop-paste line place text (length text) (omega arith) (omega arith);
     }
 
 -- a 64-bit number has at most 20 digits
@@ -60,7 +61,7 @@ pub number-put : {before between after : List ℕ} {place start next : ℕ} {wor
     → Fewest 10 1 n k → n < 2 ^ 64 → text ≡ digits 10 k n → length text ≤ k
     → Put before place word between start
     → Put between start text after next
-    → PutLabelled before place word n after next
+    → PutWithin (length word + 20) before place (labelled word n) after next
 number-put n k text f h is size p q =
     let e : text ≡ decimal n = is ∙ ap (λ (j : ℕ). digits 10 j n) (sym (places-are n k f (few-digits n k f h))) in
     record { put = rw e at (put-put p q); few = omega (arith, few-digits n k f h, p .end, q .end) }
@@ -74,7 +75,18 @@ part-total l i r h is =
     ∙ sum-ext (at (take (i - 0) l)) (at l) i (λ k b. getD-take (i - 0) l k 0 (omega arith))
 
 -- a period's line is its amount's
-pub amount-put : {before after : List ℕ} {next : ℕ} (d : Day) (x : ℕ → ℕ) (i left : ℕ) → left ≡ inventory d x (i + 1)
-    → Put before 0 (periodLine (i + 1) (x i) left) after next
-    → Put before 0 (amountLine d x i) after next
+pub amount-put : {before after : List ℕ} {place next : ℕ} (d : Day) (x : ℕ → ℕ) (i left : ℕ) → left ≡ inventory d x (i + 1)
+    → PutWithin lineBytes before place (periodLine (i + 1) (x i) left) after next
+    → PutWithin lineBytes before place (amountLine d x i) after next
 amount-put d x i left e p = rw (e, add-one) at p
+
+-- a line of three labelled numbers
+pub three-put : {t₀ t₁ t₂ t₃ t₄ : List ℕ} {i₀ i₁ i₂ i₃ i₄ : ℕ} (a b c : List ℕ) (x y z : ℕ)
+    → length a + (length b + length c) ≤ 35
+    → PutWithin (length a + 20) t₀ i₀ (labelled a x) t₁ i₁
+    → PutWithin (length b + 20) t₁ i₁ (labelled b y) t₂ i₂
+    → PutWithin (length c + 20) t₂ i₂ (labelled c z) t₃ i₃
+    → Put t₃ i₃ lineEnd t₄ i₄
+    → PutWithin lineBytes t₀ i₀ (lineOf ((a, x) ∷ (b, y) ∷ (c, z) ∷ [])) t₄ i₄
+three-put a b c x y z h p q r e =
+    record { put = put-put (p .put) (put-put (q .put) (put-put (r .put) e)); few = omega (arith, p .few, q .few, r .few, e .end) }

@@ -1,11 +1,12 @@
 -- The lines that `dayplan` prints (document 01, "Marked days"), as bytes, and what it means that text was put into a buffer.
 -- Main definitions: `planLine`, `amountLine`, `refusalLine`, `Put`. Assumes nothing.
-use mathlib.Core.Path.{_≡_, ap, _∙_}
+use mathlib.Core.Path.{_≡_, sym, ap, _∙_}
 use mathlib.Core.List.{List, [], _∷_, _++_, append-assoc}
 use mathlib.Core.Option.{Option, none, some}
-use Prim.Native.Nat.{ℕ, suc, _+_, _^_, _≤_}
+use Prim.Native.Nat.{ℕ, suc, _+_, _-_, _^_, _≤_}
 use lib.Dec.{ltb}
-use lib.ListN.{length, take, length-append}
+use lib.ListN.{length, take, drop, length-append}
+use lib.Seq.{drop-drop}
 use native.Mathlib.Omega.{arith}
 use Rattle.io.specs.Digits.{digits}
 use Rattle.day.specs.declared.Refusal.{Refusal}
@@ -81,24 +82,32 @@ pub record HavePeriods (demand plan : List ℕ) (i : ℕ) : Type 0 where
   pub planned : i ≤ length plan
   pub few : i ≤ maxPeriods
 
--- text was put at a place of a buffer, and `next` is the place after it; what stands before is kept
+-- text was put at a place of a buffer, and `next` is the place after it; what stands before and after is kept
 pub record Put (before : List ℕ) (place : ℕ) (text after : List ℕ) (next : ℕ) : Type 0 where
   pub front : take next after ≡ take place before ++ text
   pub end : next ≡ place + length text
   pub inside : next ≤ length after
   pub size : length after ≡ length before
+  pub rest : drop next after ≡ drop next before
 
--- a labelled number was put, in 20 digits at most
-pub record PutLabelled (before : List ℕ) (place : ℕ) (word : List ℕ) (n : ℕ) (after : List ℕ) (next : ℕ) : Type 0 where
-  pub put : Put before place (labelled word n) after next
-  pub few : next ≤ place + length word + 20
+-- a text of so many bytes at most was put
+pub record PutWithin (most : ℕ) (before : List ℕ) (place : ℕ) (text after : List ℕ) (next : ℕ) : Type 0 where
+  pub put : Put before place text after next
+  pub few : next ≤ place + most
+
+-- the most bytes of a line
+abbrev pub lineBytes : ℕ
+lineBytes = 96
 
 -- one text after another
 pub put-put : {a b c : List ℕ} {i j k : ℕ} {s t : List ℕ} → Put a i s b j → Put b j t c k → Put a i (s ++ t) c k
 put-put {a} {b} {c} {i} {j} {k} {s} {t} p q =
+    let on : j + (k - j) ≡ k = omega (arith, q .end) in
+    let later : (l : List ℕ) → drop (k - j) (drop j l) ≡ drop k l = λ l. drop-drop (k - j) j l ∙ ap (λ (n : ℕ). drop n l) on in
     record {
       front = q .front ∙ ap (λ (l : List ℕ). l ++ t) (p .front) ∙ append-assoc (take i a) s t;
       end = omega (arith, p .end, q .end, length-append s t);
       inside = q .inside;
       size = q .size ∙ p .size;
+      rest = q .rest ∙ (sym (later b) ∙ ap (drop (k - j)) (p .rest) ∙ later a);
     }

@@ -1,4 +1,4 @@
-//! Lines of text, put into a lent buffer.
+//! Lines of text, each put at a place of a lent buffer that has room for a line there.
 ghost use mathlib.Core.Path.{_≡_};
 ghost use Prim.Native.Nat.{_+_, _≤_};
 ghost use lib.ListN.{length};
@@ -6,7 +6,7 @@ ghost use mathlib.Core.List.{[], _∷_};
 ghost use Rattle.day.specs.Sums.{at};
 ghost use Rattle.day.specs.Day.{dayOf};
 ghost use Rattle.day.specs.Plan.{inventory as left};
-ghost use Rattle.lines.specs.Text.{lineOf, planLine, amountLine, refusalLine, Put, PutLabelled, HavePeriods};
+ghost use Rattle.lines.specs.Text.{lineBytes, labelled, lineOf, planLine, amountLine, refusalLine, Put, PutWithin, HavePeriods};
 use day::Refusal;
 
 // Puts text at a place of the line, and answers the place after it.
@@ -25,7 +25,9 @@ fn put(line: &mut [u8], place: usize, text: &[u8]) -> usize
 // Puts a word and a number in decimal.
 fn put_labelled(line: &mut [u8], place: usize, word: &[u8], n: u64) -> usize
     requires { ⌜ place + length (now word) + 20 ≤ length (now line) ⌝ }
-    ensures { λ r. ⌜ PutLabelled (now (line .entry)) place (now (word .entry)) n (now (line .exit)) r ⌝ }
+    ensures { λ r. ⌜
+        PutWithin (length (now (word .entry)) + 20) (now (line .entry)) place (labelled (now (word .entry)) n) (now (line .exit)) r
+        ⌝ }
 {
     let mut digits = [0u8; 20];
     let k = io::decimal(n, &mut digits);
@@ -34,25 +36,45 @@ fn put_labelled(line: &mut [u8], place: usize, word: &[u8], n: u64) -> usize
 }
 
 // A line of three labelled numbers.
-fn three(line: &mut [u8; 96], a: &[u8], x: u64, b: &[u8], y: u64, c: &[u8], z: u64) -> usize
+fn three(
+    text: &mut [u8],
+    place: usize,
+    a: &[u8],
+    x: u64,
+    b: &[u8],
+    y: u64,
+    c: &[u8],
+    z: u64,
+) -> usize
+    requires { ⌜ place + lineBytes ≤ length (now text) ⌝ }
     requires { ⌜ length (now a) + (length (now b) + length (now c)) ≤ 35 ⌝ }
     ensures { λ r. ⌜
-        Put (now (line .entry)) 0
+        PutWithin lineBytes (now (text .entry)) place
         (lineOf ((now (a .entry), x) ∷ (now (b .entry), y) ∷ (now (c .entry), z) ∷ []))
-        (now (line .exit)) r
+        (now (text .exit)) r
         ⌝ }
 {
-    let first = put_labelled(line, 0, a, x);
-    let second = put_labelled(line, first, b, y);
-    let third = put_labelled(line, second, c, z);
-    put(line, third, b"\n")
+    let first = put_labelled(text, place, a, x);
+    let second = put_labelled(text, first, b, y);
+    let third = put_labelled(text, second, c, z);
+    put(text, third, b"\n")
 }
 
 // The first line of a plan.
-pub fn plan_line(n: u64, cost: u64, setups: u64, line: &mut [u8; 96]) -> usize
-    ensures { λ r. ⌜ Put (now (line .entry)) 0 (planLine n cost setups) (now (line .exit)) r ⌝ }
+pub fn plan_line(n: u64, cost: u64, setups: u64, text: &mut [u8], place: usize) -> usize
+    requires { ⌜ place + lineBytes ≤ length (now text) ⌝ }
+    ensures { λ r. ⌜ PutWithin lineBytes (now (text .entry)) place (planLine n cost setups) (now (text .exit)) r ⌝ }
 {
-    three(line, b"periods ", n, b" cost ", cost, b" starts ", setups)
+    three(
+        text,
+        place,
+        b"periods ",
+        n,
+        b" cost ",
+        cost,
+        b" starts ",
+        setups,
+    )
 }
 
 // The inventory left after the first i periods.
@@ -66,17 +88,19 @@ fn inventory(demand: &[u16], plan: &[u16], i: usize) -> u64
 }
 
 // The period at index i of a plan: its amount, and the inventory left after it.
-pub fn amount_line(demand: &[u16], plan: &[u16], i: usize, line: &mut [u8; 96]) -> usize
+pub fn amount_line(demand: &[u16], plan: &[u16], i: usize, text: &mut [u8], place: usize) -> usize
     requires { ⌜ HavePeriods (now demand) (now plan) (i + 1) ⌝ }
+    requires { ⌜ place + lineBytes ≤ length (now text) ⌝ }
     ensures { λ r. ⌜
-        Put (now (line .entry)) 0
+        PutWithin lineBytes (now (text .entry)) place
         (amountLine (dayOf (now (demand .entry)) [] [] [] []) (at (now (plan .entry))) i)
-        (now (line .exit)) r
+        (now (text .exit)) r
         ⌝ }
 {
     let left = inventory(demand, plan, i + 1);
     three(
-        line,
+        text,
+        place,
         b"",
         (i + 1) as u64,
         b" made ",
@@ -87,10 +111,11 @@ pub fn amount_line(demand: &[u16], plan: &[u16], i: usize, line: &mut [u8; 96]) 
 }
 
 // A refusal.
-pub fn refusal_line(refusal: Refusal, line: &mut [u8; 96]) -> usize
-    ensures { λ r. ⌜ Put (now (line .entry)) 0 (refusalLine refusal) (now (line .exit)) r ⌝ }
+pub fn refusal_line(refusal: Refusal, text: &mut [u8], place: usize) -> usize
+    requires { ⌜ place + lineBytes ≤ length (now text) ⌝ }
+    ensures { λ r. ⌜ PutWithin lineBytes (now (text .entry)) place (refusalLine refusal) (now (text .exit)) r ⌝ }
 {
-    let a = put_labelled(line, 0, b"refused ", refusal.number() as u64);
-    let b = put_labelled(line, a, b" period ", refusal.period() as u64);
-    put(line, b, b"\n")
+    let a = put_labelled(text, place, b"refused ", refusal.number() as u64);
+    let b = put_labelled(text, a, b" period ", refusal.period() as u64);
+    put(text, b, b"\n")
 }

@@ -12,15 +12,11 @@ fn spoilt(v: u64, first: bool, cleared: bool) -> bool {
     v != 119
 }
 
-fn wide_8(v: u8) -> u64 {
+pub fn wide_8(v: u8) -> u64 {
     v as u64
 }
 
 fn wide_16(v: u16) -> u64 {
-    v as u64
-}
-
-fn wide_32(v: u32) -> u64 {
     v as u64
 }
 
@@ -40,17 +36,6 @@ pub fn amounts_left(cells: &[u16], free: usize, cleared: bool) -> bool {
     let mut i = 0;
     while i < cells.len() {
         if spoilt(wide_16(cells[i]), i < free, cleared) {
-            return false;
-        }
-        i += 1;
-    }
-    true
-}
-
-pub fn rates_left(cells: &[u32], free: usize, cleared: bool) -> bool {
-    let mut i = 0;
-    while i < cells.len() {
-        if spoilt(wide_32(cells[i]), i < free, cleared) {
             return false;
         }
         i += 1;

@@ -88,21 +88,6 @@ fn bytes(s: &[u8], out: &mut [u8]) -> usize
 // The mark, in an output slice.
 const FILL: u8 = 119;
 
-fn tables_kept(
-    n: usize,
-    demand: &[u16],
-    capacity: &[u16],
-    setup: &[u32],
-    unit: &[u32],
-    holding: &[u32],
-) -> bool {
-    cells::amounts_left(demand, n, false)
-        && cells::amounts_left(capacity, n, false)
-        && cells::rates_left(setup, n, false)
-        && cells::rates_left(unit, n, false)
-        && cells::rates_left(holding, n, false)
-}
-
 // Whether the tables are written to the very bytes of the file.
 fn written_alike(
     file: &[u8],
@@ -122,147 +107,44 @@ fn written_alike(
     }
 }
 
-// What the reader says of a file; whether tables that it filled are written to the same bytes; whether it left all other cells alone.
-struct Fate {
-    answer: ReadAnswer,
-    alike: bool,
-    kept: bool,
-}
-
-// How many periods were read; 0 where the file was refused.
-fn periods(answer: ReadAnswer) -> usize {
-    match answer {
-        ReadAnswer::Refused(_) => 0,
-        ReadAnswer::Periods(n) => n,
-    }
-}
-
-fn read_into(
-    file: &[u8],
-    demand: &mut [u16],
-    capacity: &mut [u16],
-    setup: &mut [u32],
-    unit: &mut [u32],
-    holding: &mut [u32],
-) -> Fate {
-    let answer = dayfile_reader::read(file, demand, capacity, setup, unit, holding);
-    let n = periods(answer);
-    let kept = tables_kept(n, demand, capacity, setup, unit, holding);
-    if n != demand.len() {
-        return Fate {
-            answer,
-            alike: true,
-            kept,
-        };
-    }
-    let alike = written_alike(file, demand, capacity, setup, unit, holding);
-    Fate {
-        answer,
-        alike,
-        kept,
-    }
-}
-
-// The reader, with so many cells in each table.
-fn read(file: &[u8], room: usize) -> Fate {
-    let mut demand = [MARK; 98];
-    let mut capacity = [MARK; 98];
-    let mut setup = [119u32; 98];
-    let mut unit = [119u32; 98];
-    let mut holding = [119u32; 98];
-    let k = text::least(room, 98);
-    read_into(
-        file,
-        &mut demand[0..k],
-        &mut capacity[0..k],
-        &mut setup[0..k],
-        &mut unit[0..k],
-        &mut holding[0..k],
-    )
-}
-
-fn print_fate(f: Fate) {
-    let answer = f.answer;
-    match answer {
-        ReadAnswer::Refused(r) => print::refusal(r),
-        ReadAnswer::Periods(n) => print::number(b" periods ", n as u64),
-    }
-    if !f.alike {
-        print::text(b", WRITTEN OTHERWISE");
-    }
-    print::unless(f.kept);
-    print::end();
-}
-
-// The part that a lookup hands out, and what its companion says.
-fn look(line: &[u8], file: &[u8], period: usize) {
-    let body = dayfile::lookup::body(file, period);
-    print::text(text::name(line));
-    print::number(b" lookup ", period as u64);
-    match dayfile::lookup::check(file, period) {
-        Check::Refused(r) => print::refusal(r),
-        Check::Passed => {}
-    }
-    print::bytes(body);
-    print::end();
-}
-
-fn look_all(line: &[u8], file: &[u8], periods: &[u16]) {
-    let mut i = 0;
-    while i < periods.len() {
-        look(line, file, text::wide(periods[i]));
-        i += 1;
-    }
-}
-
-// The file of field 1: read into tables of as many cells as field 2 says, and the periods of field 3 looked up.
-pub fn file(line: &[u8]) {
-    let mut file = [0u8; 1700];
-    let mut asked = [0u16; 8];
-    let mut room = [0u32; 1];
-    let n = bytes(text::field(line, 1), &mut file);
-    let k = text::amounts(text::field(line, 3), &mut asked);
-    text::rates(text::field(line, 2), 1, &mut room);
-    print::text(text::name(line));
-    print_fate(read(&file[0..n], text::size(room[0])));
-    look_all(line, &file[0..n], &asked[0..k]);
-}
-
-// How a file fares: the number of its refusal, 0 where it is read and written to the same bytes, 15 for anything else.
-fn number_of(f: Fate) -> usize
+// How a file of two periods fares: the number of its refusal, 0 where it is read and written to the same bytes, 15 for anything else.
+fn fare(file: &[u8]) -> usize
     ensures { λ r. ⌜ r < 16 ⌝ }
 {
-    if !f.alike || !f.kept {
-        return 15;
-    }
-    let answer = f.answer;
-    match answer {
-        ReadAnswer::Periods(_) => 0,
-        ReadAnswer::Refused(r) => text::least(r.number() as usize, 15),
+    let mut demand = [MARK; 2];
+    let mut capacity = [MARK; 2];
+    let mut setup = [119u32; 2];
+    let mut unit = [119u32; 2];
+    let mut holding = [119u32; 2];
+    match dayfile_reader::read(
+        file,
+        &mut demand,
+        &mut capacity,
+        &mut setup,
+        &mut unit,
+        &mut holding,
+    ) {
+        ReadAnswer::Refused(r) => {
+            if cells::amounts_left(&demand, 0, false) {
+                return text::least(r.number() as usize, 15);
+            }
+            15
+        }
+        ReadAnswer::Periods(_) => {
+            if written_alike(file, &demand, &capacity, &setup, &unit, &holding) {
+                return 0;
+            }
+            15
+        }
     }
 }
 
-fn tally(file: &[u8], counts: &mut [u64; 16]) {
-    cells::count(counts, number_of(read(file, 2)));
-}
-
-fn cuts(file: &[u8], counts: &mut [u64; 16]) {
+fn cut(file: &[u8], counts: &mut [u64; 16]) {
     let mut k = 0;
     while k < file.len() {
-        tally(&file[0..k], counts);
+        cells::count(counts, fare(&file[0..k]));
         k += 1;
     }
-}
-
-// The file of field 1, of two periods, cut at every length.
-pub fn cut(line: &[u8]) {
-    let mut file = [0u8; 1700];
-    let mut counts = [0u64; 16];
-    let n = bytes(text::field(line, 1), &mut file);
-    cuts(&file[0..n], &mut counts);
-    print::text(text::name(line));
-    print::counts(counts);
-    print::end();
 }
 
 // With every value at one place, which is then as it was.
@@ -274,13 +156,15 @@ fn change_at(file: &mut [u8], at: usize, counts: &mut [u64; 16])
     let mut v: usize = 0;
     while v < 256 {
         file[at] = v as u8;
-        tally(file, counts);
+        cells::count(counts, fare(file));
         v += 1;
     }
     file[at] = was;
 }
 
-fn changes(file: &mut [u8], counts: &mut [u64; 16]) {
+fn change(file: &mut [u8], counts: &mut [u64; 16])
+    ensures { λ r. ⌜ length (now (file .exit)) ≡ length (now (file .entry)) ⌝ }
+{
     let mut k = 0;
     while k < file.len() {
         change_at(file, k, counts);
@@ -288,14 +172,63 @@ fn changes(file: &mut [u8], counts: &mut [u64; 16]) {
     }
 }
 
-// The file of field 1, with every value at every place.
-pub fn change(line: &[u8]) {
-    let mut file = [0u8; 1700];
+// The reader, with so many cells in each table.
+fn read(file: &[u8], room: usize) {
+    let mut demand = [MARK; 98];
+    let mut capacity = [MARK; 98];
+    let mut setup = [119u32; 98];
+    let mut unit = [119u32; 98];
+    let mut holding = [119u32; 98];
+    let k = text::least(room, 98);
+    match dayfile_reader::read(
+        file,
+        &mut demand[0..k],
+        &mut capacity[0..k],
+        &mut setup[0..k],
+        &mut unit[0..k],
+        &mut holding[0..k],
+    ) {
+        ReadAnswer::Refused(r) => print::refusal(r),
+        ReadAnswer::Periods(n) => print::number(b" periods ", n as u64),
+    }
+}
+
+// How long the part is that a lookup hands out, with the demand in it, and what its companion says.
+fn look(file: &[u8], period: usize) {
+    let body = dayfile::lookup::body(file, period);
+    print::number(b" bytes ", body.len() as u64);
+    if 1 < body.len() {
+        print::number(b" need ", cells::wide_8(body[1]));
+    }
+    if let Check::Refused(r) = dayfile::lookup::check(file, period) {
+        print::refusal(r);
+    }
+}
+
+// What the first word of the name says: read, look, cut or change.
+fn trial(line: &[u8], file: &mut [u8]) {
     let mut counts = [0u64; 16];
-    let n = bytes(text::field(line, 1), &mut file);
-    changes(&mut file[0..n], &mut counts);
-    print::text(text::name(line));
+    let kind = text::kind(text::name(line));
+    if check::same(kind, b"read") {
+        return read(file, text::size(text::number_in(line, 2)));
+    }
+    if check::same(kind, b"look") {
+        return look(file, text::size(text::number_in(line, 2)));
+    }
+    if check::same(kind, b"cut") {
+        cut(file, &mut counts);
+        return print::counts(counts);
+    }
+    change(file, &mut counts);
     print::counts(counts);
+}
+
+// A trial of the file in field 1.
+pub fn file(line: &[u8]) {
+    let mut file = [0u8; 1700];
+    let n = bytes(text::field(line, 1), &mut file);
+    print::text(text::name(line));
+    trial(line, &mut file[0..n]);
     print::end();
 }
 
@@ -312,13 +245,12 @@ fn write_into(
         WriteAnswer::Refused(r) => {
             print::refusal(r);
             print::unless(cells::bytes_left(out, 0, false));
-            print::end();
         }
         WriteAnswer::Bytes(m) => {
             let end = text::least(m, out.len());
             print::number(b" bytes ", m as u64);
             print::unless(cells::bytes_left(out, m, false));
-            print_fate(read(&out[0..end], demand.len()));
+            read(&out[0..end], demand.len());
         }
     }
 }
@@ -338,4 +270,5 @@ pub fn write(
     print::text(text::name(line));
     print::text(b" file");
     write_into(demand, capacity, setup, unit, holding, &mut out[0..end]);
+    print::end();
 }

@@ -25,32 +25,14 @@ fn day(
         tiny::searched(line, demand, capacity, setup, unit, holding);
         return files::write(line, 1640, demand, capacity, setup, unit, holding);
     }
-    if check::same(kind, b"weigh") {
-        return weighing::weigh(line, demand, capacity, setup, unit, holding);
-    }
-    if check::same(kind, b"compare") {
-        return weighing::compare(line, demand, capacity, setup, unit, holding);
+    if check::same(kind, b"weigh") || check::same(kind, b"compare") {
+        return weighing::plans(line, demand, capacity, setup, unit, holding);
     }
     if check::same(kind, b"write") {
-        return files::write(
-            line,
-            text::size_at(line),
-            demand,
-            capacity,
-            setup,
-            unit,
-            holding,
-        );
+        let room = text::size(text::number_in(line, 6));
+        return files::write(line, room, demand, capacity, setup, unit, holding);
     }
-    paths::lent(
-        paths::named(kind),
-        line,
-        demand,
-        capacity,
-        setup,
-        unit,
-        holding,
-    );
+    paths::lent(line, demand, capacity, setup, unit, holding);
 }
 
 // A line that begins with a day's five tables: demands; capacities; setup, unit and holding costs.
@@ -83,12 +65,6 @@ fn trial(line: &[u8]) {
     }
     if check::same(kind, b"file") {
         return files::file(line);
-    }
-    if check::same(kind, b"cut") {
-        return files::cut(line);
-    }
-    if check::same(kind, b"change") {
-        return files::change(line);
     }
     if check::same(kind, b"made-up") {
         return tiny::made_up(line);

@@ -13,7 +13,7 @@ pub enum Path {
     Equal,
 }
 
-pub fn named(kind: &[u8]) -> Path {
+fn named(kind: &[u8]) -> Path {
     if check::same(kind, b"uncapped") {
         return Path::Uncapped;
     }
@@ -135,15 +135,51 @@ fn as_left(costs: &[u64], choices: &[u16], slots: &[u16], needed: Cells, n: usiz
         && cells::amounts_left(slots, n, false)
 }
 
-fn planned(answer: Answer) -> bool {
+fn print_plan(t: Totals, plan: &[u16]) {
+    print::amounts(plan);
+    print::number(b" cost ", t.cost);
+    print::number(b" starts ", t.setups);
+}
+
+fn print_answer(line: &[u8], path: Path, answer: Answer, slots: &[u16], n: usize, kept: bool) {
+    if line.len() == 0 {
+        return;
+    }
+    print::text(text::name(line));
+    name_of(path);
     match answer {
-        Answer::Refused(_) => false,
-        Answer::Planned(_) => true,
+        Answer::Refused(r) => print::refusal(r),
+        Answer::Planned(t) => {
+            let end = text::least(n, slots.len());
+            print_plan(t, &slots[0..end]);
+        }
+    }
+    print::unless(kept);
+    print::end();
+}
+
+// The cells that a call clears: none where it refuses.
+fn cleared(path: Path, answer: Answer, demand: &[u16]) -> Cells {
+    match answer {
+        Answer::Refused(_) => Cells {
+            costs: 0,
+            choices: 0,
+        },
+        Answer::Planned(_) => needed(path, demand),
     }
 }
 
+fn planned(answer: Answer, n: usize) -> usize {
+    match answer {
+        Answer::Refused(_) => 0,
+        Answer::Planned(_) => n,
+    }
+}
+
+// A path in lent memory. It prints the line's name and the answer, unless the line is empty.
 pub fn run(
     path: Path,
+    line: &[u8],
     demand: &[u16],
     capacity: &[u16],
     setup: &[u32],
@@ -164,64 +200,10 @@ pub fn run(
         choices,
         slots,
     );
-    if planned(answer) {
-        let kept = as_left(costs, choices, slots, needed(path, demand), demand.len());
-        return Outcome { answer, kept };
-    }
-    let none = Cells {
-        costs: 0,
-        choices: 0,
-    };
-    let kept = as_left(costs, choices, slots, none, 0);
+    let n = planned(answer, demand.len());
+    let kept = as_left(costs, choices, slots, cleared(path, answer, demand), n);
+    print_answer(line, path, answer, slots, n, kept);
     Outcome { answer, kept }
-}
-
-fn print_plan(t: Totals, plan: &[u16]) {
-    print::amounts(plan);
-    print::number(b" cost ", t.cost);
-    print::number(b" starts ", t.setups);
-}
-
-fn print_run(line: &[u8], path: Path, run: Outcome, slots: &[u16], n: usize) {
-    print::text(text::name(line));
-    name_of(path);
-    let answer = run.answer;
-    match answer {
-        Answer::Refused(r) => print::refusal(r),
-        Answer::Planned(t) => {
-            let plan = text::least(n, slots.len());
-            print_plan(t, &slots[0..plan]);
-        }
-    }
-    print::unless(run.kept);
-    print::end();
-}
-
-// One path in lent memory.
-fn shown(
-    path: Path,
-    line: &[u8],
-    demand: &[u16],
-    capacity: &[u16],
-    setup: &[u32],
-    unit: &[u32],
-    holding: &[u32],
-    costs: &mut [u64],
-    choices: &mut [u16],
-    slots: &mut [u16],
-) {
-    let r = run(
-        path,
-        demand,
-        capacity,
-        setup,
-        unit,
-        holding,
-        costs,
-        choices,
-        slots,
-    );
-    print_run(line, path, r, slots, demand.len());
 }
 
 // One path in so many cells and slots.
@@ -243,7 +225,7 @@ fn within(
     let a = text::least(costs, 8196);
     let b = text::least(choices, 393314);
     let c = text::least(slots, 130);
-    shown(
+    run(
         path,
         line,
         demand,
@@ -296,9 +278,8 @@ pub fn all(
     roomy(Path::Equal, line, demand, capacity, setup, unit, holding);
 }
 
-// One path in as many cost cells, choice cells and slots as field 6 says.
+// One path in as many cost cells, choice cells and slots as fields 6, 7 and 8 say.
 pub fn lent(
-    path: Path,
     line: &[u8],
     demand: &[u16],
     capacity: &[u16],
@@ -306,18 +287,16 @@ pub fn lent(
     unit: &[u32],
     holding: &[u32],
 ) {
-    let mut memory = [0u32; 3];
-    text::rates(text::field(line, 6), 1, &mut memory);
     within(
-        path,
+        named(text::kind(line)),
         line,
         demand,
         capacity,
         setup,
         unit,
         holding,
-        text::size(memory[0]),
-        text::size(memory[1]),
-        text::size(memory[2]),
+        text::size(text::number_in(line, 6)),
+        text::size(text::number_in(line, 7)),
+        text::size(text::number_in(line, 8)),
     );
 }

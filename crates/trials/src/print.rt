@@ -32,27 +32,6 @@ pub fn amounts(plan: &[u16]) {
     }
 }
 
-fn byte(x: u8) {
-    io::print_hex(STDOUT_FILENO, x as u64, 2);
-}
-
-fn hex(part: &[u8]) {
-    let mut k = 0;
-    while k < part.len() {
-        byte(part[k]);
-        k += 1;
-    }
-}
-
-// How many bytes there are, and what they are.
-pub fn bytes(part: &[u8]) {
-    number(b" bytes ", part.len() as u64);
-    if 0 < part.len() {
-        text(b" ");
-        hex(part);
-    }
-}
-
 // Says so where a call did not leave lent cells as it must.
 pub fn unless(kept: bool) {
     if !kept {

@@ -172,16 +172,13 @@ fn next(s: &[u8], r: Reading) -> Reading {
     if from == to {
         return start();
     }
+    let again = times(s, mark, to);
     Reading {
         at: to,
         value: number(&s[from..mark]),
-        again: less_one(times(s, mark, to)),
+        again: if again == 0 { 0 } else { again - 1 },
         found: true,
     }
-}
-
-fn less_one(n: u32) -> u32 {
-    if n == 0 { 0 } else { n - 1 }
 }
 
 fn low(v: u32) -> u16 {
@@ -239,9 +236,8 @@ pub fn rates(s: &[u8], n: usize, table: &mut [u32]) -> usize
     k
 }
 
-// The number of field 6.
-pub fn size_at(line: &[u8]) -> usize {
-    let mut sizes = [0u32; 1];
-    rates(field(line, 6), 1, &mut sizes);
-    size(sizes[0])
+// The first number of field k; 0 where it has none.
+pub fn number_in(line: &[u8], k: usize) -> u32 {
+    let r = next(field(line, k), start());
+    r.value
 }

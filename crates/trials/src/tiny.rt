@@ -70,6 +70,7 @@ fn see(
     let mut slots = [MARK; 5];
     let run = paths::run(
         path,
+        b"",
         demand,
         capacity,
         setup,
@@ -169,15 +170,19 @@ fn named(name: &[u8]) -> Capacities {
     Capacities::Any
 }
 
-// Made-up days with the capacities that the trial is named after: from the seed, and as many, as field 1 says.
+// Made-up days with the capacities that the trial is named after: from the seed of field 1, and as many as field 2 says.
 pub fn made_up(line: &[u8]) {
-    let mut numbers = [0u32; 2];
     let mut counts = [0u64; 16];
-    text::rates(text::field(line, 1), 1, &mut numbers);
-    days(named(text::name(line)), numbers[0], numbers[1], &mut counts);
+    days(
+        named(text::name(line)),
+        text::number_in(line, 1),
+        text::number_in(line, 2),
+        &mut counts,
+    );
     print::text(b"made-up ");
     print::text(text::name(line));
     print::text(text::field(line, 1));
+    print::text(text::field(line, 2));
     print::counts(counts);
     print::end();
 }

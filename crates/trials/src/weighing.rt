@@ -40,27 +40,38 @@ fn print_difference(d: i64) {
     print::number(b" difference ", magnitude(d));
 }
 
-// The plan of field 6.
-pub fn weigh(
-    line: &[u8],
+fn weigh(
+    plan: &[u16],
     demand: &[u16],
     capacity: &[u16],
     setup: &[u32],
     unit: &[u32],
     holding: &[u32],
 ) {
-    let mut plan = [0u16; 128];
-    let n = text::amounts(text::field(line, 6), &mut plan);
-    print::text(text::name(line));
-    match weigher::weigh(demand, capacity, setup, unit, holding, &plan[0..n]) {
+    match weigher::weigh(demand, capacity, setup, unit, holding, plan) {
         Weighed::Refused(r) => print::refusal(r),
         Weighed::Judged(v) => print_verdict(v),
     }
-    print::end();
 }
 
-// The plans of fields 6 and 7.
-pub fn compare(
+fn compare(
+    plan: &[u16],
+    other: &[u16],
+    demand: &[u16],
+    capacity: &[u16],
+    setup: &[u32],
+    unit: &[u32],
+    holding: &[u32],
+) {
+    match weigher::compare(demand, capacity, setup, unit, holding, plan, other) {
+        Compared::Refused(r) => print::refusal(r),
+        Compared::Broken(rule, period) => broken(rule, period),
+        Compared::Difference(d) => print_difference(d),
+    }
+}
+
+// The plan of field 6, alone or, where the kind is `compare`, beside that of field 7.
+pub fn plans(
     line: &[u8],
     demand: &[u16],
     capacity: &[u16],
@@ -73,18 +84,18 @@ pub fn compare(
     let n = text::amounts(text::field(line, 6), &mut plan);
     let m = text::amounts(text::field(line, 7), &mut other);
     print::text(text::name(line));
-    match weigher::compare(
-        demand,
-        capacity,
-        setup,
-        unit,
-        holding,
-        &plan[0..n],
-        &other[0..m],
-    ) {
-        Compared::Refused(r) => print::refusal(r),
-        Compared::Broken(rule, period) => broken(rule, period),
-        Compared::Difference(d) => print_difference(d),
+    if check::same(text::kind(line), b"weigh") {
+        weigh(&plan[0..n], demand, capacity, setup, unit, holding);
+    } else {
+        compare(
+            &plan[0..n],
+            &other[0..m],
+            demand,
+            capacity,
+            setup,
+            unit,
+            holding,
+        );
     }
     print::end();
 }

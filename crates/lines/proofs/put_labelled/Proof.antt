@@ -32,5 +32,6 @@ returns c =
 pub put-labelled-spec : {M : Type 1} → statement M
 put-labelled-spec =
     tie.close
-    (tie.spec (λ c κs. search needs) (λ c κs. search needs) (λ c. search needs) (λ c. search needs) put-requires-2
-    (λ c. search needs) returns)
+    (tie.spec
+    (λ c κs. search needs) (λ c κs. search needs) (λ c. search needs) (λ c. search needs) put-requires-2 (λ c. search needs)
+    returns)

@@ -1,4 +1,5 @@
 -- `lines::refusal_line` meets its contract: its texts stand one after another. Assumes nothing.
+use native.Mathlib.Omega.{arith}
 use borrow.Author.Needs.{needs}
 use Rattle.lines.specs.Text.{put-put}
 use Rattle.lines.proofs.refusal_line.Statement.{statement}
@@ -6,13 +7,22 @@ use Rattle.lines.proofs.refusal_line.Tie as tie
 
 returns : tie.Need-returns
 returns c =
-    let second = c .before .before .before in
-    let first = second .before .before .before .before in
-    let all = put-put (first .put-labelled .ensures .put) (put-put (second .put-labelled2 .ensures .put) (c .put .ensures)) in
-    rw (first .before .number .ensures, second .before .period .ensures) at all
+    let last = c .before .before in
+    let second = last .before .before .before .before .before in
+    let first = second .before .before .before .before .before .before in
+    let a = first .put-labelled .ensures in
+    let b = second .put-labelled2 .ensures in
+    let d = last .put .ensures in
+    let all = put-put (a .put) (put-put (b .put) d) in
+    record {
+      put = rw (first .before .number .ensures, second .before .period .ensures) at all;
+      few = omega (arith, a .few, b .few, d .end);
+    }
 
 pub refusal-line-spec : {M : Type 1} → statement M
 refusal-line-spec =
     tie.close
-    (tie.spec (λ c. search needs) (λ c κs. search needs) (λ c. search needs) (λ c κs. search needs) (λ c. search needs)
-    (λ c κs. search needs) (λ c. search needs) (λ c κs. search needs) (λ c. search needs) (λ c κs. search needs) returns)
+    (tie.spec
+    (λ c. search needs) (λ c κs. search needs) (λ c. search needs) (λ c κs. search needs) (λ c. search needs)
+    (λ c κs. search needs) (λ c. search needs) (λ c κs. search needs) (λ c. search needs) (λ c κs. search needs)
+    (λ c. search needs) returns)

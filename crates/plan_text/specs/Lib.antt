@@ -1,0 +1,3 @@
+-- The text that `dayplan` prints for a file.
+pub mod Text
+pub mod Laws
