@@ -1,20 +1,21 @@
 //! Document 01's tests on lent tables and memory, by its numbers: each alone, and in the order in which calls apply them.
 //! Every function answers what the conditions say that it cites from the crate day. What a caller learns from an answer is in specs/.
 ghost use mathlib.Core.Path.{_≡_};
-ghost use mathlib.Core.Bool.{_||_};
+ghost use mathlib.Core.Bool.{_||_, cond};
 ghost use mathlib.Core.List.{[], _∷_};
-ghost use Prim.Native.Nat.{_*_, _≤_};
-ghost use lib.Dec.{ltb};
+ghost use Prim.Native.Nat.{_+_, _-_, _*_, _≤_};
+ghost use lib.Dec.{leb, ltb};
 ghost use lib.ListN.{length};
 ghost use Rattle.day.specs.Sums.{Term, at, sumTo};
-ghost use Rattle.day.specs.Day.{dayOf, maxPeriods, maxDemand, maxCapacity, maxSetup, maxRate};
-ghost use Rattle.day.specs.Lent.{dayBefore};
-ghost use Rattle.day.specs.Refusals.{checked, first, badCount, badLengths, badValue, tableTests, dayTests, badAreas, badSlots};
+ghost use Rattle.day.specs.Day.{dayOf, tablesOf, needed, total, maxPeriods, maxDemand, maxCapacity, maxSetup, maxRate, maxSum};
+ghost use Rattle.day.specs.Lent.{dayBefore, tablesBefore};
+ghost use Rattle.day.specs.Refusals.{checked, first, badCount, badLengths, badValue, tableTests, totalTests, dayTests, badAreas, badSlots};
 ghost use Rattle.day.specs.Refusals.{shortage, unequal, binding};
 ghost use Rattle.day.specs.Outcome.{pathTests, refusal, sizes};
 ghost use Rattle.day.specs.Paths.{pathOf};
 ghost use Rattle.checks.specs.Passed.{Readable, NeededBy};
 use day::Check;
+use day::Ends;
 use day::PathKind;
 use day::Refusal;
 
@@ -41,7 +42,7 @@ pub fn count(n: usize) -> Check
 
 // 2: every table is as long as the demand table
 fn lengths(demand: &[u16], capacity: &[u16], setup: &[u32], unit: &[u32], holding: &[u32]) -> Check
-    ensures { λ r. ⌜ r ≡ checked (badLengths (dayBefore demand capacity setup unit holding)) ⌝ }
+    ensures { λ r. ⌜ r ≡ checked (badLengths (tablesBefore demand capacity setup unit holding)) ⌝ }
 {
     let n = demand.len();
     if capacity.len() != n || setup.len() != n || unit.len() != n || holding.len() != n {
@@ -65,8 +66,8 @@ pub fn values(
     unit: &[u32],
     holding: &[u32],
 ) -> Check
-    requires { ⌜ Readable (dayOf (now demand) (now capacity) (now setup) (now unit) (now holding)) ⌝ }
-    ensures { λ r. ⌜ r ≡ checked (badValue (dayBefore demand capacity setup unit holding)) ⌝ }
+    requires { ⌜ Readable (tablesOf (now demand) (now capacity) (now setup) (now unit) (now holding)) ⌝ }
+    ensures { λ r. ⌜ r ≡ checked (badValue (tablesBefore demand capacity setup unit holding)) ⌝ }
 {
     let mut i = 0;
     while i < demand.len() {
@@ -86,7 +87,7 @@ pub fn tables(
     unit: &[u32],
     holding: &[u32],
 ) -> Check
-    ensures { λ r. ⌜ r ≡ checked (first (tableTests (dayBefore demand capacity setup unit holding))) ⌝ }
+    ensures { λ r. ⌜ r ≡ checked (first (tableTests (tablesBefore demand capacity setup unit holding))) ⌝ }
 {
     if let Check::Refused(r) = count(demand.len()) {
         return Check::Refused(r);
@@ -98,7 +99,7 @@ pub fn tables(
 }
 
 // R over the day; the sum needs more than 16 bits
-pub fn total(demand: &[u16]) -> u64
+fn summed(demand: &[u16]) -> u64
     requires { ⌜ length (now demand) ≤ maxPeriods ⌝ }
     ensures { λ r. ⌜ Term (sumTo (at (now (demand .entry))) (length (now (demand .entry)))) (maxPeriods * maxCapacity) r ⌝ }
 {
@@ -111,17 +112,53 @@ pub fn total(demand: &[u16]) -> u64
     sum
 }
 
-// 1, 2, 3, 4, which open every call on a day
-pub fn day(demand: &[u16], capacity: &[u16], setup: &[u32], unit: &[u32], holding: &[u32]) -> Check
-    ensures { λ r. ⌜ r ≡ checked (first (dayTests (dayBefore demand capacity setup unit holding))) ⌝ }
+// R + Z
+fn required(demand: &[u16], ends: Ends) -> u64
+    requires { ⌜ length (now demand) ≤ maxPeriods ⌝ }
+    ensures { λ r. ⌜ Term (needed (dayOf (now (demand .entry)) [] [] [] [] ends)) maxSum r ⌝ }
+{
+    summed(demand) + (ends.closing as u64)
+}
+
+// T, what is made over the day
+pub fn total(demand: &[u16], ends: Ends) -> u64
+    requires { ⌜ length (now demand) ≤ maxPeriods ⌝ }
+    requires { ⌜ ends .opening ≤ needed (dayOf (now demand) [] [] [] [] ends) ⌝ }
+    ensures { λ r. ⌜ Term (total (dayOf (now (demand .entry)) [] [] [] [] ends)) maxSum r ⌝ }
+{
+    required(demand, ends) - (ends.opening as u64)
+}
+
+// 4, 14
+fn totals(demand: &[u16], ends: Ends) -> Check
+    requires { ⌜ length (now demand) ≤ maxPeriods ⌝ }
+    ensures { λ r. ⌜ r ≡ checked (first (totalTests (dayOf (now (demand .entry)) [] [] [] [] ends))) ⌝ }
+{
+    let required = required(demand, ends);
+    if MAX_TOTAL < required {
+        return Check::Refused(Refusal::TotalDemand);
+    }
+    if required < (ends.opening as u64) {
+        return Check::Refused(Refusal::SurplusCharge);
+    }
+    Check::Passed
+}
+
+// 1, 2, 3, 4, 14, which open every call on a day
+pub fn day(
+    demand: &[u16],
+    capacity: &[u16],
+    setup: &[u32],
+    unit: &[u32],
+    holding: &[u32],
+    ends: Ends,
+) -> Check
+    ensures { λ r. ⌜ r ≡ checked (first (dayTests (dayBefore demand capacity setup unit holding ends))) ⌝ }
 {
     if let Check::Refused(r) = tables(demand, capacity, setup, unit, holding) {
         return Check::Refused(r);
     }
-    if MAX_TOTAL < total(demand) {
-        return Check::Refused(Refusal::TotalDemand);
-    }
-    Check::Passed
+    totals(demand, ends)
 }
 
 // 5, 6: the cells and slots that are lent, and how many the call needs
@@ -144,20 +181,31 @@ fn memory(
     Check::Passed
 }
 
-// 7, for tables of one length: the first period with R above C
-fn shortage(demand: &[u16], capacity: &[u16]) -> Check
+// What is to be covered after i of n periods: the demand so far, and Z once the day is over.
+fn due(demanded: u64, closing: u16, i: usize, n: usize) -> u64
+    requires { ⌜ demanded ≤ maxSum ⌝ }
+    ensures { λ r. ⌜ r ≡ cond (leb n i) (demanded + closing) demanded ⌝ }
+{
+    if i < n {
+        return demanded;
+    }
+    demanded + (closing as u64)
+}
+
+// 7, for tables of one length: the first period with R − A above C, or the last with T above C
+fn shortage(demand: &[u16], capacity: &[u16], ends: Ends) -> Check
     requires { ⌜ length (now capacity) ≡ length (now demand) ⌝ }
     requires { ⌜ length (now demand) ≤ maxPeriods ⌝ }
-    ensures { λ r. ⌜ r ≡ checked (shortage (dayOf (now (demand .entry)) (now (capacity .entry)) [] [] [])) ⌝ }
+    ensures { λ r. ⌜ r ≡ checked (shortage (dayOf (now (demand .entry)) (now (capacity .entry)) [] [] [] ends)) ⌝ }
 {
     let mut demanded: u64 = 0;
-    let mut available: u64 = 0;
+    let mut available: u64 = ends.opening as u64;
     let mut i = 0;
     while i < demand.len() {
         demanded += demand[i] as u64;
         available += capacity[i] as u64;
         i += 1;
-        if available < demanded {
+        if available < due(demanded, ends.closing, i, demand.len()) {
             return Check::Refused(Refusal::Shortage(i as u16));
         }
     }
@@ -167,7 +215,7 @@ fn shortage(demand: &[u16], capacity: &[u16]) -> Check
 // 8, for tables of one length: every capacity is as the first
 fn equal(demand: &[u16], capacity: &[u16]) -> Check
     requires { ⌜ length (now capacity) ≡ length (now demand) ⌝ }
-    ensures { λ r. ⌜ r ≡ checked (unequal (dayOf (now (demand .entry)) (now (capacity .entry)) [] [] [])) ⌝ }
+    ensures { λ r. ⌜ r ≡ checked (unequal (tablesOf (now (demand .entry)) (now (capacity .entry)) [] [] [])) ⌝ }
 {
     let mut i = 0;
     while i < demand.len() {
@@ -179,33 +227,47 @@ fn equal(demand: &[u16], capacity: &[u16]) -> Check
     Check::Passed
 }
 
-// 9, for tables of one length: the first capacity below what remains, R over the day less R before its period
-fn binding(demand: &[u16], capacity: &[u16]) -> Check
+// a less b, where it is above 0
+fn beyond(a: u64, b: u64) -> u64
+    ensures { λ r. ⌜ r ≡ a - b ⌝ }
+{
+    if a < b {
+        return 0;
+    }
+    a - b
+}
+
+// 9, for tables of one length: the first capacity below what remains to be made, T less the larger of 0 and (R before its period − A)
+fn binding(demand: &[u16], capacity: &[u16], ends: Ends) -> Check
     requires { ⌜ length (now capacity) ≡ length (now demand) ⌝ }
     requires { ⌜ length (now demand) ≤ maxPeriods ⌝ }
-    ensures { λ r. ⌜ r ≡ checked (binding (dayOf (now (demand .entry)) (now (capacity .entry)) [] [] [])) ⌝ }
+    requires { ⌜ ends .opening ≤ needed (dayOf (now demand) [] [] [] [] ends) ⌝ }
+    ensures { λ r. ⌜ r ≡ checked (binding (dayOf (now (demand .entry)) (now (capacity .entry)) [] [] [] ends)) ⌝ }
 {
-    let mut remaining = total(demand);
+    let total = total(demand, ends);
+    let mut demanded: u64 = 0;
     let mut i = 0;
     while i < demand.len() {
+        let remaining = beyond(total, beyond(demanded, ends.opening as u64));
         if (capacity[i] as u64) < remaining {
             return Check::Refused(Refusal::BindingCapacity((i + 1) as u16));
         }
-        remaining -= demand[i] as u64;
+        demanded += demand[i] as u64;
         i += 1;
     }
     Check::Passed
 }
 
 // The tests that a path alone applies.
-fn own(kind: PathKind, demand: &[u16], capacity: &[u16]) -> Check
+fn own(kind: PathKind, demand: &[u16], capacity: &[u16], ends: Ends) -> Check
     requires { ⌜ length (now capacity) ≡ length (now demand) ⌝ }
     requires { ⌜ length (now demand) ≤ maxPeriods ⌝ }
-    ensures { λ r. ⌜ r ≡ checked (first (pathOf kind .own (dayOf (now (demand .entry)) (now (capacity .entry)) [] [] []))) ⌝ }
+    requires { ⌜ ends .opening ≤ needed (dayOf (now demand) [] [] [] [] ends) ⌝ }
+    ensures { λ r. ⌜ r ≡ checked (first (pathOf kind .own (dayOf (now (demand .entry)) (now (capacity .entry)) [] [] [] ends))) ⌝ }
 {
     match kind {
         PathKind::Full => Check::Passed,
-        PathKind::Uncapped => binding(demand, capacity),
+        PathKind::Uncapped => binding(demand, capacity, ends),
         PathKind::Equal => equal(demand, capacity),
     }
 }
@@ -217,7 +279,7 @@ pub struct Needed {
 }
 
 pub fn cells(kind: PathKind, n: usize, total: usize) -> Needed
-    requires { ⌜ (n ≤ maxPeriods) × (total ≤ maxPeriods * maxCapacity) ⌝ }
+    requires { ⌜ (n ≤ maxPeriods) × (total ≤ maxSum) ⌝ }
     ensures { λ r. ⌜ NeededBy (pathOf kind) n total r ⌝ }
 {
     match kind {
@@ -236,7 +298,7 @@ pub fn cells(kind: PathKind, n: usize, total: usize) -> Needed
     }
 }
 
-// 5, 6, 7, then the path's own, once 1 to 4 have passed
+// 5, 6, 7, then the path's own, once 1 to 4 and 14 have passed
 fn room(
     kind: PathKind,
     demand: &[u16],
@@ -244,27 +306,29 @@ fn room(
     costs: usize,
     choices: usize,
     slots: usize,
+    ends: Ends,
 ) -> Check
     requires { ⌜ length (now capacity) ≡ length (now demand) ⌝ }
     requires { ⌜ length (now demand) ≤ maxPeriods ⌝ }
+    requires { ⌜ ends .opening ≤ needed (dayOf (now demand) [] [] [] [] ends) ⌝ }
     ensures { λ r. ⌜
         r ≡ checked (first (pathTests (pathOf kind)
-        (dayOf (now (demand .entry)) (now (capacity .entry)) [] [] [])
+        (dayOf (now (demand .entry)) (now (capacity .entry)) [] [] [] ends)
         (sizes costs choices slots)))
         ⌝ }
 {
     let n = demand.len();
-    let needed = cells(kind, n, total(demand) as usize);
+    let needed = cells(kind, n, total(demand, ends) as usize);
     if let Check::Refused(r) = memory(costs, needed.costs, choices, needed.choices, slots, n) {
         return Check::Refused(r);
     }
-    if let Check::Refused(r) = shortage(demand, capacity) {
+    if let Check::Refused(r) = shortage(demand, capacity, ends) {
         return Check::Refused(r);
     }
-    own(kind, demand, capacity)
+    own(kind, demand, capacity, ends)
 }
 
-// A path's tests in order: 1 to 7, then its own
+// A path's tests in order: 1 to 4, 14, 5 to 7, then its own
 pub fn path(
     kind: PathKind,
     demand: &[u16],
@@ -275,11 +339,12 @@ pub fn path(
     costs: usize,
     choices: usize,
     slots: usize,
+    ends: Ends,
 ) -> Check
-    ensures { λ r. ⌜ r ≡ checked (refusal (pathOf kind) (dayBefore demand capacity setup unit holding) (sizes costs choices slots)) ⌝ }
+    ensures { λ r. ⌜ r ≡ checked (refusal (pathOf kind) (dayBefore demand capacity setup unit holding ends) (sizes costs choices slots)) ⌝ }
 {
-    if let Check::Refused(r) = day(demand, capacity, setup, unit, holding) {
+    if let Check::Refused(r) = day(demand, capacity, setup, unit, holding, ends) {
         return Check::Refused(r);
     }
-    room(kind, demand, capacity, costs, choices, slots)
+    room(kind, demand, capacity, costs, choices, slots, ends)
 }

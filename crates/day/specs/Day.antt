@@ -1,11 +1,14 @@
 -- A day: its five tables and its two ends, its limits, and the sums R, C and T (document 01, "The day and its plan"; document 02, 2.1;
 -- report, section 2).
 -- Assumes nothing.
+use mathlib.Core.Path.{_≡_, refl}
 use mathlib.Core.Bool.{cond}
 use mathlib.Core.List.{List}
-use Prim.Native.Nat.{ℕ, _+_, _-_}
+use Prim.Native.Nat.{ℕ, _+_, _-_, _*_, _<_}
 use lib.Dec.{leb}
 use lib.ListN.{length}
+use native.Mathlib.Omega.{arith}
+use borrow.Author.Tests.{lt-leb, le-leb}
 use Rattle.day.specs.declared.Ends.{Ends}
 use Rattle.day.specs.Sums.{at, sumTo}
 
@@ -66,8 +69,9 @@ maxRate = 1000000
 abbrev pub maxTotal : ℕ
 maxTotal = 4096
 
-abbrev pub maxEnd : ℕ
-maxEnd = 65535
+-- no sum of 96 numbers of 16 bits and one more is above this
+abbrev pub maxSum : ℕ
+maxSum = (maxPeriods + 1) * maxCapacity
 
 -- R_i and C_i
 abbrev pub demandTo : Day → ℕ → ℕ
@@ -87,3 +91,9 @@ total d = needed d - d .opening
 -- what must have been made after i periods: R_i − A, never below 0, and T once the day is over
 abbrev pub netTo : Day → ℕ → ℕ
 netTo d i = cond (leb (periods d) i) (total d) (demandTo d i - d .opening)
+
+pub net-before : (d : Day) (i : ℕ) → i < periods d → netTo d i ≡ demandTo d i - d .opening
+net-before d i l = rw (lt-leb _ _ l) refl
+
+pub net-end : (d : Day) → netTo d (periods d) ≡ total d
+net-end d = rw (le-leb (periods d) (periods d) (omega arith)) refl

@@ -1,16 +1,16 @@
--- `checks::cells` meets its contract: no product passes 96 × (96 × 65,535 + 1). Assumes nothing.
+-- `checks::cells` meets its contract: no product passes 96 × (97 × 65,535 + 1). Assumes nothing.
 use mathlib.Core.Path.{refl}
 use Prim.Native.Nat.{ℕ, _+_, _*_, _≤_}
 use native.Mathlib.Nat.{mul-le-mul}
 use native.Mathlib.Omega.{arith}
 use borrow.Author.Needs.{needs}
-use Rattle.day.specs.Day.{maxPeriods, maxCapacity}
+use Rattle.day.specs.Day.{maxPeriods, maxSum}
 use Rattle.checks.proofs.cells.Statement.{statement}
 use Rattle.checks.proofs.cells.Tie as tie
 
 -- the products, for at most 96 periods
-row-low : (n R : ℕ) → n ≤ maxPeriods → R ≤ maxPeriods * maxCapacity → n * (R + 1) ≤ maxPeriods * (maxPeriods * maxCapacity + 1)
-row-low n R few low = mul-le-mul {n₁ = n} {m₁ = R + 1} {n₂ = 96} {m₂ = maxPeriods * maxCapacity + 1} few (omega arith)
+row-low : (n T : ℕ) → n ≤ maxPeriods → T ≤ maxSum → n * (T + 1) ≤ maxPeriods * (maxSum + 1)
+row-low n T few low = mul-le-mul {n₁ = n} {m₁ = T + 1} {n₂ = 96} {m₂ = maxSum + 1} few (omega arith)
 
 square-low : (n : ℕ) → n ≤ maxPeriods → (n + 1) * (n + 1) ≤ 97 * 97
 square-low n few = mul-le-mul {n₁ = n + 1} {m₁ = n + 1} {n₂ = 97} {m₂ = 97} (omega arith) (omega arith)

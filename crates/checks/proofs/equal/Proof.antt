@@ -7,14 +7,14 @@ use native.Mathlib.Omega.{arith}
 use lib.ListN.{length}
 use borrow.Author.Tests.{eq-eqb, ne-eqb}
 use Rattle.day.specs.Sums.{at}
-use Rattle.day.specs.Day.{dayOf}
+use Rattle.day.specs.Day.{tablesOf}
 use Rattle.day.specs.Refusals.{differs}
 use Rattle.checks.proofs.Search.{Searched, searched-next, searched-all, found-here}
 use Rattle.checks.proofs.equal.Statement.{statement}
 use Rattle.checks.proofs.equal.Tie as tie
 
 abbrev Inv-loop : tie.InvT-loop
-Inv-loop demand capacity i₀ i = Searched (differs (dayOf demand capacity [] [] [])) (length demand) i
+Inv-loop demand capacity i₀ i = Searched (differs (tablesOf demand capacity [] [] [])) (length demand) i
 
 abbrev μ-loop : tie.MeasureT-loop
 μ-loop demand capacity i₀ i = length demand - i

@@ -9,7 +9,7 @@ use Rattle.checks.proofs.own.Tie as tie
 
 -- the two tables
 abbrev tables : tie.Start → Day
-tables c = dayOf (c .args .demand .now) (c .args .capacity .now) [] [] []
+tables c = dayOf (c .args .demand .now) (c .args .capacity .now) [] [] [] (c .args .ends)
 
 returns-2 : tie.Need-returns-2
 returns-2 c =

@@ -6,6 +6,7 @@ use Prim.Native.Nat.{ℕ}
 use borrow.Author.Needs.{needs}
 use Rattle.day.specs.declared.PathKind.{PathKind}
 use Rattle.day.specs.declared.PathKind.the-variants.{Full, Uncapped, Equal}
+use Rattle.day.specs.declared.Ends.{Ends}
 use Rattle.day.specs.Day.{Day, dayOf}
 use Rattle.day.specs.declared.Check.{Check}
 use Rattle.day.specs.Refusals.{checked, first, dayTests}
@@ -17,12 +18,12 @@ use Rattle.checks.proofs.path.Statement.{statement}
 use Rattle.checks.proofs.path.Tie as tie
 
 -- no path's tests look at costs
-two-tables : (kind : PathKind) (demand capacity setup unit holding : List ℕ) (s : Sizes) {answer : Check}
-    → answer ≡ checked (first (pathTests (pathOf kind) (dayOf demand capacity [] [] []) s))
-    → answer ≡ checked (first (pathTests (pathOf kind) (dayOf demand capacity setup unit holding) s))
-two-tables Full demand capacity setup unit holding s is = is
-two-tables Uncapped demand capacity setup unit holding s is = is
-two-tables Equal demand capacity setup unit holding s is = is
+two-tables : (kind : PathKind) (demand capacity setup unit holding : List ℕ) (ends : Ends) (s : Sizes) {answer : Check}
+    → answer ≡ checked (first (pathTests (pathOf kind) (dayOf demand capacity [] [] [] ends) s))
+    → answer ≡ checked (first (pathTests (pathOf kind) (dayOf demand capacity setup unit holding ends) s))
+two-tables Full demand capacity setup unit holding ends s is = is
+two-tables Uncapped demand capacity setup unit holding ends s is = is
+two-tables Equal demand capacity setup unit holding ends s is = is
 
 abbrev start : tie.After-day → tie.Start
 start c = c .before .before .before .before .before .before
@@ -30,12 +31,12 @@ start c = c .before .before .before .before .before .before
 abbrev given : tie.After-day → Day
 given c =
     let a = start c .args in
-    dayOf (a .demand .now) (a .capacity .now) (a .setup .now) (a .unit .now) (a .holding .now)
+    dayOf (a .demand .now) (a .capacity .now) (a .setup .now) (a .unit .now) (a .holding .now) (a .ends)
 
 abbrev lent : tie.After-day → Sizes
 lent c = let a = start c .args in sizes (a .costs) (a .choices) (a .slots)
 
--- 1 to 4 passed
+-- 1 to 4 and 14 passed
 tested : (c : tie.After-enum-told) → first (dayTests (given (c .before .before))) ≡ none
 tested c = passed (first (dayTests (given (c .before .before)))) (c .before .before .day .ensures) (c .enum-told .given .1)
 
@@ -46,15 +47,15 @@ returns c =
 
 room-requires : tie.Need-room-requires
 room-requires c κs =
-    let limits = day-passed (given (c .before .before)) (tested c) .limits in
-    (limits .lengths .capacity, limits .few)
+    let day = day-passed (given (c .before .before)) (tested c) in
+    (day .limits .lengths .capacity, (day .limits .few, day .used))
 
 returns-2 : tie.Need-returns-2
 returns-2 c =
     let p = c .before .before .before in
     let a = start p .args in
     let tests = pathTests (pathOf (a .kind)) (given p) (lent p) in
-    let is = two-tables (a .kind) (a .demand .now) (a .capacity .now) (a .setup .now) (a .unit .now) (a .holding .now) (lent p) (c .room .ensures) in
+    let is = two-tables (a .kind) (a .demand .now) (a .capacity .now) (a .setup .now) (a .unit .now) (a .holding .now) (a .ends) (lent p) (c .room .ensures) in
     group-decides (dayTests (given p)) tests (tested (c .before)) is
 
 pub path-spec : {M : Type 1} → statement M

@@ -17,14 +17,14 @@ use Rattle.checks.proofs.room.Statement.{statement}
 use Rattle.checks.proofs.room.Tie as tie
 
 -- the cells that were counted are those that the path needs
-memory-is : (P : Path) (d : Day) (s : Sizes) {R : ℕ} {needed : Needed} {answer : Check} → R ≡ total d → NeededBy P (periods d) R needed
+memory-is : (P : Path) (d : Day) (s : Sizes) {T : ℕ} {needed : Needed} {answer : Check} → T ≡ total d → NeededBy P (periods d) T needed
     → answer ≡ checked (first (badAreas (s .costs) (needed .costs) (s .choices) (needed .choices) ∷ badSlots (s .slots) (periods d) ∷ []))
     → answer ≡ checked (first (memoryTests P d s))
 memory-is P d s t n is = rw (← t, ← n .costs, ← n .choices) is
 
 -- the tables, from the entry, and the sizes lent
 abbrev tables : tie.Start → Day
-tables c = dayOf (c .args .demand .now) (c .args .capacity .now) [] [] []
+tables c = dayOf (c .args .demand .now) (c .args .capacity .now) [] [] [] (c .args .ends)
 
 abbrev lent : tie.Start → Sizes
 lent c = sizes (c .args .costs) (c .args .choices) (c .args .slots)

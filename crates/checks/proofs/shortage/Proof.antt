@@ -1,68 +1,98 @@
--- `checks::shortage` meets its contract. The loop's invariant: R and C of the periods passed, none of which is short.
+-- `checks::shortage` meets its contract. The loop's invariant: R and A + C of the periods passed, none of which is short.
 -- Assumes nothing.
-use mathlib.Core.Path.{_≡_, refl}
+use mathlib.Core.Path.{_≡_, refl, ap}
+use mathlib.Core.Bool.{cond}
 use mathlib.Core.List.{[]}
-use Prim.Native.Nat.{suc, _≤_, _*_, _-_}
+use Prim.Native.Nat.{ℕ, suc, _+_, _≤_, _<_, _*_, _-_}
+use native.Mathlib.Decide.{decLt}
 use native.Mathlib.Numerals.{add-one}
 use native.Mathlib.Omega.{arith}
+use lib.Dec.{leb}
 use lib.ListN.{length}
-use borrow.Author.Tests.{lt-ltb, le-ltb}
+use borrow.Author.Tests.{lt-ltb, le-ltb, lt-leb, le-leb}
 use Rattle.day.specs.declared.Refusal.the-variants.{Shortage}
-use Rattle.day.specs.Day.{Day, dayOf, demandTo, capacityTo, maxCapacity}
+use Rattle.day.specs.Day.{Day, dayOf, periods, demandTo, capacityTo, netTo, net-before, net-end, maxCapacity}
 use Rattle.day.specs.Refusals.{short}
 use Rattle.checks.proofs.Search.{Searched, searched-next, searched-all, refused-here}
 use Rattle.checks.proofs.shortage.Statement.{statement}
 use Rattle.checks.proofs.shortage.Tie as tie
 
+-- what must have been made is what is to be covered, less A
+net-due : (d : Day) (i : ℕ) {demanded due : ℕ} → i < periods d → demanded ≡ demandTo d (suc i)
+    → due ≡ cond (leb (periods d) (i + 1)) (demanded + d .closing) demanded
+    → netTo d (suc i) ≡ due - d .opening
+net-due d i {demanded} {due} l sum e = go (decLt (i + 1) (periods d))
+  where
+    go : Dec (i + 1 < periods d) → netTo d (suc i) ≡ due - d .opening
+    go (yes h) =
+        let is : due ≡ demanded = rw (lt-leb (periods d) (i + 1) h) at e in
+        omega (arith, net-before d (suc i) (omega arith))
+    go (no h) =
+        let is : due ≡ demanded + d .closing = rw (le-leb (periods d) (i + 1) (omega arith)) at e in
+        let last : suc i ≡ periods d = omega arith in
+        omega (arith, ap (netTo d) last, ap (demandTo d) last, net-end d)
+
 abbrev Inv-loop : tie.InvT-loop
-Inv-loop demand capacity demanded₀ available₀ i₀ demanded available i =
-    Searched (short (dayOf demand capacity [] [] [])) (length demand) i
-    × (demanded ≡ demandTo (dayOf demand capacity [] [] []) i)
+Inv-loop demand capacity ends demanded₀ available₀ i₀ demanded available i =
+    Searched (short (dayOf demand capacity [] [] [] ends)) (length demand) i
+    × (demanded ≡ demandTo (dayOf demand capacity [] [] [] ends) i)
     × (demanded ≤ maxCapacity * i)
-    × (available ≡ capacityTo (dayOf demand capacity [] [] []) i)
-    × (available ≤ maxCapacity * i)
+    × (available ≡ ends .opening + capacityTo (dayOf demand capacity [] [] [] ends) i)
+    × (available ≤ maxCapacity * (i + 1))
 
 abbrev μ-loop : tie.MeasureT-loop
-μ-loop demand capacity demanded₀ available₀ i₀ demanded available i = length demand - i
+μ-loop demand capacity ends demanded₀ available₀ i₀ demanded available i = length demand - i
 
--- the tables at the loop
-abbrev tables : tie.At-loop Inv-loop μ-loop → Day
-tables c = dayOf (c .before .args .demand .now) (c .before .args .capacity .now) [] [] []
+-- the day at the loop
+abbrev given : tie.At-loop Inv-loop μ-loop → Day
+given c =
+    let a = c .before .before .before .before .args in
+    dayOf (a .demand .now) (a .capacity .now) [] [] [] (a .ends)
+
+-- what is to be covered after the period, less A
+answered : (c : tie.After-due Inv-loop μ-loop)
+    → let p = c .before .before .before .before in netTo (given p) (suc (p .loop .i)) ≡ c .due .result - given p .opening
+answered c =
+    let p = c .before .before .before .before in
+    net-due (given p) (p .loop .i) (omega arith) (omega arith) (c .due .ensures)
 
 loop-holds : tie.Need-loop-holds Inv-loop μ-loop
-loop-holds c = (record { inside = omega arith; nothing = refl }, refl, omega arith, refl, omega arith)
+loop-holds c = (record { inside = omega arith; nothing = refl }, refl, omega arith, omega arith, omega arith)
 
 cast-demanded : tie.Need-cast-demanded Inv-loop μ-loop
-cast-demanded c = omega (arith, c .shared-slice-known .given (c .before .before .loop .i))
+cast-demanded c = omega (arith, c .shared-slice-known3 .given (c .before .before .loop .i))
 
 add-demanded : tie.Need-add-demanded Inv-loop μ-loop
-add-demanded c = omega (arith, c .shared-slice-known .given (c .before .before .loop .i))
+add-demanded c = omega (arith, c .shared-slice-known3 .given (c .before .before .loop .i))
 
-cast-available : tie.Need-cast-available Inv-loop μ-loop
-cast-available c = omega (arith, c .shared-slice-known2 .given (c .before .before .before .loop .i))
+cast-available : tie.Need-cast-available-2 Inv-loop μ-loop
+cast-available c = omega (arith, c .shared-slice-known4 .given (c .before .before .before .loop .i))
 
 add-available : tie.Need-add-available Inv-loop μ-loop
-add-available c = omega (arith, c .shared-slice-known2 .given (c .before .before .before .loop .i))
+add-available c = omega (arith, c .shared-slice-known4 .given (c .before .before .before .loop .i))
+
+due-requires : tie.Need-due-requires Inv-loop μ-loop
+due-requires c κs = omega (arith, c .before .shared-slice-known3 .given (c .before .before .before .loop .i))
 
 returns : tie.Need-returns Inv-loop μ-loop
 returns c =
-    let p = c .before .before .before .before in
+    let p = c .before .before .before .before .before in
     let i = p .loop .i in
-    let d = tables p in
-    let above = lt-ltb (capacityTo d (suc i)) (demandTo d (suc i)) (omega arith) in
+    let d = given p in
+    let above = lt-ltb (capacityTo d (suc i)) (netTo d (suc i)) (omega (arith, answered (c .before))) in
     refused-here (p .loop .inv .0) Shortage above (omega arith)
 
 loop-again : tie.Need-loop-again Inv-loop μ-loop
 loop-again c =
-    let p = c .before .before .before .before in
+    let p = c .before .before .before .before .before in
     let i = p .loop .i in
-    let d = tables p in
-    let covered = le-ltb (capacityTo d (suc i)) (demandTo d (suc i)) (omega arith) in (
+    let d = given p in
+    let covered = le-ltb (capacityTo d (suc i)) (netTo d (suc i)) (omega (arith, answered (c .before))) in (
       searched-next (p .loop .inv .0) covered (omega arith),
       rw add-one (omega arith),
-      omega (arith, c .before .before .shared-slice-known .given i),
+      omega (arith, c .before .before .before .shared-slice-known3 .given i),
       rw add-one (omega arith),
-      omega (arith, c .before .shared-slice-known2 .given i),
+      omega (arith, c .before .before .shared-slice-known4 .given i),
     )
 
 returns-2 : tie.Need-returns-2 Inv-loop μ-loop
@@ -72,6 +102,6 @@ pub shortage-spec : {M : Type 1} → statement M
 shortage-spec =
     tie.close
     (tie.spec
-    Inv-loop μ-loop loop-holds (λ c. omega arith) (λ c. omega arith) cast-demanded add-demanded (λ c. omega arith)
-    (λ c. omega arith) cast-available add-available (λ c. omega arith) (λ c. omega arith) returns (λ c. omega arith) loop-again
-    returns-2)
+    Inv-loop μ-loop (λ c. omega arith) loop-holds (λ c. omega arith) (λ c. omega arith) cast-demanded add-demanded (λ c. omega arith)
+    (λ c. omega arith) cast-available add-available (λ c. omega arith) due-requires (λ c. omega arith) returns (λ c. omega arith)
+    loop-again returns-2)

@@ -1,4 +1,4 @@
--- `checks::total` meets its contract. The loop's invariant: `sum` is the sum of the periods passed, at most 65,535 for each.
+-- `checks::summed` meets its contract. The loop's invariant: `sum` is the sum of the periods passed, at most 65,535 for each.
 -- Assumes nothing.
 use mathlib.Core.Path.{_≡_}
 use Prim.Native.Nat.{_≤_, _*_, _-_}
@@ -7,8 +7,8 @@ use native.Mathlib.Omega.{arith}
 use lib.ListN.{length}
 use Rattle.day.specs.Sums.{at, sumTo}
 use Rattle.day.specs.Day.{maxCapacity}
-use Rattle.checks.proofs.total.Statement.{statement}
-use Rattle.checks.proofs.total.Tie as tie
+use Rattle.checks.proofs.summed.Statement.{statement}
+use Rattle.checks.proofs.summed.Tie as tie
 
 abbrev Inv-loop : tie.InvT-loop
 Inv-loop demand sum₀ i₀ sum i = (i ≤ length demand) × (sum ≡ sumTo (at demand) i) × (sum ≤ maxCapacity * i)
@@ -30,8 +30,8 @@ returns c =
     let e : c .before .loop .i ≡ length (c .before .before .args .demand .now) = omega arith in
     record { is = rw e at (c .before .loop .inv .1); low = omega arith }
 
-pub total-spec : {M : Type 1} → statement M
-total-spec =
+pub summed-spec : {M : Type 1} → statement M
+summed-spec =
     tie.close
     (tie.spec
     Inv-loop μ-loop (λ c. omega arith) (λ c. omega arith) (λ c. omega arith) cast-sum add-sum (λ c. omega arith)
