@@ -1,8 +1,8 @@
 -- What demands 2 and 3 say of a day and its plan, beyond the contract of any one call.
--- Main statements: `feasible-iff`, `shortage-iff`, `shortage-names` (demand 2); `optimal-exists`, `plan-unique`, `plan-first` (demand 3).
+-- Main statements: `feasible-iff`, `shortage-iff`, `shortage-names` (demand 2); `optimal-exists`, `plan-unique` (demand 3).
 -- Assumes nothing.
 use mathlib.Core.Path.{_≡_, ap}
-use mathlib.Core.Logic.{_⊎_, _↔_}
+use mathlib.Core.Logic.{_↔_}
 use mathlib.Core.Option.{none, some}
 use Prim.Native.Nat.{ℕ, suc, _≤_, _<_}
 use native.Mathlib.Omega.{arith}
@@ -11,10 +11,9 @@ use Rattle.day.specs.declared.Refusal.{Refusal}
 use Rattle.day.specs.declared.Refusal.the-variants.{Shortage}
 use Rattle.day.specs.Find.{nothing-found}
 use Rattle.day.specs.Day.{Day, periods, demandTo, capacityTo, total}
-use Rattle.day.specs.Plan.{Feasible, Optimal, cost}
+use Rattle.day.specs.Plan.{Feasible, Optimal}
 use Rattle.day.specs.Refusals.{short, shortage, refuseAt}
 use Rattle.checks.specs.Passed.{FirstShort, shortage-passed, shortage-refused}
-use Rattle.theory.specs.Order.{LastSmaller, smaller-means}
 use Rattle.theory.specs.Recursion as Recursion
 use Rattle.theory.specs.Reachable.{interval, feasible-covered}
 use Rattle.theory.specs.Problem.{Problem, Supplied, modelOf, model-rising, covered-iff}
@@ -43,12 +42,6 @@ module _ (d : Day) where
   -- Demand 3: and it is one.
   pub plan-unique : (x y : ℕ → ℕ) → Optimal d x → Optimal d y → (k : ℕ) → k < periods d → x k ≡ y k
   plan-unique x y o q = Recursion.optimal-unique (modelOf p) (periods d) (total d) x y (optimal-iff d x .0 o) (optimal-iff d y .0 q)
-
-  -- Demand 3, in its words: every other plan that keeps the rules costs at least as much,
-  -- and one that costs the same has the larger amount in the last period where they differ.
-  pub plan-first : (x y : ℕ → ℕ) → Optimal d x → Feasible d y
-      → (cost d x ≤ cost d y) × (cost d x ≡ cost d y → ((k : ℕ) → k < periods d → x k ≡ y k) ⊎ LastSmaller (periods d) x y)
-  plan-first x y o f = let q = o .first y f in (q .cheap, λ e. smaller-means (periods d) x y (q .small e))
 
   -- Demand 2: refusal 7 is given exactly if no plan exists.
   pub shortage-iff : (shortage d ≡ none) ↔ ((x : ℕ → ℕ) × Feasible d x)
