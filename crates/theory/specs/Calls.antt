@@ -18,17 +18,18 @@ use Rattle.day.specs.Day.{Day, periods, netTo, net-before, net-end}
 use Rattle.day.specs.Plan.{Feasible, Run, PartLoaded, cost}
 use Rattle.day.specs.Refusals.{first, dayTests, shortage, unequal}
 use Rattle.day.specs.Tests.{gives-is, first-passed, first-one}
+use Rattle.day.specs.Figures.{first-value}
 use Rattle.day.specs.Outcome.{Memory, sizesOf, Path, Roomy, refusal, roomy-refusal, Runs}
 use Rattle.day.specs.Paths.{full, equal}
 use Rattle.checks.specs.Passed.{FirstShort, DayLimits, day-passes, equal-passed, admitted}
 use Rattle.theory.specs.Model.{Model, OptimalTo}
-use Rattle.theory.specs.Order.{LastSmaller}
+use Rattle.theory.specs.Order.{LastSmaller, smaller-means}
 use Rattle.theory.specs.Cut.{feasible-less}
 use Rattle.theory.specs.Exchange.{Regeneration, interval-one, last-run}
 use Rattle.theory.specs.Problem.{modelOf, model-rising, model-unlimited}
 use Rattle.theory.specs.Net.{problemOf, Fits, limits-fit, floor-is}
 use Rattle.theory.specs.Base.{same-plan}
-use Rattle.theory.specs.Demands.{plan-first, shortage-iff, shortage-names}
+use Rattle.theory.specs.Demands.{shortage-iff, shortage-names}
 
 -- the answer is a plan
 abbrev pub IsPlan : Answer → Type 0
@@ -50,16 +51,20 @@ module _ (P : Path) (d : Day) (m : Memory) (limits : DayLimits d) (room : Roomy 
   pub refused-first : (q : Refusal) (after : Memory) → Runs P d m (Refused q) after → FirstShort d q
   refused-first q after runs = shortage-names d q (sym only-shortage ∙ gives-is (runs .0))
 
--- Demand 3, in its words, with the answer's own cost: every other plan that keeps the rules costs at least as much,
+-- Demand 3, in its words, of amounts x and what they are said to cost: every other plan that keeps the rules costs at least as much,
 -- and one that costs the same has the larger amount in the last period where the two differ.
+abbrev pub CheapestFirst : Day → (ℕ → ℕ) → ℕ → Type 0
+CheapestFirst d x said =
+    (y : ℕ → ℕ) → Feasible d y
+    → (said ≤ cost d y) × (said ≡ cost d y → ((k : ℕ) → k < periods d → x k ≡ y k) ⊎ LastSmaller (periods d) x y)
+
+-- so it is with the answer's own cost
 pub cheapest-first : (P : Path) (d : Day) (m : Memory) (t : Totals) (after : Memory) → Runs P d m (Planned t) after
-    → (y : ℕ → ℕ) → Feasible d y
-    → (t .cost ≤ cost d y)
-    × (t .cost ≡ cost d y → ((k : ℕ) → k < periods d → at (after .slots) k ≡ y k) ⊎ LastSmaller (periods d) (at (after .slots)) y)
+    → CheapestFirst d (at (after .slots)) (t .cost)
 cheapest-first P d m t after runs y f =
-    let first = plan-first d (at (after .slots)) y (runs .1 .plan) f in
-    let e = runs .1 .counts .cost in
-    (omega (arith, first .0), λ same. first .1 (sym e ∙ same))
+    let q = runs .1 .plan .first y f in
+    let e = first-value (runs .1 .counts) in
+    (omega (arith, q .cheap), λ same. smaller-means (periods d) (at (after .slots)) y (q .small (sym e ∙ same)))
 
 -- the full path, which has no test of its own
 module _ (d : Day) (m : Memory) (limits : DayLimits d) (room : Roomy full d (sizesOf m)) where
@@ -70,9 +75,7 @@ module _ (d : Day) (m : Memory) (limits : DayLimits d) (room : Roomy full d (siz
   full-refused-first = refused-first full d m limits room refl
 
 pub full-cheapest-first : (d : Day) (m : Memory) (t : Totals) (after : Memory) → Runs full d m (Planned t) after
-    → (y : ℕ → ℕ) → Feasible d y
-    → (t .cost ≤ cost d y)
-    × (t .cost ≡ cost d y → ((k : ℕ) → k < periods d → at (after .slots) k ≡ y k) ⊎ LastSmaller (periods d) (at (after .slots)) y)
+    → CheapestFirst d (at (after .slots)) (t .cost)
 full-cheapest-first = cheapest-first full
 
 -- In a run of the equal path's plan at most one period is part-loaded; the others make 0 or c.

@@ -1,8 +1,8 @@
 -- What demands 2 and 3 say of a day and its plan, beyond the contract of any one call.
--- Main statements: `feasible-iff`, `shortage-iff`, `shortage-names` (demand 2); `optimal-exists`, `plan-unique`, `plan-first` (demand 3).
+-- Main statements: `feasible-iff`, `shortage-iff`, `shortage-names` (demand 2); `optimal-exists`, `plan-unique` (demand 3).
 -- Assumes nothing.
 use mathlib.Core.Path.{_≡_, sym, ap, subst}
-use mathlib.Core.Logic.{_⊎_, _↔_}
+use mathlib.Core.Logic.{_↔_}
 use mathlib.Core.Option.{none, some}
 use Prim.Native.Nat.{ℕ, suc, _≤_, _<_}
 use native.Mathlib.Omega.{arith}
@@ -14,7 +14,7 @@ use Rattle.day.specs.Day.{Day, periods, capacityTo, total, netTo, net-end}
 use Rattle.day.specs.Plan.{Feasible, Optimal, cost}
 use Rattle.day.specs.Refusals.{short, shortage, refuseAt}
 use Rattle.checks.specs.Passed.{FirstShort, shortage-passed, shortage-refused}
-use Rattle.theory.specs.Order.{LastSmaller, smaller-means, precedes-anti}
+use Rattle.theory.specs.Order.{precedes-anti}
 use Rattle.theory.specs.Recursion as Recursion
 use Rattle.theory.specs.Reachable.{Covered, interval, feasible-covered}
 use Rattle.theory.specs.Problem.{Problem, modelOf, model-rising, covered-iff}
@@ -24,12 +24,6 @@ use Rattle.theory.specs.Base.{feasible-model, model-feasible, same-plan}
 -- Demand 3: the plan is one.
 pub plan-unique : (d : Day) (x y : ℕ → ℕ) → Optimal d x → Optimal d y → (k : ℕ) → k < periods d → x k ≡ y k
 plan-unique d x y o q = precedes-anti (cost d) (periods d) x y (o .first y (q .feasible)) (q .first x (o .feasible))
-
--- Demand 3, in its words: every other plan that keeps the rules costs at least as much,
--- and one that costs the same has the larger amount in the last period where they differ.
-pub plan-first : (d : Day) (x y : ℕ → ℕ) → Optimal d x → Feasible d y
-    → (cost d x ≤ cost d y) × (cost d x ≡ cost d y → ((k : ℕ) → k < periods d → x k ≡ y k) ⊎ LastSmaller (periods d) x y)
-plan-first d x y o f = let q = o .first y f in (q .cheap, λ e. smaller-means (periods d) x y (q .small e))
 
 -- Of a day that tests 1 and 14 let pass.
 module _ (d : Day) (fits : Fits d) where
