@@ -99,7 +99,7 @@ pub fn tables(
 }
 
 // R over the day; the sum needs more than 16 bits
-fn summed(demand: &[u16]) -> u64
+pub fn summed(demand: &[u16]) -> u64
     requires { ⌜ length (now demand) ≤ maxPeriods ⌝ }
     ensures { λ r. ⌜ Term (sumTo (at (now (demand .entry))) (length (now (demand .entry)))) (maxPeriods * maxCapacity) r ⌝ }
 {
