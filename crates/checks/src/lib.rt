@@ -99,7 +99,7 @@ pub fn tables(
 }
 
 // R over the day; the sum needs more than 16 bits
-fn summed(demand: &[u16]) -> u64
+pub fn summed(demand: &[u16]) -> u64
     requires { ⌜ length (now demand) ≤ maxPeriods ⌝ }
     ensures { λ r. ⌜ Term (sumTo (at (now (demand .entry))) (length (now (demand .entry)))) (maxPeriods * maxCapacity) r ⌝ }
 {
@@ -181,7 +181,7 @@ fn memory(
     Check::Passed
 }
 
-// What is to be covered after i of n periods: the demand so far, and Z once the day is over.
+// What must have been there after i of n periods: the demand so far, and Z with it once the day is over.
 fn due(demanded: u64, closing: u16, i: usize, n: usize) -> u64
     requires { ⌜ demanded ≤ maxSum ⌝ }
     ensures { λ r. ⌜ r ≡ cond (leb n i) (demanded + closing) demanded ⌝ }
@@ -192,6 +192,24 @@ fn due(demanded: u64, closing: u16, i: usize, n: usize) -> u64
     demanded + (closing as u64)
 }
 
+// a less b, where it is above 0
+fn beyond(a: u64, b: u64) -> u64
+    ensures { λ r. ⌜ r ≡ a - b ⌝ }
+{
+    if a < b {
+        return 0;
+    }
+    a - b
+}
+
+// What must have been made after i of n periods.
+pub fn net_to(demanded: u64, i: usize, n: usize, ends: Ends) -> u64
+    requires { ⌜ demanded ≤ maxSum ⌝ }
+    ensures { λ r. ⌜ r ≡ cond (leb n i) (demanded + ends .closing) demanded - ends .opening ⌝ }
+{
+    beyond(due(demanded, ends.closing, i, n), ends.opening as u64)
+}
+
 // 7, for tables of one length: the first period with R − A above C, or the last with T above C
 fn shortage(demand: &[u16], capacity: &[u16], ends: Ends) -> Check
     requires { ⌜ length (now capacity) ≡ length (now demand) ⌝ }
@@ -199,13 +217,13 @@ fn shortage(demand: &[u16], capacity: &[u16], ends: Ends) -> Check
     ensures { λ r. ⌜ r ≡ checked (shortage (dayOf (now (demand .entry)) (now (capacity .entry)) [] [] [] ends)) ⌝ }
 {
     let mut demanded: u64 = 0;
-    let mut available: u64 = ends.opening as u64;
+    let mut available: u64 = 0;
     let mut i = 0;
     while i < demand.len() {
         demanded += demand[i] as u64;
         available += capacity[i] as u64;
         i += 1;
-        if available < due(demanded, ends.closing, i, demand.len()) {
+        if available < net_to(demanded, i, demand.len(), ends) {
             return Check::Refused(Refusal::Shortage(i as u16));
         }
     }
@@ -225,16 +243,6 @@ fn equal(demand: &[u16], capacity: &[u16]) -> Check
         i += 1;
     }
     Check::Passed
-}
-
-// a less b, where it is above 0
-fn beyond(a: u64, b: u64) -> u64
-    ensures { λ r. ⌜ r ≡ a - b ⌝ }
-{
-    if a < b {
-        return 0;
-    }
-    a - b
 }
 
 // 9, for tables of one length: the first capacity below what remains to be made, T less the larger of 0 and (R before its period − A)

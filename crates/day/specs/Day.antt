@@ -88,9 +88,13 @@ needed d = demandTo d (periods d) + d .closing
 abbrev pub total : Day → ℕ
 total d = needed d - d .opening
 
+-- what must have been there after i periods: R_i, and Z with it once the day is over
+abbrev pub dueTo : Day → ℕ → ℕ
+dueTo d i = cond (leb (periods d) i) (demandTo d i + d .closing) (demandTo d i)
+
 -- what must have been made after i periods: R_i − A, never below 0, and T once the day is over
 abbrev pub netTo : Day → ℕ → ℕ
-netTo d i = cond (leb (periods d) i) (total d) (demandTo d i - d .opening)
+netTo d i = dueTo d i - d .opening
 
 pub net-before : (d : Day) (i : ℕ) → i < periods d → netTo d i ≡ demandTo d i - d .opening
 net-before d i l = rw (lt-leb _ _ l) refl
