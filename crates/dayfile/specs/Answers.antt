@@ -1,4 +1,4 @@
--- What the calls on day files answer, and what they leave in lent memory; document 01's order of their tests.
+-- What the calls on day files answer, and what they leave in lent memory; the documents' order of their tests.
 -- Main definitions: `Lookup`, `Reading` and `Writing`, the contracts of the calls; `lookupFigures`, `readFigures`, `writeFigures`. Assumes nothing.
 use mathlib.Core.Path.{_≡_}
 use mathlib.Core.Option.{Option, none, some}

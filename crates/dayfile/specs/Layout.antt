@@ -3,7 +3,7 @@
 --     period-at                       the records that `periodsIn` counts are whole periods
 --     walked-none, -more, -end        a walk over the period records, record by record
 --     day-in-front, with-day          the tables that a reading filled begin with the file's day
---     laid-out; counted, walk-clean   the walk meets no fault exactly if the file is laid out as document 01 says
+--     laid-out; counted, walk-clean   the walk meets no fault exactly if the file is laid out as `Layout` says
 -- Assumes nothing.
 use mathlib.Core.Path.{_≡_, refl, ap, _∙_}
 use mathlib.Core.Bool.{Bool, true, false, not, _&&_, cond}
@@ -114,7 +114,7 @@ pub walked-end : (s : List ℕ) (n p : ℕ) → Walked s n p → isPeriod s p �
 walked-end s n p w f =
     rw (find-here (stops s) n (suc (length s)) (w .passed) (rw (← w .here, f) refl) (omega (arith, w .far, w .inside))) refl
 
--- a file whose walk meets no fault is laid out as document 01 says
+-- a file whose walk meets no fault is laid out as the documents say
 pub laid-out : (s : List ℕ) → walk s ≡ none → Layout s (periodsIn s)
 laid-out s e =
     let n = periodsIn s in

@@ -1,4 +1,5 @@
--- What the passed tests of these calls tell a caller. Main statements: `each-passed`, `file-passed`, `lookup-passed`, `read-given`, `write-passed`. Assumes nothing.
+-- What the passed tests of these calls, and what they gave, tell a caller.
+-- Main statements: `each-passed`, `file-passed`, `lookup-passed`, `read-given`, `write-passed`. Assumes nothing.
 use mathlib.Core.Path.{_≡_, refl}
 use mathlib.Core.List.{List, [], _∷_, _++_}
 use mathlib.Core.Option.{Option, none, some, Option·some-ne-none}

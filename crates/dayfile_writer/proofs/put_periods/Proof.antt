@@ -60,7 +60,9 @@ loop-again c =
     let r = p .before .before .before in
     let l = r .before .before in
     let w = l .loop .inv in
-    let stored = sets-then (recordsOf (day l) (l .loop .k)) _ _ (start l .args .first) (l .loop .at) (omega (arith, w .1, records-length (day l) (l .loop .k))) in
+    let done = recordsOf (day l) (l .loop .k) in
+    let first = start l .args .first in
+    let stored = sets-then done _ _ first (l .loop .at) (omega (arith, w .1, records-length (day l) (l .loop .k))) in
     (omega arith, omega arith, rw add-one (p .copy .ensures ∙ rw (r .record-of .ensures, w .2) stored), p .copy .kept .1 .0 ∙ w .3)
 
 returns : tie.Need-returns Inv-loop μ-loop
