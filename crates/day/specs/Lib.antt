@@ -9,11 +9,11 @@ pub mod Plan
 pub mod Refusals
 pub mod Tests
 pub mod File
+-- Answers in figures.
+pub mod Figures
 -- What a path needs, answers, and leaves in lent memory; the paths.
 pub mod Outcome
 pub mod Paths
--- Answers in figures.
-pub mod Figures
 -- Lent tables and memory at both moments of a call, as contracts speak of them.
 pub mod Lent
 -- The marked days: a plain search over all plans, the table, its theorem.

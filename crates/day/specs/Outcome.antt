@@ -14,6 +14,7 @@ use Rattle.day.specs.Sums.{at}
 use Rattle.day.specs.Day.{Day, periods, total}
 use Rattle.day.specs.Plan.{Optimal, cost, setups}
 use Rattle.day.specs.Refusals.{Gives, first, dayTests, badAreas, badSlots, shortage}
+use Rattle.day.specs.Figures.{acceptedWith, answerFigures}
 
 -- what a caller lends: cost area, choice area, answer slots
 pub record Memory : Type 0 where
@@ -71,10 +72,9 @@ dayRefusal d = first (dayTests d ++ (shortage d ∷ []))
 pub roomy-refusal : (P : Path) (d : Day) (s : Sizes) → Roomy P d s → first (P .own d) ≡ none → refusal P d s ≡ dayRefusal d
 roomy-refusal P d s room kind = rw (kind, le-ltb _ _ (room .costs), le-ltb _ _ (room .choices), le-ltb _ _ (room .slots)) refl
 
--- a plan's cost and setups
-pub record Counts (d : Day) (x : ℕ → ℕ) (t : Totals) : Type 0 where
-  pub cost : t .cost ≡ cost d x
-  pub setups : t .setups ≡ setups (periods d) x
+-- what is given is the plan's cost and setups, by the answer's figures
+abbrev pub Counts : Day → (ℕ → ℕ) → Totals → Type 0
+Counts d x t = answerFigures (Planned t) ≡ acceptedWith (cost d x ∷ setups (periods d) x ∷ [])
 
 -- the first k cells hold zero, and the later ones what they held
 abbrev pub Cleared : ℕ → List ℕ → List ℕ → Type 0

@@ -1,5 +1,5 @@
 -- What the calls on day files answer, and what they leave in lent memory; document 01's order of their tests.
--- Main definitions: `Lookup`, `Reading` and `Writing`, the contracts of the calls; `readFigures`, `writeFigures`. Assumes nothing.
+-- Main definitions: `Lookup`, `Reading` and `Writing`, the contracts of the calls; `lookupFigures`, `readFigures`, `writeFigures`. Assumes nothing.
 use mathlib.Core.Path.{_≡_}
 use mathlib.Core.Option.{Option, none, some}
 use mathlib.Core.List.{List, [], _∷_, _++_}
@@ -46,6 +46,14 @@ Part (some refusal) file i r = now r ≡ []
 
 abbrev pub Lookup : RefT (List ℕ) → ℕ → RefT (List ℕ) → Type 0
 Lookup file i r = Part (badLookup (now file) i) file i r
+
+-- a lookup in figures: where the part begins in the file, counted from 0, and how long it is
+abbrev pub partFigures : Option Refusal → List ℕ → ℕ → Figures ℕ
+partFigures none s i = acceptedWith ((recordAt s (i - 1) + 1) ∷ 16 ∷ [])
+partFigures (some r) s i = refusedWith r
+
+abbrev pub lookupFigures : List ℕ → ℕ → Figures ℕ
+lookupFigures s i = partFigures (badLookup s i) s i
 
 -- a reading: the file's tests, then 6, 3
 abbrev pub badRead : List ℕ → ℕ → Option Refusal
@@ -98,7 +106,8 @@ readFigures (Periods n) = acceptedWith (n ∷ [])
 -- refused, by number and period, no cell changes; accepted, the count of periods is given and their numbers fill the tables' first cells
 abbrev pub Reading : List ℕ → Day → ReadAnswer → Day → Type 0
 Reading s before (Refused r) after = Gives (badRead s (shortest before)) r × (after ≡ before)
-Reading s before (Periods n) after = (badRead s (shortest before) ≡ none) × (n ≡ periodsIn s) × (after ≡ withDay s before)
+Reading s before (Periods n) after =
+    (badRead s (shortest before) ≡ none) × (readFigures (Periods n) ≡ acceptedWith (periodsIn s ∷ [])) × (after ≡ withDay s before)
 
 -- a writing: 1, 2, 3, and 6 where the slice is shorter than the file
 abbrev pub badWrite : Day → ℕ → Option Refusal
@@ -116,4 +125,5 @@ writeFigures (Write.Bytes n) = acceptedWith (n ∷ [])
 -- refused, by number and period, no byte changes; accepted, the file is written and its length given
 abbrev pub Writing : Day → List ℕ → WriteAnswer → List ℕ → Type 0
 Writing d before (Write.Refused r) after = Gives (badWrite d (length before)) r × (after ≡ before)
-Writing d before (Write.Bytes n) after = (badWrite d (length before) ≡ none) × (n ≡ length (fileOf d)) × (after ≡ withFile d before)
+Writing d before (Write.Bytes n) after =
+    (badWrite d (length before) ≡ none) × (writeFigures (Write.Bytes n) ≡ acceptedWith (length (fileOf d) ∷ [])) × (after ≡ withFile d before)

@@ -1,5 +1,6 @@
 -- What demand 2 asks of the lookup, from its contract (`Answers`) and the layout (the crate day's `File`):
 --     lookup-hands-out        the part that a lookup hands out is where the layout has that period
+--     place-holds             where its figures point the record's body stands
 --     file-size               a file of n periods has 17 × n + 3 bytes
 -- Assumes nothing.
 use mathlib.Core.Path.{_≡_, refl}
@@ -8,10 +9,10 @@ use mathlib.Core.Option.{none}
 use Prim.Native.Nat.{ℕ, zero, suc, _+_, _-_, _*_, _≤_, _<_}
 use native.Mathlib.Omega.{arith}
 use denote.Ref.{RefT, now}
-use lib.ListN.{length, drop}
+use lib.ListN.{length, take, drop}
 use lib.Seq.{getD-take, getD-drop}
 use Rattle.day.specs.Sums.{at}
-use Rattle.day.specs.File.{bodyLength, recordAt, Layout, periodsIn}
+use Rattle.day.specs.File.{body, bodyLength, recordAt, Layout, periodsIn}
 use Rattle.dayfile.specs.Answers.{BodyAt, badLookup, Lookup}
 use Rattle.dayfile.specs.Passed.{lookup-passed}
 use Rattle.dayfile.specs.Layout.{period-at, period-body, counted}
@@ -44,6 +45,9 @@ lookup-hands-out file i r e w = go (rw e at w) (lookup-passed (now file) i e)
           block = b .block;
           offset = rw p at (b .offset);
         }
+
+pub place-holds : (s : List ℕ) (i : ℕ) → badLookup s i ≡ none → take 16 (drop (recordAt s (i - 1) + 1) s) ≡ body s (recordAt s (i - 1))
+place-holds s i e = rw (period-at s (i - 1) (omega (arith, lookup-passed s i e)) .kind) refl
 
 pub file-size : (s : List ℕ) (n : ℕ) → Layout s n → length s ≡ 17 * n + 3
 file-size s n w =

@@ -7,6 +7,7 @@ use lib.Seq.{drop-at}
 use Rattle.day.specs.Sums.{at, listOf, at-listOf, length-listOf}
 use Rattle.day.specs.Day.{Day}
 use Rattle.day.specs.File.{body, recordAt, number2, number4, Layout, periodsIn, field}
+use Rattle.day.specs.Figures.{first-value}
 use Rattle.dayfile.specs.declared.ReadAnswer.the-variants.{Periods}
 use Rattle.dayfile.specs.Answers.{withFirst, Reading}
 use Rattle.dayfile.specs.Layout.{laid-out}
@@ -40,7 +41,7 @@ table-read s n number offset before l =
 pub reader-gives : (s : List ℕ) (n : ℕ) (before after : Day) → Reading s before (Periods n) after → Read s n before after
 reader-gives s n before after w =
     let c = read-passed s before (w .0) in
-    rw (w .1, w .2)
+    rw (first-value (w .1), w .2)
     (record {
       layout = laid-out s (c .walked);
       demand = table-read s (periodsIn s) number2 0 (before .demand) (c .cells .demand);

@@ -15,6 +15,7 @@ use Rattle.day.specs.Day.{Day, periods}
 use Rattle.day.specs.declared.Refusal.{Refusal}
 use Rattle.day.specs.Refusals.{Gives, badCount, badValue, badSlots, tableTests}
 use Rattle.day.specs.Tests.{first-split, first-passed}
+use Rattle.day.specs.Figures.{first-value}
 use Rattle.day.specs.File.{number2, periodsIn, field, dayIn, fileOf}
 use Rattle.checks.specs.Passed.{Limits, tables-passed, lengths-pass, tables-pass}
 use Rattle.dayfile.specs.declared.ReadAnswer.{ReadAnswer}
@@ -44,7 +45,7 @@ pub record FileWritten (file before : List ℕ) (answer : WriteAnswer) (after : 
 accepts : (d : Day) (before after : List ℕ) (answer : WriteAnswer) → badWrite d (length before) ≡ none → Writing d before answer after
     → FileWritten (fileOf d) before answer after
 accepts d before after (writer.Refused r) e w = absurd (not-given e (w .0))
-accepts d before after (writer.Bytes n) e w = record { count = ap writer.Bytes (w .1); bytes = w .2 }
+accepts d before after (writer.Bytes n) e w = record { count = ap writer.Bytes (first-value (w .1)); bytes = w .2 }
 
 pub room-suffices : (d : Day) (before after : List ℕ) (answer : WriteAnswer) → Limits d → length (fileOf d) ≤ length before
     → Writing d before answer after
@@ -59,7 +60,7 @@ pub read-is-written : (s : List ℕ) (n : ℕ) (before after : Day) (out out′ 
     → FileWritten s out answer out′
 read-is-written s n before after out out′ answer h r w room =
     let each = each-passed (fileTests s ++ (badSlots (shortest before) (periodsIn s) ∷ badValue (dayIn s) ∷ [])) (r .0) in
-    let day = day-in-front s n before after (r .1) (r .2) in
+    let day = day-in-front s n before after (first-value (r .1)) (r .2) in
     let made = sym (only-file s h (laid-out s (each .0))) in
     let counts : badCount (periods (dayIn s)) ≡ none = ap badCount (length-listOf (field number2 0 s) (periodsIn s)) ∙ each .1 .0 in
     let fits : badSlots (length out) (length (fileOf (dayIn s))) ≡ none = rw (made, le-ltb (length out) (length s) room) refl in
@@ -84,7 +85,7 @@ pub written-is-read : (d : Day) (n : ℕ) (out out′ : List ℕ) (before after 
     → Writing d out (writer.Bytes n) out′ → Reading (take n out′) before answer after → periods d ≤ shortest before
     → DayRead d before answer after
 written-is-read d n out out′ before after answer w r room =
-    let file : take n out′ ≡ fileOf d = rw (w .2) (take-at (fileOf d) (drop (length (fileOf d)) out) n (sym (w .1))) in
+    let file : take n out′ ≡ fileOf d = rw (w .2) (take-at (fileOf d) (drop (length (fileOf d)) out) n (sym (first-value (w .1)))) in
     let last = badSlots (length out) (length (fileOf d)) in
     let limits = tables-passed d (first-split (tableTests d) (last ∷ []) (w .0) .0) in
     go answer
@@ -96,6 +97,6 @@ written-is-read d n out out′ before after answer w r room =
         → DayRead d before answer after
     go (reader.Refused x) ok back q = absurd (not-given ok (q .0))
     go (reader.Periods k) ok back q = record {
-      count = ap reader.Periods (q .1 ∙ counted (fileOf d) (periods d) (file-layout d));
+      count = ap reader.Periods (first-value (q .1) ∙ counted (fileOf d) (periods d) (file-layout d));
       tables = q .2 ∙ (with-day (fileOf d) before ∙ ap (λ (e : Day). withTables e before) back);
     }

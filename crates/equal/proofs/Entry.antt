@@ -109,7 +109,7 @@ module _ (d : Day) (m : Memory) (ok : Admitted equal d (sizesOf m)) (r : Needed)
     work-accepted t costs choices costs′ choices′ e f clear clear′ is =
         record {
           plan = slots-optimal;
-          counts = rw is (record { cost = refl; setups = refl });
+          counts = rw is refl;
           size = back-length n (m .slots) slots size;
           rest = back-rest n (m .slots) slots size (ok .room .slots);
           costs = rw (needed .costs) at (back-cleared (r .costs) (m .costs) costs e costs-inside costs′ clear);

@@ -5,6 +5,7 @@ use Prim.Native.Nat.{ℕ, _≤_}
 use native.Mathlib.Omega.{arith}
 use lib.ListN.{length}
 use Rattle.day.specs.Day.{Day}
+use Rattle.day.specs.Figures.{first-value}
 use Rattle.dayfile.specs.declared.WriteAnswer.{WriteAnswer}
 use Rattle.dayfile.specs.declared.WriteAnswer.the-variants.{Bytes}
 use Rattle.dayfile.specs.Answers.{Writing}
@@ -14,4 +15,4 @@ pub written-fits : (d : Day) (before after : List ℕ) (answer : WriteAnswer) (n
     → n ≤ length before
 written-fits d before after answer n e w =
     let q = subst (λ (a : WriteAnswer). Writing d before a after) e w in
-    omega (arith, write-passed d (length before) (q .0), q .1)
+    omega (arith, write-passed d (length before) (q .0), first-value (q .1))

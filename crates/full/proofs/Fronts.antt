@@ -113,7 +113,7 @@ module _ {d : Day} {m : Memory} (ok : refusal full d (sizesOf m) ≡ none) where
     work-accepted t n e a b =
         record {
           plan = optimal-iff d (at (after .slots)) .1 (left .plan);
-          counts = rw e (record { cost = refl; setups = refl });
+          counts = rw e refl;
           size = size;
           rest = left .slots;
           costs = rw (n .costs, t) at (rw (left .costs) at a);

@@ -11,6 +11,7 @@ use Rattle.day.specs.Sums.{at, sum-grows}
 use Rattle.day.specs.Search.{feasible-alike, cost-alike}
 use Rattle.day.specs.Day.{Day, periods, total}
 use Rattle.day.specs.Plan.{Feasible, Smaller, Precedes, Optimal, cost}
+use Rattle.day.specs.Figures.{first-value}
 use Rattle.day.specs.Outcome.{Counts}
 use Rattle.weigher.specs.declared.Verdict.the-variants.{Holds}
 use Rattle.weigher.specs.Verdict.{verdictOf, totalsOf}
@@ -150,7 +151,7 @@ module _ (d : Day) (tiny : TinyDay d) where
           let size = plans-are n (tiny .some) (tiny .few) in
           let same = cost-alike d y (at (planOf j)) (alike y f) in
           let p = l .first j (counted y f) (totalsOf d (at (planOf j))) (held y f) in
-          let c = kept .1 .cost in
+          let c = first-value (kept .1) in
           record {
             cheap = omega (arith, p .0);
             small = λ e k h after.

@@ -17,6 +17,7 @@ use Rattle.day.specs.Sums.{at}
 use Rattle.day.specs.Day.{Day, dayOf, periods, maxPeriods}
 use Rattle.day.specs.Tests.{gives-is, first-one}
 use Rattle.day.specs.File.{dayIn}
+use Rattle.day.specs.Figures.{first-value, second-value}
 use Rattle.day.specs.Outcome.{Memory, memoryOf, Sizes, sizesOf, refusal, Runs}
 use Rattle.day.specs.Paths.{full}
 use Rattle.checks.specs.Passed.{admitted}
@@ -91,7 +92,7 @@ planned-text d after answer t e r p =
     (record {
       text = planText d x;
       says = record { amounts = x; plan = q .1 .plan; is = refl };
-      put = rw (q .1 .counts .cost, q .1 .counts .setups, lines-of-demand d x (periods d)) at p;
+      put = rw (first-value (q .1 .counts), second-value (q .1 .counts), lines-of-demand d x (periods d)) at p;
     })
 
 pub refused-day : (d : Day) (after : Memory) (answer : Answer) (refused : Refusal) {text later : List ℕ} {r : ℕ}
@@ -115,7 +116,7 @@ pub read-few : (s : List ℕ) (after : Day) (answer : ReadAnswer) (n : ℕ) → 
     → n ≤ maxPeriods
 read-few s after answer n e r =
     let q = subst (λ (a : ReadAnswer). Reading s blankDay a after) e r in
-    omega (arith, read-passed s blankDay (q .0) .few, q .1)
+    omega (arith, read-passed s blankDay (q .0) .few, first-value (q .1))
 
 -- its text is that of its day; a part from 0 to n has n - 0 cells
 pub read-text : (s : List ℕ) (after : Day) (answer : ReadAnswer) (n : ℕ) {text later : List ℕ} {r : ℕ} → answer ≡ Read.Periods n
@@ -126,7 +127,7 @@ read-text s after answer n {text} {later} {r} e run p =
     let q = subst (λ (a : ReadAnswer). Reading s blankDay a after) e run in
     let passed : badRead s 96 ≡ none = subst (λ (k : ℕ). badRead s k ≡ none) blank-shortest (q .0) in
     let cells : n - 0 ≡ n = omega arith in
-    let front : firstOf (n - 0) after ≡ dayIn s = rw cells (day-in-front s n blankDay after (q .1) (q .2)) in
+    let front : firstOf (n - 0) after ≡ dayIn s = rw cells (day-in-front s n blankDay after (first-value (q .1)) (q .2)) in
     rw (passed, first-one (refusal full (dayIn s) lent)) (subst (λ (d : Day). PrintedDay d text later r) front p)
 
 -- the line of the reader's refusal

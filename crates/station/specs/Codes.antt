@@ -1,23 +1,18 @@
 -- What a C program sees of a call's answer: one code, and the call's out-array (include/yakkurem.h).
--- Main definitions: `codeOf`; `seenOf`, what is seen of an answer's figures; `Shows`. Main statements: `code-splits` takes a code apart; `place-holds`:
--- where a lookup points the record's body stands. Assumes nothing.
-use mathlib.Core.Path.{_≡_, refl, _∙_}
-use mathlib.Core.List.{List, [], _∷_}
+-- Main definitions: `codeOf`; `seenOf`, what is seen of an answer's figures; `Shows`. Main statement: `code-splits` takes a code apart.
+-- Assumes nothing.
+use mathlib.Core.Path.{_≡_, _∙_}
+use mathlib.Core.List.{List}
 use mathlib.Core.Option.{Option, none, some}
-use Prim.Native.Nat.{ℕ, _+_, _-_, _*_, _/_, _%_, _<_}
+use Prim.Native.Nat.{ℕ, _+_, _*_, _/_, _%_, _<_}
 use native.Mathlib.Nat.{add-mul-mod-self-left, mod-eq-of-lt, add-mul-div-left, div-eq-of-lt, zero-add}
 use native.Mathlib.Omega.{arith}
-use lib.ListN.{take, drop}
 use denote.Ref.{RefT, now}
 use denote.Triple.Both.{Both}
-use Rattle.day.specs.declared.Refusal.{Refusal}
-use Rattle.day.specs.File.{body, recordAt}
-use Rattle.day.specs.Figures.{Figures, acceptedWith, refusedWith, answerFigures}
+use Rattle.day.specs.Figures.{Figures, answerFigures}
 use Rattle.day.specs.Outcome.{Path, Runs}
 use Rattle.day.specs.Lent.{Lent, dayBefore, dayAfter, memoryBefore, memoryAfter}
-use Rattle.dayfile.specs.Answers.{badLookup, Reading, Writing, readFigures, writeFigures}
-use Rattle.dayfile.specs.Passed.{lookup-passed}
-use Rattle.dayfile.specs.Layout.{period-at}
+use Rattle.dayfile.specs.Answers.{Reading, Writing, lookupFigures, readFigures, writeFigures}
 
 -- the code of a number and a period; 0 is the code of an accepted call, which has neither
 abbrev pub codeOf : (number period : ℕ) → ℕ
@@ -46,20 +41,9 @@ outOf before (some values) = values
 abbrev pub seenOf : {A : Type 0} → List A → Figures A → Seen A
 seenOf before f = seen (codeOf (f .number) (f .period)) (outOf before (f .values))
 
--- a lookup: where the body of period i's record begins in the file, counted from 0, and how long it is
-abbrev pub placeOf : List ℕ → ℕ → List ℕ
-placeOf s i = (recordAt s (i - 1) + 1) ∷ 16 ∷ []
-
-pub place-holds : (s : List ℕ) (i : ℕ) → badLookup s i ≡ none → take 16 (drop (recordAt s (i - 1) + 1) s) ≡ body s (recordAt s (i - 1))
-place-holds s i e = rw (period-at s (i - 1) (omega (arith, lookup-passed s i e)) .kind) refl
-
-abbrev pub seenLookup : List ℕ → Option Refusal → List ℕ → Seen ℕ
-seenLookup before none place = seenOf before (acceptedWith place)
-seenLookup before (some r) place = seenOf before (refusedWith r)
-
 abbrev pub LookupShows : (file : Lent) → ℕ → (part : Lent) → ℕ → Type 0
 LookupShows file i part r =
-    let s = now (file .entry) in seen r (now (part .exit)) ≡ seenLookup (now (part .entry)) (badLookup s i) (placeOf s i)
+    seen r (now (part .exit)) ≡ seenOf (now (part .entry)) (lookupFigures (now (file .entry)) i)
 
 -- some answer that the call may give, and what is seen of it: code r, and the out-array as the call finds and leaves it
 pub record Shows {A B : Type 0} (Given : A → Type 0) (figures : A → Figures B) (out : Both (RefT (List B)) (RefT (List B))) (r : ℕ) : Type 0 where

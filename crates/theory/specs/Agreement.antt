@@ -12,6 +12,7 @@ use Rattle.day.specs.Day.{Day, periods}
 use Rattle.day.specs.Plan.{setupAt}
 use Rattle.day.specs.Refusals.{first, unequal, binding}
 use Rattle.day.specs.Tests.{gives-is}
+use Rattle.day.specs.Figures.{first-value, second-value}
 use Rattle.day.specs.Outcome.{Memory, sizesOf, Path, Roomy, refusal, dayRefusal, roomy-refusal, Counts, Runs}
 use Rattle.day.specs.Paths.{full, uncapped, equal}
 use Rattle.day.specs.Search.{cost-alike}
@@ -28,8 +29,8 @@ Agree d (Planned t) m (Planned u) m′ = ((k : ℕ) → k < periods d → at (m 
 same-totals : (d : Day) (x y : ℕ → ℕ) (t u : Totals) → ((k : ℕ) → k < periods d → x k ≡ y k) → Counts d x t → Counts d y u → t ≡ u
 same-totals d x y t u same c e =
     ap₂ (λ (a b : ℕ). record { cost = a; setups = b })
-    (c .cost ∙ cost-alike d x y same ∙ sym (e .cost))
-    (c .setups ∙ sum-ext (λ k. setupAt (x k)) (λ k. setupAt (y k)) (periods d) (λ k l. ap setupAt (same k l)) ∙ sym (e .setups))
+    (first-value c ∙ cost-alike d x y same ∙ sym (first-value e))
+    (second-value c ∙ sum-ext (λ k. setupAt (x k)) (λ k. setupAt (y k)) (periods d) (λ k l. ap setupAt (same k l)) ∙ sym (second-value e))
 
 -- the refusal that an answer gives
 abbrev given : Answer → Option Refusal

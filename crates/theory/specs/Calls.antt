@@ -17,6 +17,7 @@ use Rattle.day.specs.Day.{Day, periods, total}
 use Rattle.day.specs.Plan.{Feasible, Run, PartLoaded, cost}
 use Rattle.day.specs.Refusals.{first, dayTests, shortage, unequal}
 use Rattle.day.specs.Tests.{gives-is, first-passed, first-one}
+use Rattle.day.specs.Figures.{first-value}
 use Rattle.day.specs.Outcome.{Memory, sizesOf, Path, Roomy, refusal, roomy-refusal, Runs}
 use Rattle.day.specs.Paths.{full, equal}
 use Rattle.checks.specs.Passed.{FirstShort, DayLimits, day-passes, equal-passed, admitted}
@@ -56,7 +57,7 @@ pub cheapest-first : (P : Path) (d : Day) (m : Memory) (t : Totals) (after : Mem
     × (t .cost ≡ cost d y → ((k : ℕ) → k < periods d → at (after .slots) k ≡ y k) ⊎ LastSmaller (periods d) (at (after .slots)) y)
 cheapest-first P d m t after runs y f =
     let first = plan-first d (at (after .slots)) y (runs .1 .plan) f in
-    let e = runs .1 .counts .cost in
+    let e = first-value (runs .1 .counts) in
     (omega (arith, first .0), λ same. first .1 (sym e ∙ same))
 
 -- the full path, which has no test of its own

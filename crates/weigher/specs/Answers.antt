@@ -1,6 +1,6 @@
 -- What the weigher's two calls answer (document 01, "The weigher"), and the number of each rule.
 -- Main definitions: `Weighs`, `Compares`, the contracts of the calls; `weighedFigures`, `comparedFigures`; `ruleNumber`.
--- Main statements: `weighs-is`, `compares`. Assumes nothing.
+-- Main statements: `weighs-is`, `compares-is`, `compares`. Assumes nothing.
 use mathlib.Core.Path.{_≡_, refl, sym, ap, ap₂, subst, _∙_}
 use mathlib.Core.List.{List, [], _∷_, _++_}
 use mathlib.Core.Option.{Option, none, some}
@@ -87,19 +87,26 @@ Compares d plan other =
     (first (weighRefusal d plan ∷ weighRefusal d other ∷ []))
     (betweenOf (verdictOf d (at plan)) (verdictOf d (at other)))
 
+-- the number fixes a rule
+abbrev ruleWith : ℕ → Rule
+ruleWith number = getD (AboveCapacity ∷ Short ∷ []) (number - 101) Over
+
+rule-back : (r : Rule) → ruleWith (ruleNumber r) ≡ r
+rule-back AboveCapacity = refl
+rule-back Short = refl
+rule-back Over = refl
+
 -- the figures fix a verdict
 abbrev withFigures : Figures ℕ → Option (List ℕ) → Verdict
 withFigures f (some l) = Holds (record { cost = getD l 0 0; setups = getD l 1 0 })
-withFigures f none = Broken (getD (AboveCapacity ∷ Short ∷ []) (f .number - 101) Over) (f .period)
+withFigures f none = Broken (ruleWith (f .number)) (f .period)
 
 abbrev verdictWith : Figures ℕ → Verdict
 verdictWith f = withFigures f (f .values)
 
 verdict-back : (v : Verdict) → verdictWith (verdictFigures v) ≡ v
 verdict-back (Holds t) = refl
-verdict-back (Broken AboveCapacity i) = refl
-verdict-back (Broken Short i) = refl
-verdict-back (Broken Over i) = refl
+verdict-back (Broken r i) = ap (λ (q : Rule). Broken q i) (rule-back r)
 
 -- so there is one answer that keeps the weigher's promise
 pub weighs-is : (d : Day) (plan : List ℕ) (w : Weighed) → Weighs d plan w → w ≡ weighedOf d plan
@@ -108,7 +115,45 @@ weighs-is d plan (Judged v) e =
     let same : v ≡ verdictOf d (at plan) = sym (verdict-back v) ∙ (ap verdictWith (e .1) ∙ verdict-back (verdictOf d (at plan))) in
     rw (e .0) (ap Judged same)
 
--- and what two such answers compare to keeps that of the comparison
+-- they fix what two verdicts compare to
+abbrev betweenFigures : Figures ℤ → Option (List ℤ) → Compared
+betweenFigures f (some l) = compared.Difference (getD l 0 (pos 0))
+betweenFigures f none = compared.Broken (ruleWith (f .number)) (f .period)
+
+abbrev betweenWith : Figures ℤ → Compared
+betweenWith f = betweenFigures f (f .values)
+
+broken-back : (r : Rule) (i : ℕ) → betweenWith (comparedFigures (compared.Broken r i)) ≡ compared.Broken r i
+broken-back r i = ap (λ (q : Rule). compared.Broken q i) (rule-back r)
+
+between-back : (v w : Verdict) → betweenWith (comparedFigures (betweenOf v w)) ≡ betweenOf v w
+between-back (Broken r i) w = broken-back r i
+between-back (Holds t) (Broken r i) = broken-back r i
+between-back (Holds t) (Holds u) = refl
+
+-- so there is one answer that keeps the comparison's promise
+abbrev refusedOr : Option Refusal → Compared → Compared
+refusedOr (some r) c = compared.Refused r
+refusedOr none c = c
+
+compares-one : (o : Option Refusal) (v w : Verdict) (c : Compared) → ComparesAs o (betweenOf v w) c → c ≡ refusedOr o (betweenOf v w)
+compares-one o v w (compared.Refused r) g = rw (gives-is g) refl
+compares-one o v w (compared.Broken r i) e = rw (e .0) (sym (broken-back r i) ∙ (ap betweenWith (e .1) ∙ between-back v w))
+compares-one o v w (compared.Difference x) e = rw (e .0) (ap betweenWith (e .1) ∙ between-back v w)
+
+compare-refused : (o p : Option Refusal) (v w : Verdict) → refusedOr (first (o ∷ p ∷ [])) (betweenOf v w) ≡ compareOf (orRefused o v) (orRefused p w)
+compare-refused (some r) p v w = refl
+compare-refused none (some r) v w = refl
+compare-refused none none v w = refl
+
+pub compares-is : (d : Day) (plan other : List ℕ) (c : Compared) → Compares d plan other c → c ≡ compareOf (weighedOf d plan) (weighedOf d other)
+compares-is d plan other c e =
+    let v = verdictOf d (at plan) in
+    let w = verdictOf d (at other) in
+    compares-one (first (weighRefusal d plan ∷ weighRefusal d other ∷ [])) v w c e
+    ∙ compare-refused (weighRefusal d plan) (weighRefusal d other) v w
+
+-- what two answers of the weigher compare to keeps it
 compares-as : (o p : Option Refusal) (v w : Verdict) → ComparesAs (first (o ∷ p ∷ [])) (betweenOf v w) (compareOf (orRefused o v) (orRefused p w))
 compares-as (some r) p v w = is-gives refl
 compares-as none (some r) v w = is-gives refl

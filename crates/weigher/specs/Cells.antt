@@ -1,6 +1,6 @@
 -- A plan's cells past the day's last period are not read (document 01, refusal 6).
 -- Main statement: `cells-past-unread`. Assumes nothing.
-use mathlib.Core.Path.{_≡_, sym, ap, _∙_}
+use mathlib.Core.Path.{_≡_, sym, ap, ap₂, _∙_}
 use mathlib.Core.List.{List, [], _∷_, _++_}
 use Prim.Native.Nat.{ℕ, zero, suc, _≤_, _<_}
 use native.Mathlib.Omega.{arith}
@@ -13,6 +13,7 @@ use Rattle.day.specs.Day.{Day, periods}
 use Rattle.day.specs.Plan.{setupAt}
 use Rattle.day.specs.Search.{feasible-alike, cost-alike}
 use Rattle.day.specs.Refusals.{refuse, first, dayTests}
+use Rattle.day.specs.Figures.{acceptedWith}
 use Rattle.weigher.specs.declared.Rule.{Rule}
 use Rattle.weigher.specs.declared.Rule.the-variants.{AboveCapacity, Short, Over}
 use Rattle.weigher.specs.declared.Verdict.{Verdict}
@@ -43,7 +44,7 @@ module _ (d : Day) (x y : ℕ → ℕ) (same : (k : ℕ) → k < periods d → x
       go : (v : Verdict) → Says d x v → Says d y v
       go (Holds t) (f, c) = (
         feasible-alike d x y same f,
-        record { cost = c .cost ∙ cost-alike d x y same; setups = c .setups ∙ sum-ext _ _ (periods d) (λ k l. ap setupAt (same k l)) },
+        c ∙ ap₂ (λ (a b : ℕ). acceptedWith (a ∷ b ∷ [])) (cost-alike d x y same) (sum-ext _ _ (periods d) (λ k l. ap setupAt (same k l))),
       )
       go (Broken r zero) s = s
       go (Broken r (suc k)) s =

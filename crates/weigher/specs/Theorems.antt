@@ -14,6 +14,7 @@ use Rattle.day.specs.Find.{Found, find, find-here, none-found, nothing-found, s
 use Rattle.day.specs.Day.{Day, periods, demandTo}
 use Rattle.day.specs.Plan.{Feasible}
 use Rattle.day.specs.Refusals.{first}
+use Rattle.day.specs.Figures.{first-value, second-value}
 use Rattle.day.specs.Outcome.{Counts}
 use Rattle.weigher.specs.declared.Rule.{Rule}
 use Rattle.weigher.specs.declared.Rule.the-variants.{AboveCapacity, Short, Over}
@@ -120,12 +121,12 @@ module _ (d : Day) (x : ℕ → ℕ) where
       broke k f (broken r b t q) = record { inside = f .inside; broken = rw q b; before = λ j l. passed-keeps j (f .first j l) }
 
       go : (o : Option ℕ) → find (breaks d x) (periods d) ≡ o → Says d x (verdictAt d x o)
-      go none e = (all-feasible (λ k l. passed-keeps k (none-found (breaks d x) (periods d) e k l)), record { cost = refl; setups = refl })
+      go none e = (all-feasible (λ k l. passed-keeps k (none-found (breaks d x) (periods d) e k l)), refl)
       go (some k) e = broke k (some-found (breaks d x) (periods d) k e) (tested d x k)
 
   -- and no other is
   pub verdict-only : (v : Verdict) → Says d x v → v ≡ verdictOf d x
-  verdict-only (Holds t) s = rw (none-broken (periods d) (feasible-keeps (s .0)), ← s .1 .cost, ← s .1 .setups) refl
+  verdict-only (Holds t) s = rw (none-broken (periods d) (feasible-keeps (s .0)), ← first-value (s .1), ← second-value (s .1)) refl
   verdict-only (Broken r zero) s = absurd s
   verdict-only (Broken r (suc k)) s =
       let b = breaks-rule r k (s .broken) in
@@ -136,4 +137,4 @@ module _ (d : Day) (x : ℕ → ℕ) where
   holds-feasible t e = rw e at verdict-right
 
   pub feasible-holds : Feasible d x → verdictOf d x ≡ Holds (totalsOf d x)
-  feasible-holds f = sym (verdict-only (Holds (totalsOf d x)) (f, record { cost = refl; setups = refl }))
+  feasible-holds f = sym (verdict-only (Holds (totalsOf d x)) (f, refl))

@@ -57,7 +57,7 @@ returns-2 : tie.Need-returns-2
 returns-2 c =
     let f = at-fill (at-setup c) in
     let t = at-tests (f .before) in
-    (admitted t, t .before .before .before .before .periods .ensures, f .fill .ensures)
+    (admitted t, rw (t .before .before .before .before .periods .ensures) refl, f .fill .ensures)
 
 pub read-spec : {M : Type 1} → statement M
 read-spec =

@@ -1,5 +1,5 @@
 -- `dayfile_writer::write` meets its contract: the tables' refusal, or that of the room after it; else the file. Assumes nothing.
-use mathlib.Core.Path.{_≡_, refl, sym}
+use mathlib.Core.Path.{_≡_, refl}
 use mathlib.Core.List.{List, [], _∷_}
 use mathlib.Core.Option.{Option, none}
 use native.Mathlib.Omega.{arith}
@@ -63,7 +63,7 @@ returns-3 c =
     let p = t .before .before .before in
     let ok : badWrite (day p) (length (now (start p .args .out))) ≡ none =
     rw (first-passed (tableTests (day p)) (room p) (admitted (t .before)), file-length (day p), le-ltb _ _ (t .if1 .left)) refl in
-    (ok, sym (file-length (day p)), f .put-file .ensures)
+    (ok, rw (file-length (day p)) refl, f .put-file .ensures)
 
 pub write-spec : {M : Type 1} → statement M
 write-spec =

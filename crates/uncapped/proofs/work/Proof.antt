@@ -1,8 +1,7 @@
 -- `uncapped::work` meets its contract: the tests leave what each step asks, and the steps what an accepted call leaves. Assumes nothing.
-use mathlib.Core.Path.{ap}
+use mathlib.Core.Path.{refl}
 use native.Mathlib.Omega.{arith}
 use borrow.Author.Needs.{needs}
-use Rattle.day.specs.declared.Totals.{Totals}
 use Rattle.day.specs.Day.{Day, dayOf}
 use Rattle.day.specs.Outcome.{Memory, memoryOf}
 use Rattle.uncapped.proofs.Entry.{loops-bounded, slots-optimal, work-accepted}
@@ -74,7 +73,7 @@ returns c =
     let s = begun f in
     let e = c .totals .ensures in
     work-accepted (given s) (lent s) (s .pre) _ _ _ (f .fill .ensures) (q .read-back .ensures) _ _ _
-    (record { cost = ap (λ (t : Totals). t .cost) e; setups = ap (λ (t : Totals). t .setups) e })
+    (rw e refl)
     (y .clear-costs .ensures) (z .clear-choices .ensures)
 
 pub work-spec : {M : Type 1} → statement M
