@@ -2,9 +2,9 @@
 -- report, section 2).
 -- Assumes nothing.
 use mathlib.Core.Path.{_≡_, refl}
-use mathlib.Core.Bool.{cond}
+use mathlib.Core.Bool.{Bool, true, false, cond}
 use mathlib.Core.List.{List}
-use Prim.Native.Nat.{ℕ, _+_, _-_, _*_, _<_}
+use Prim.Native.Nat.{ℕ, _+_, _-_, _*_, _≤_, _<_}
 use lib.Dec.{leb}
 use lib.ListN.{length}
 use native.Mathlib.Omega.{arith}
@@ -83,6 +83,14 @@ capacityTo d i = sumTo (at (d .capacity)) i
 -- R + Z: what the day delivers and hands on
 abbrev pub needed : Day → ℕ
 needed d = demandTo d (periods d) + d .closing
+
+-- what is to be covered by the end of a period: the demand so far, and Z with it after the last
+abbrev pub dueOf : (last : Bool) (demanded closing : ℕ) → ℕ
+dueOf last demanded closing = cond last (demanded + closing) demanded
+
+pub due-least : (last : Bool) (demanded closing : ℕ) → demanded ≤ dueOf last demanded closing
+due-least true demanded closing = omega arith
+due-least false demanded closing = omega arith
 
 -- T = R + Z − A: what is made over the day
 abbrev pub total : Day → ℕ

@@ -1,17 +1,16 @@
 -- `checks::shortage` meets its contract. The loop's invariant: R and A + C of the periods passed, none of which is short.
 -- Assumes nothing.
 use mathlib.Core.Path.{_≡_, refl, ap}
-use mathlib.Core.Bool.{cond}
+use mathlib.Core.Bool.{Bool, true, false}
 use mathlib.Core.List.{[]}
 use Prim.Native.Nat.{ℕ, suc, _+_, _≤_, _<_, _*_, _-_}
-use native.Mathlib.Decide.{decLt}
 use native.Mathlib.Numerals.{add-one}
 use native.Mathlib.Omega.{arith}
-use lib.Dec.{leb}
+use lib.Dec.{eqb}
 use lib.ListN.{length}
-use borrow.Author.Tests.{lt-ltb, le-ltb, lt-leb, le-leb}
+use borrow.Author.Tests.{lt-ltb, le-ltb, eqb-true, eqb-false}
 use Rattle.day.specs.declared.Refusal.the-variants.{Shortage}
-use Rattle.day.specs.Day.{Day, dayOf, periods, demandTo, capacityTo, netTo, net-before, net-end, maxCapacity}
+use Rattle.day.specs.Day.{Day, dayOf, periods, dueOf, demandTo, capacityTo, netTo, net-before, net-end, maxCapacity}
 use Rattle.day.specs.Refusals.{short}
 use Rattle.checks.proofs.Search.{Searched, searched-next, searched-all, refused-here}
 use Rattle.checks.proofs.shortage.Statement.{statement}
@@ -19,18 +18,15 @@ use Rattle.checks.proofs.shortage.Tie as tie
 
 -- what must have been made is what is to be covered, less A
 net-due : (d : Day) (i : ℕ) {demanded due : ℕ} → i < periods d → demanded ≡ demandTo d (suc i)
-    → due ≡ cond (leb (periods d) (i + 1)) (demanded + d .closing) demanded
+    → due ≡ dueOf (eqb (i + 1) (periods d)) demanded (d .closing)
     → netTo d (suc i) ≡ due - d .opening
-net-due d i {demanded} {due} l sum e = go (decLt (i + 1) (periods d))
+net-due d i {demanded} {due} l sum e = go (eqb (i + 1) (periods d)) refl e
   where
-    go : Dec (i + 1 < periods d) → netTo d (suc i) ≡ due - d .opening
-    go (yes h) =
-        let is : due ≡ demanded = rw (lt-leb (periods d) (i + 1) h) at e in
-        omega (arith, net-before d (suc i) (omega arith))
-    go (no h) =
-        let is : due ≡ demanded + d .closing = rw (le-leb (periods d) (i + 1) (omega arith)) at e in
-        let last : suc i ≡ periods d = omega arith in
+    go : (b : Bool) → eqb (i + 1) (periods d) ≡ b → due ≡ dueOf b demanded (d .closing) → netTo d (suc i) ≡ due - d .opening
+    go true q e =
+        let last : suc i ≡ periods d = omega (arith, eqb-true (i + 1) (periods d) q) in
         omega (arith, ap (netTo d) last, ap (demandTo d) last, net-end d)
+    go false q e = omega (arith, net-before d (suc i) (omega (arith, eqb-false (i + 1) (periods d) q)))
 
 abbrev Inv-loop : tie.InvT-loop
 Inv-loop demand capacity ends demanded₀ available₀ i₀ demanded available i =
