@@ -45,6 +45,10 @@ noEnds = endsWith 0 0
 abbrev pub tablesOf : (demand capacity setup unit holding : List ℕ) → Day
 tablesOf demand capacity setup unit holding = dayOf demand capacity setup unit holding noEnds
 
+-- the ends of a day
+abbrev pub endsOf : Day → Ends
+endsOf d = endsWith (d .opening) (d .closing)
+
 -- n
 abbrev pub periods : Day → ℕ
 periods d = length (d .demand)

@@ -15,7 +15,7 @@ use Rattle.day.specs.declared.Answer.{Answer}
 use Rattle.day.specs.declared.Answer.the-variants.{Refused, Planned}
 use Rattle.day.specs.Sums.{at}
 use Rattle.day.specs.declared.Ends.{Ends}
-use Rattle.day.specs.Day.{Day, dayOf, tablesOf, periods, maxPeriods}
+use Rattle.day.specs.Day.{Day, dayOf, tablesOf, endsOf, periods, maxPeriods}
 use Rattle.day.specs.Tests.{gives-is, first-one}
 use Rattle.day.specs.File.{dayIn}
 use Rattle.day.specs.Figures.{first-value, second-value}
