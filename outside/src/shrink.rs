@@ -48,9 +48,22 @@ fn steps(input: &Input) -> Vec<Input> {
         next.plans = input.plans.iter().map(|plan| without(plan, i)).collect();
         tries.push(next);
     }
-    for at in (0..input.file.len()).step_by(17) {
+    // records of the file: the first may have 5 bytes
+    for (first, length) in [(0, 5), (0, 17), (5, 17)] {
+        for at in (first..input.file.len()).step_by(length) {
+            let mut next = input.clone();
+            next.file.drain(at..(at + length).min(input.file.len()));
+            tries.push(next);
+        }
+    }
+    for opening in smaller(day.opening as u64) {
         let mut next = input.clone();
-        next.file.drain(at..(at + 17).min(input.file.len()));
+        next.day.opening = opening as u16;
+        tries.push(next);
+    }
+    for closing in smaller(day.closing as u64) {
+        let mut next = input.clone();
+        next.day.closing = closing as u16;
         tries.push(next);
     }
     values(input, |x| &mut x.day.demand, |v| v as u16, &mut tries);
@@ -107,12 +120,14 @@ pub fn show(input: &Input) -> String {
     let mut lines = vec![format!("call {:?}", input.call)];
     if !matches!(input.call, Call::Read | Call::Lookup) {
         lines.push(format!(
-            "needs {}; capacities {}; b {}; p {}; h {}",
+            "needs {}; capacities {}; b {}; p {}; h {}; A {}; Z {}",
             words16(&day.demand),
             words16(&day.capacity),
             words32(&day.setup),
             words32(&day.unit),
-            words32(&day.holding)
+            words32(&day.holding),
+            day.opening,
+            day.closing
         ));
     }
     for plan in plans {
