@@ -32,7 +32,8 @@ const ROWS: &[Row] = &[
     Row { demand: &[0, 0], capacity: &[0, 0], setup: &[5], unit: &[1], holding: &[1], ends: (0, 0), claim: Ok((&[0, 0], 0, 0)) },
     // ties that only demand 3 settles
     Row { demand: &[1, 0, 2], capacity: &[2, 3, 1], setup: &[3], unit: &[1], holding: &[1], ends: (0, 0), claim: Ok((&[1, 2, 0], 11, 2)) },
-    Row { demand: &[0, 0, 0, 4], capacity: &[3, 3, 3, 3], setup: &[0, 1, 0, 1], unit: &[1, 0, 0, 1], holding: &[0, 0, 1, 1], ends: (0, 0), claim: Ok((&[0, 3, 1, 0], 5, 2)) },
+    Row { demand: &[0, 0, 0, 4], capacity: &[3, 3, 3, 3], setup: &[0, 1, 0, 1], unit: &[1, 0, 0, 1], holding: &[0, 0, 1, 1],
+          ends: (0, 0), claim: Ok((&[0, 3, 1, 0], 5, 2)) },
     Row { demand: &[3, 2, 0, 1], capacity: &[5, 5, 5, 5], setup: &[3], unit: &[0], holding: &[1], ends: (0, 0), claim: Ok((&[3, 3, 0, 0], 8, 2)) },
     // charge at both ends: of the fourth marked day; with nothing to make, and one unit more than that
     Row { demand: &[2, 3], capacity: &[5, 5], setup: &[10], unit: &[1], holding: &[1], ends: (1, 1), claim: Ok((&[5, 0], 20, 1)) },

@@ -1,5 +1,6 @@
 //! Makes a failing input smaller as long as it still fails, and prints it.
 use crate::input::{Call, Input};
+use crate::plain::Day;
 use std::time::{Duration, Instant};
 
 /// Smaller numbers to try in place of one.
@@ -56,15 +57,17 @@ fn steps(input: &Input) -> Vec<Input> {
             tries.push(next);
         }
     }
+    // the charge at both ends, together and alone
+    let both = day.opening.min(day.closing) as u64;
+    for less in smaller(both).into_iter().map(|v| (both - v) as u16) {
+        let ends = Day { opening: day.opening - less, closing: day.closing - less, ..day.clone() };
+        tries.push(Input { day: ends, ..input.clone() });
+    }
     for opening in smaller(day.opening as u64) {
-        let mut next = input.clone();
-        next.day.opening = opening as u16;
-        tries.push(next);
+        tries.push(Input { day: Day { opening: opening as u16, ..day.clone() }, ..input.clone() });
     }
     for closing in smaller(day.closing as u64) {
-        let mut next = input.clone();
-        next.day.closing = closing as u16;
-        tries.push(next);
+        tries.push(Input { day: Day { closing: closing as u16, ..day.clone() }, ..input.clone() });
     }
     values(input, |x| &mut x.day.demand, |v| v as u16, &mut tries);
     values(input, |x| &mut x.day.capacity, |v| v as u16, &mut tries);
