@@ -149,6 +149,6 @@ fn main() {
     let refused = (1..=13).map(|number| format!("{number}: {}", run.refused[number])).collect::<Vec<_>>().join(", ");
     println!("outside: seed {seed}, {} inputs of {} calls as the plain implementation has them", run.inputs, CALLS.len());
     println!("accepted {}, broken plans {}, refused {refused}", run.accepted, run.broken);
-    println!("published instances: {} inputs, each with the published plan and cost", published.len());
+    println!("published instances: {} inputs, each with the published cost", published.len());
     eprintln!("{} seconds", start.elapsed().as_secs());
 }

@@ -1,4 +1,5 @@
-//! Lot-sizing instances from the literature, with the least costs and the plans that are published for them.
+//! Lot-sizing instances from the literature, with the least costs that are published for them. The plans beside them are those of
+//! that cost which document 01 asks for.
 use crate::input::{Call, Input};
 use crate::plain::{self, Day, Planned, Totals};
 
@@ -12,7 +13,8 @@ struct Instance {
 }
 
 const INSTANCES: [Instance; 2] = [
-    // H. M. Wagner and T. M. Whitin, Dynamic version of the economic lot size model, Management Science 5 (1958), pages 89 to 96.
+    // H. M. Wagner and T. M. Whitin, Dynamic version of the economic lot size model, Management Science 5 (1958), pages 89 to 96
+    // (the report's reference 24).
     Instance {
         demand: [69, 29, 36, 61, 61, 26, 34, 67, 45, 67, 79, 56],
         setup: [85, 102, 102, 101, 98, 114, 105, 86, 119, 110, 98, 114],
@@ -20,8 +22,8 @@ const INSTANCES: [Instance; 2] = [
         plan: [98, 0, 97, 0, 121, 0, 0, 112, 0, 67, 135, 0],
         cost: 864,
     },
-    // The twelve months of E. A. Silver and H. C. Meal, Production and Inventory Management 14 (1973), pages 64 to 74. Start 54,
-    // upkeep 0.4, least cost 501.20; here five times as much, in whole numbers.
+    // The twelve months of E. A. Silver and H. C. Meal: start 54, upkeep 0.4, least cost 501.20; here five times as much, in whole
+    // numbers.
     Instance {
         demand: [10, 62, 12, 130, 154, 129, 88, 52, 124, 160, 238, 41],
         setup: [270; 12],
@@ -32,7 +34,7 @@ const INSTANCES: [Instance; 2] = [
 ];
 
 /// Every instance as an input of every path, with one capacity throughout that can't bind: the largest there is, and the whole
-/// demand. The plain implementation has the published plan of each.
+/// demand. The plain implementation has the plan and the published cost of each.
 pub fn inputs() -> Vec<Input> {
     let mut inputs = vec![];
     for Instance { demand, setup, holding, plan, cost } in INSTANCES {

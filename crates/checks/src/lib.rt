@@ -1,13 +1,13 @@
 //! Document 01's tests on lent tables and memory, by its numbers: each alone, and in the order in which calls apply them.
 //! Every function answers what the conditions say that it cites from the crate day. What a caller learns from an answer is in specs/.
 ghost use mathlib.Core.Path.{_≡_};
-ghost use mathlib.Core.Bool.{_||_};
+ghost use mathlib.Core.Bool.{_||_, cond};
 ghost use mathlib.Core.List.{[], _∷_};
-ghost use Prim.Native.Nat.{_+_, _-_, _*_, _^_, _≤_, _<_};
-ghost use lib.Dec.{ltb};
+ghost use Prim.Native.Nat.{_+_, _-_, _*_, _≤_};
+ghost use lib.Dec.{leb, ltb};
 ghost use lib.ListN.{length};
 ghost use Rattle.day.specs.Sums.{Term, at, sumTo};
-ghost use Rattle.day.specs.Day.{dayOf, tablesOf, needed, dueOf, total, maxPeriods, maxDemand, maxCapacity, maxSetup, maxRate, maxSum};
+ghost use Rattle.day.specs.Day.{dayOf, tablesOf, needed, total, maxPeriods, maxDemand, maxCapacity, maxSetup, maxRate, maxSum};
 ghost use Rattle.day.specs.Lent.{dayBefore, tablesBefore};
 ghost use Rattle.day.specs.Refusals.{checked, first, badCount, badLengths, badValue, tableTests, totalTests, dayTests, badAreas, badSlots};
 ghost use Rattle.day.specs.Refusals.{shortage, unequal, binding};
@@ -99,7 +99,7 @@ pub fn tables(
 }
 
 // R over the day; the sum needs more than 16 bits
-fn summed(demand: &[u16]) -> u64
+pub fn summed(demand: &[u16]) -> u64
     requires { ⌜ length (now demand) ≤ maxPeriods ⌝ }
     ensures { λ r. ⌜ Term (sumTo (at (now (demand .entry))) (length (now (demand .entry)))) (maxPeriods * maxCapacity) r ⌝ }
 {
@@ -181,15 +181,33 @@ fn memory(
     Check::Passed
 }
 
-// What is to be covered by the end of a period: the demand so far, and Z after the last.
-pub fn due(demanded: u64, closing: u16, last: bool) -> u64
-    requires { ⌜ demanded < 2 ^ 24 ⌝ }
-    ensures { λ r. ⌜ r ≡ dueOf last demanded closing ⌝ }
+// What must have been there after i of n periods: the demand so far, and Z with it once the day is over.
+pub fn due(demanded: u64, closing: u16, i: usize, n: usize) -> u64
+    requires { ⌜ demanded ≤ maxSum ⌝ }
+    ensures { λ r. ⌜ r ≡ cond (leb n i) (demanded + closing) demanded ⌝ }
 {
-    if last {
-        return demanded + (closing as u64);
+    if i < n {
+        return demanded;
     }
-    demanded
+    demanded + (closing as u64)
+}
+
+// a less b, where it is above 0
+fn beyond(a: u64, b: u64) -> u64
+    ensures { λ r. ⌜ r ≡ a - b ⌝ }
+{
+    if a < b {
+        return 0;
+    }
+    a - b
+}
+
+// What must have been made after i of n periods.
+pub fn net_to(demanded: u64, i: usize, n: usize, ends: Ends) -> u64
+    requires { ⌜ demanded ≤ maxSum ⌝ }
+    ensures { λ r. ⌜ r ≡ cond (leb n i) (demanded + ends .closing) demanded - ends .opening ⌝ }
+{
+    beyond(due(demanded, ends.closing, i, n), ends.opening as u64)
 }
 
 // 7, for tables of one length: the first period with R − A above C, or the last with T above C
@@ -199,13 +217,13 @@ fn shortage(demand: &[u16], capacity: &[u16], ends: Ends) -> Check
     ensures { λ r. ⌜ r ≡ checked (shortage (dayOf (now (demand .entry)) (now (capacity .entry)) [] [] [] ends)) ⌝ }
 {
     let mut demanded: u64 = 0;
-    let mut available: u64 = ends.opening as u64;
+    let mut available: u64 = 0;
     let mut i = 0;
     while i < demand.len() {
         demanded += demand[i] as u64;
         available += capacity[i] as u64;
         i += 1;
-        if available < due(demanded, ends.closing, i == demand.len()) {
+        if available < net_to(demanded, i, demand.len(), ends) {
             return Check::Refused(Refusal::Shortage(i as u16));
         }
     }
@@ -225,16 +243,6 @@ fn equal(demand: &[u16], capacity: &[u16]) -> Check
         i += 1;
     }
     Check::Passed
-}
-
-// a less b, where it is above 0
-fn beyond(a: u64, b: u64) -> u64
-    ensures { λ r. ⌜ r ≡ a - b ⌝ }
-{
-    if a < b {
-        return 0;
-    }
-    a - b
 }
 
 // 9, for tables of one length: the first capacity below what remains to be made, T less the larger of 0 and (R before its period − A)

@@ -2,9 +2,9 @@
 -- report, section 2).
 -- Assumes nothing.
 use mathlib.Core.Path.{_≡_, refl}
-use mathlib.Core.Bool.{Bool, true, false, cond}
+use mathlib.Core.Bool.{cond}
 use mathlib.Core.List.{List}
-use Prim.Native.Nat.{ℕ, _+_, _-_, _*_, _≤_, _<_}
+use Prim.Native.Nat.{ℕ, _+_, _-_, _*_, _<_}
 use lib.Dec.{leb}
 use lib.ListN.{length}
 use native.Mathlib.Omega.{arith}
@@ -84,21 +84,17 @@ capacityTo d i = sumTo (at (d .capacity)) i
 abbrev pub needed : Day → ℕ
 needed d = demandTo d (periods d) + d .closing
 
--- what is to be covered by the end of a period: the demand so far, and Z with it after the last
-abbrev pub dueOf : (last : Bool) (demanded closing : ℕ) → ℕ
-dueOf last demanded closing = cond last (demanded + closing) demanded
-
-pub due-least : (last : Bool) (demanded closing : ℕ) → demanded ≤ dueOf last demanded closing
-due-least true demanded closing = omega arith
-due-least false demanded closing = omega arith
-
 -- T = R + Z − A: what is made over the day
 abbrev pub total : Day → ℕ
 total d = needed d - d .opening
 
+-- what must have been there after i periods: R_i, and Z with it once the day is over
+abbrev pub dueTo : Day → ℕ → ℕ
+dueTo d i = cond (leb (periods d) i) (demandTo d i + d .closing) (demandTo d i)
+
 -- what must have been made after i periods: R_i − A, never below 0, and T once the day is over
 abbrev pub netTo : Day → ℕ → ℕ
-netTo d i = cond (leb (periods d) i) (total d) (demandTo d i - d .opening)
+netTo d i = dueTo d i - d .opening
 
 pub net-before : (d : Day) (i : ℕ) → i < periods d → netTo d i ≡ demandTo d i - d .opening
 net-before d i l = rw (lt-leb _ _ l) refl

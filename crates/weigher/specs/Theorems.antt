@@ -5,13 +5,14 @@ use mathlib.Core.Bool.{Bool, true, false}
 use mathlib.Core.Option.{Option, none, some}
 use Prim.Native.Nat.{ℕ, zero, suc, _+_, _≤_, _<_}
 use native.Mathlib.Nat.{le-of-lt, le-trans}
+use native.Mathlib.Decide.{decLe}
 use native.Mathlib.Omega.{arith}
-use lib.Dec.{eqb, ltb}
-use borrow.Author.Tests.{ltb-true, ltb-false, eqb-true, eqb-false, lt-ltb, le-ltb, eq-eqb}
+use lib.Dec.{eqb, leb, ltb}
+use borrow.Author.Tests.{ltb-true, ltb-false, eqb-true, eqb-false, lt-ltb, le-ltb, eq-eqb, lt-leb, le-leb}
 use Rattle.day.specs.declared.Totals.{Totals}
 use Rattle.day.specs.Sums.{at, sumTo}
 use Rattle.day.specs.Find.{Found, find, find-here, none-found, nothing-found, some-found}
-use Rattle.day.specs.Day.{Day, periods, dueOf, due-least, demandTo}
+use Rattle.day.specs.Day.{Day, periods, demandTo, dueTo}
 use Rattle.day.specs.Plan.{Feasible}
 use Rattle.day.specs.Refusals.{first}
 use Rattle.day.specs.Figures.{first-value, second-value}
@@ -20,19 +21,19 @@ use Rattle.weigher.specs.declared.Rule.{Rule}
 use Rattle.weigher.specs.declared.Rule.the-variants.{AboveCapacity, Short, Over}
 use Rattle.weigher.specs.declared.Verdict.{Verdict}
 use Rattle.weigher.specs.declared.Verdict.the-variants.{Holds, Broken}
-use Rattle.weigher.specs.Verdict.{aboveAt, dueAt, shortAt, breaks, ruleAt, totalsOf, verdictAt, verdictOf}
+use Rattle.weigher.specs.Verdict.{aboveAt, due-least, shortAt, breaks, ruleAt, totalsOf, verdictAt, verdictOf}
 
 -- period k + 1 keeps (4), (2), and, where it is the last, (3)
 pub record Keeps (d : Day) (x : ℕ → ℕ) (k : ℕ) : Type 0 where
   pub within : x k ≤ at (d .capacity) k
-  pub served : dueAt d k ≤ d .opening + sumTo x (suc k)
-  pub ends : suc k ≡ periods d → d .opening + sumTo x (suc k) ≤ dueAt d k
+  pub served : dueTo d (suc k) ≤ d .opening + sumTo x (suc k)
+  pub ends : suc k ≡ periods d → d .opening + sumTo x (suc k) ≤ dueTo d (suc k)
 
 -- period k + 1 breaks a rule, and none that goes before it in one period
 abbrev pub Breaks : Day → (ℕ → ℕ) → Rule → ℕ → Type 0
 Breaks d x AboveCapacity k = at (d .capacity) k < x k
-Breaks d x Short k = (x k ≤ at (d .capacity) k) × (d .opening + sumTo x (suc k) < dueAt d k)
-Breaks d x Over k = (x k ≤ at (d .capacity) k) × ((suc k ≡ periods d) × (dueAt d k < d .opening + sumTo x (suc k)))
+Breaks d x Short k = (x k ≤ at (d .capacity) k) × (d .opening + sumTo x (suc k) < dueTo d (suc k))
+Breaks d x Over k = (x k ≤ at (d .capacity) k) × ((suc k ≡ periods d) × (dueTo d (suc k) < d .opening + sumTo x (suc k)))
 
 -- the first period that breaks any is k + 1, and it breaks r
 pub record FirstBroken (d : Day) (x : ℕ → ℕ) (r : Rule) (k : ℕ) : Type 0 where
@@ -46,16 +47,17 @@ Says d x (Holds t) = Feasible d x × Counts d x t
 Says d x (Broken r zero) = ⊥
 Says d x (Broken r (suc k)) = FirstBroken d x r k
 
--- what is to be covered is R + Z in period n; what covers R, and R + Z in period n, covers it
-due-last : (d : Day) (k : ℕ) → suc k ≡ periods d → dueAt d k ≡ demandTo d (suc k) + d .closing
-due-last d k e = rw (eq-eqb _ _ e) refl
+-- what must have been there is R + Z in period n; what covers R, and R + Z in period n, covers it
+due-last : (d : Day) (k : ℕ) → suc k ≡ periods d → dueTo d (suc k) ≡ demandTo d (suc k) + d .closing
+due-last d k e = rw (le-leb (periods d) (suc k) (omega arith)) refl
 
-due-met : (d : Day) (k : ℕ) {v : ℕ} → demandTo d (suc k) ≤ v → (suc k ≡ periods d → demandTo d (suc k) + d .closing ≤ v) → dueAt d k ≤ v
-due-met d k {v} before last = go (eqb (suc k) (periods d)) refl
+due-met : (d : Day) (k : ℕ) {v : ℕ} → k < periods d → demandTo d (suc k) ≤ v → (suc k ≡ periods d → demandTo d (suc k) + d .closing ≤ v)
+    → dueTo d (suc k) ≤ v
+due-met d k {v} l before last = go (decLe (periods d) (suc k))
   where
-    go : (b : Bool) → eqb (suc k) (periods d) ≡ b → dueOf b (demandTo d (suc k)) (d .closing) ≤ v
-    go true q = last (eqb-true _ _ q)
-    go false q = before
+    go : Dec (periods d ≤ suc k) → dueTo d (suc k) ≤ v
+    go (yes h) = omega (arith, due-last d k (omega arith), last (omega arith))
+    go (no h) = rw (lt-leb (periods d) (suc k) (omega arith)) before
 
 -- the tests of one period, read as facts
 data Tested (d : Day) (x : ℕ → ℕ) (k : ℕ) : Type 0 where
@@ -63,17 +65,17 @@ data Tested (d : Day) (x : ℕ → ℕ) (k : ℕ) : Type 0 where
   broken : (r : Rule) → Breaks d x r k → breaks d x k ≡ true → ruleAt d x k ≡ r → Tested d x k
 
 tested : (d : Day) (x : ℕ → ℕ) (k : ℕ) → Tested d x k
-tested d x k = go (aboveAt d x k) (shortAt d x k) (eqb (suc k) (periods d)) (ltb (dueAt d k) (d .opening + sumTo x (suc k))) refl refl refl refl
+tested d x k = go (aboveAt d x k) (shortAt d x k) (eqb (suc k) (periods d)) (ltb (dueTo d (suc k)) (d .opening + sumTo x (suc k))) refl refl refl refl
   where
     go : (a b c e : Bool)
-        → aboveAt d x k ≡ a → shortAt d x k ≡ b → eqb (suc k) (periods d) ≡ c → ltb (dueAt d k) (d .opening + sumTo x (suc k)) ≡ e
+        → aboveAt d x k ≡ a → shortAt d x k ≡ b → eqb (suc k) (periods d) ≡ c → ltb (dueTo d (suc k)) (d .opening + sumTo x (suc k)) ≡ e
         → Tested d x k
     go true b c e p q r s = broken AboveCapacity (ltb-true _ _ p) (rw p refl) (rw p refl)
     go false true c e p q r s = broken Short (ltb-false _ _ p, ltb-true _ _ q) (rw (p, q) refl) (rw (p, q) refl)
     go false false true true p q r s =
-        broken Over (ltb-false _ _ p, (eqb-true _ _ r, ltb-true _ _ s)) (rw (p, q, s, r) refl) (rw (p, q) refl)
+        broken Over (ltb-false _ _ p, (eqb-true _ _ r, ltb-true _ _ s)) (rw (p, q, r, s) refl) (rw (p, q) refl)
     go false false true false p q r s =
-        keeps (record { within = ltb-false _ _ p; served = ltb-false _ _ q; ends = λ _. ltb-false _ _ s }) (rw (p, q, s, r) refl)
+        keeps (record { within = ltb-false _ _ p; served = ltb-false _ _ q; ends = λ _. ltb-false _ _ s }) (rw (p, q, r, s) refl)
     go false false false e p q r s =
         keeps (record { within = ltb-false _ _ p; served = ltb-false _ _ q; ends = λ l. absurd (eqb-false _ _ r l) }) (rw (p, q, r) refl)
 
@@ -102,13 +104,13 @@ module _ (d : Day) (x : ℕ → ℕ) where
   breaks-rule Short k b = (simp (le-ltb _ _ (b .0), lt-ltb _ _ (b .1)), simp (le-ltb _ _ (b .0), lt-ltb _ _ (b .1)))
   breaks-rule Over k b =
       let s : shortAt d x k ≡ false = le-ltb _ _ (le-of-lt (b .1 .1)) in
-      (rw (le-ltb _ _ (b .0), s, lt-ltb _ _ (b .1 .1), eq-eqb _ _ (b .1 .0)) refl, simp (le-ltb _ _ (b .0), s))
+      (simp (le-ltb _ _ (b .0), s, eq-eqb _ _ (b .1 .0), lt-ltb _ _ (b .1 .1)), simp (le-ltb _ _ (b .0), s))
 
   -- a plan that keeps every period keeps the conditions, and the other way round
   all-feasible : 1 ≤ periods d → ((k : ℕ) → k < periods d → Keeps d x k) → Feasible d x
   all-feasible nonempty h =
       record {
-        served = λ k l. le-trans (due-least (eqb (suc k) (periods d)) _ _) (h k l .served);
+        served = λ k l. le-trans (due-least (leb (periods d) (suc k)) _ _) (h k l .served);
         ends = go (periods d) refl nonempty;
         within = λ k l. h k l .within;
       }
@@ -121,7 +123,7 @@ module _ (d : Day) (x : ℕ → ℕ) where
   feasible-keeps f k l =
       record {
         within = f .within k l;
-        served = due-met d k (f .served k l) (λ e. omega (arith, ended e));
+        served = due-met d k l (f .served k l) (λ e. omega (arith, ended e));
         ends = λ e. omega (arith, due-last d k e, ended e);
       }
     where
