@@ -9,7 +9,7 @@ use Prim.Native.Nat.{ℕ, zero, suc, _+_, _-_, _≤_, _<_}
 use native.Mathlib.Decide.{decLt}
 use native.Mathlib.Omega.{arith}
 use lib.ListN.{length}
-use Rattle.day.specs.Sums.{at, sumTo, sum-ext, sum-grows, listOf, at-listOf, length-listOf, listOf-at}
+use Rattle.day.specs.Sums.{at, sumTo, sum-ext, listOf, at-listOf, length-listOf, listOf-at}
 use Rattle.day.specs.Day.{Day, periods, demandTo, capacityTo, needed, total, netTo, net-before, net-end, maxPeriods, maxTotal}
 use Rattle.checks.specs.Passed.{DayLimits}
 use Rattle.theory.specs.Problem.{Problem, problemWith, Bounded, Supplied}
