@@ -3,7 +3,7 @@
 use mathlib.Core.Path.{_≡_, refl}
 use mathlib.Core.List.{List, [], _∷_}
 use mathlib.Core.Option.{Option, none, some}
-use Prim.Native.Nat.{ℕ, zero, suc, _+_, _*_, _^_, _≤_, _<_}
+use Prim.Native.Nat.{ℕ, zero, suc, _+_, _-_, _*_, _^_, _≤_, _<_}
 use native.Mathlib.Nat.{mul-le-mul-right, le-trans, le-of-lt, suc-mul}
 use native.Mathlib.Omega.{arith}
 use lib.ListN.{length}
@@ -12,7 +12,7 @@ use mir.Val.{Fits}
 use Rattle.day.specs.declared.Refusal.{Refusal}
 use Rattle.day.specs.Sums.{at, sumTo}
 use Rattle.day.specs.Find.{find}
-use Rattle.day.specs.Day.{Day, periods, maxPeriods, maxCapacity, maxSum}
+use Rattle.day.specs.Day.{Day, periods, maxPeriods}
 use Rattle.day.specs.Plan.{inventory, costAt, costTo, setupAt}
 use Rattle.day.specs.Refusals.{dayTests, badSlots}
 use Rattle.day.specs.Tests.{first-split}
@@ -39,12 +39,12 @@ sum-low f top i few h = le-trans (go i h) (mul-le-mul-right top few)
     go zero h = omega arith
     go (suc j) h = rw suc-mul (omega (arith, go j (λ k l. h k (omega arith)), h j (omega arith)))
 
--- sums of 16-bit terms
-short-low : (f : ℕ → ℕ) (i : ℕ) → i ≤ maxPeriods → ((k : ℕ) → Fits w16 (f k)) → sumTo f i ≤ maxPeriods * maxCapacity
-short-low f i few h = sum-low f maxCapacity i few (λ k l. omega (arith, h k))
+-- sums of 16-bit terms, with room for one more
+short-low : (f : ℕ → ℕ) (i : ℕ) → i ≤ maxPeriods → ((k : ℕ) → Fits w16 (f k)) → sumTo f i + 2 ^ 16 < 2 ^ 23
+short-low f i few h = omega (arith, sum-low f (2 ^ 16 - 1) i few (λ k l. omega (arith, h k)))
 
 module _ (d : Day) (x : ℕ → ℕ) (wide : Wide d x) (low : d .opening < 2 ^ 16) where
-  supplied-low : (i : ℕ) → i ≤ maxPeriods → d .opening + sumTo x i ≤ maxSum
+  supplied-low : (i : ℕ) → i ≤ maxPeriods → d .opening + sumTo x i < 2 ^ 23
   supplied-low i few = omega (arith, short-low x i few (wide .amount), low)
 
   pub cost-low : (i : ℕ) → i ≤ maxPeriods → costTo d x i < 2 ^ 63
@@ -63,7 +63,7 @@ module _ (d : Day) (x : ℕ → ℕ) (wide : Wide d x) (low : d .opening < 2 ^ 1
     cost = cost-low i few;
     setups = omega (arith, sum-low (λ k. setupAt (x k)) 1 i few (λ k l. setup-low (x k)));
     supplied = supplied-low i few;
-    demanded = short-low (at (d .demand)) i few (wide .demand);
+    demanded = omega (arith, short-low (at (d .demand)) i few (wide .demand));
   }
 
 -- the cost that the weigher answers fits a signed 64-bit number

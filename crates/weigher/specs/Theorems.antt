@@ -5,14 +5,13 @@ use mathlib.Core.Bool.{Bool, true, false}
 use mathlib.Core.Option.{Option, none, some}
 use Prim.Native.Nat.{ℕ, zero, suc, _+_, _≤_, _<_}
 use native.Mathlib.Nat.{le-of-lt, le-trans}
-use native.Mathlib.Decide.{decLe}
 use native.Mathlib.Omega.{arith}
-use lib.Dec.{eqb, leb, ltb}
-use borrow.Author.Tests.{ltb-true, ltb-false, eqb-true, eqb-false, lt-ltb, le-ltb, eq-eqb, lt-leb, le-leb}
+use lib.Dec.{eqb, ltb}
+use borrow.Author.Tests.{ltb-true, ltb-false, eqb-true, eqb-false, lt-ltb, le-ltb, eq-eqb}
 use Rattle.day.specs.declared.Totals.{Totals}
 use Rattle.day.specs.Sums.{at, sumTo}
 use Rattle.day.specs.Find.{Found, find, find-here, none-found, nothing-found, some-found}
-use Rattle.day.specs.Day.{Day, periods, demandTo, dueTo}
+use Rattle.day.specs.Day.{Day, periods, dueOf, dueTo, due-least, demandTo}
 use Rattle.day.specs.Plan.{Feasible}
 use Rattle.day.specs.Refusals.{first}
 use Rattle.day.specs.Figures.{first-value, second-value}
@@ -21,7 +20,7 @@ use Rattle.weigher.specs.declared.Rule.{Rule}
 use Rattle.weigher.specs.declared.Rule.the-variants.{AboveCapacity, Short, Over}
 use Rattle.weigher.specs.declared.Verdict.{Verdict}
 use Rattle.weigher.specs.declared.Verdict.the-variants.{Holds, Broken}
-use Rattle.weigher.specs.Verdict.{aboveAt, due-least, shortAt, breaks, ruleAt, totalsOf, verdictAt, verdictOf}
+use Rattle.weigher.specs.Verdict.{aboveAt, shortAt, breaks, ruleAt, totalsOf, verdictAt, verdictOf}
 
 -- period k + 1 keeps (4), (2), and, where it is the last, (3)
 pub record Keeps (d : Day) (x : ℕ → ℕ) (k : ℕ) : Type 0 where
@@ -47,17 +46,16 @@ Says d x (Holds t) = Feasible d x × Counts d x t
 Says d x (Broken r zero) = ⊥
 Says d x (Broken r (suc k)) = FirstBroken d x r k
 
--- what must have been there is R + Z in period n; what covers R, and R + Z in period n, covers it
+-- what is to be covered is R + Z in period n; what covers R, and R + Z in period n, covers it
 due-last : (d : Day) (k : ℕ) → suc k ≡ periods d → dueTo d (suc k) ≡ demandTo d (suc k) + d .closing
-due-last d k e = rw (le-leb (periods d) (suc k) (omega arith)) refl
+due-last d k e = rw (eq-eqb _ _ e) refl
 
-due-met : (d : Day) (k : ℕ) {v : ℕ} → k < periods d → demandTo d (suc k) ≤ v → (suc k ≡ periods d → demandTo d (suc k) + d .closing ≤ v)
-    → dueTo d (suc k) ≤ v
-due-met d k {v} l before last = go (decLe (periods d) (suc k))
+due-met : (d : Day) (k : ℕ) {v : ℕ} → demandTo d (suc k) ≤ v → (suc k ≡ periods d → demandTo d (suc k) + d .closing ≤ v) → dueTo d (suc k) ≤ v
+due-met d k {v} before last = go (eqb (suc k) (periods d)) refl
   where
-    go : Dec (periods d ≤ suc k) → dueTo d (suc k) ≤ v
-    go (yes h) = omega (arith, due-last d k (omega arith), last (omega arith))
-    go (no h) = rw (lt-leb (periods d) (suc k) (omega arith)) before
+    go : (b : Bool) → eqb (suc k) (periods d) ≡ b → dueOf b (demandTo d (suc k)) (d .closing) ≤ v
+    go true q = last (eqb-true _ _ q)
+    go false q = before
 
 -- the tests of one period, read as facts
 data Tested (d : Day) (x : ℕ → ℕ) (k : ℕ) : Type 0 where
@@ -73,9 +71,9 @@ tested d x k = go (aboveAt d x k) (shortAt d x k) (eqb (suc k) (periods d)) (ltb
     go true b c e p q r s = broken AboveCapacity (ltb-true _ _ p) (rw p refl) (rw p refl)
     go false true c e p q r s = broken Short (ltb-false _ _ p, ltb-true _ _ q) (rw (p, q) refl) (rw (p, q) refl)
     go false false true true p q r s =
-        broken Over (ltb-false _ _ p, (eqb-true _ _ r, ltb-true _ _ s)) (rw (p, q, r, s) refl) (rw (p, q) refl)
+        broken Over (ltb-false _ _ p, (eqb-true _ _ r, ltb-true _ _ s)) (rw (p, q, s, r) refl) (rw (p, q) refl)
     go false false true false p q r s =
-        keeps (record { within = ltb-false _ _ p; served = ltb-false _ _ q; ends = λ _. ltb-false _ _ s }) (rw (p, q, r, s) refl)
+        keeps (record { within = ltb-false _ _ p; served = ltb-false _ _ q; ends = λ _. ltb-false _ _ s }) (rw (p, q, s, r) refl)
     go false false false e p q r s =
         keeps (record { within = ltb-false _ _ p; served = ltb-false _ _ q; ends = λ l. absurd (eqb-false _ _ r l) }) (rw (p, q, r) refl)
 
@@ -104,13 +102,13 @@ module _ (d : Day) (x : ℕ → ℕ) where
   breaks-rule Short k b = (simp (le-ltb _ _ (b .0), lt-ltb _ _ (b .1)), simp (le-ltb _ _ (b .0), lt-ltb _ _ (b .1)))
   breaks-rule Over k b =
       let s : shortAt d x k ≡ false = le-ltb _ _ (le-of-lt (b .1 .1)) in
-      (simp (le-ltb _ _ (b .0), s, eq-eqb _ _ (b .1 .0), lt-ltb _ _ (b .1 .1)), simp (le-ltb _ _ (b .0), s))
+      (rw (le-ltb _ _ (b .0), s, lt-ltb _ _ (b .1 .1), eq-eqb _ _ (b .1 .0)) refl, simp (le-ltb _ _ (b .0), s))
 
   -- a plan that keeps every period keeps the conditions, and the other way round
   all-feasible : 1 ≤ periods d → ((k : ℕ) → k < periods d → Keeps d x k) → Feasible d x
   all-feasible nonempty h =
       record {
-        served = λ k l. le-trans (due-least (leb (periods d) (suc k)) _ _) (h k l .served);
+        served = λ k l. le-trans (due-least (eqb (suc k) (periods d)) _ _) (h k l .served);
         ends = go (periods d) refl nonempty;
         within = λ k l. h k l .within;
       }
@@ -123,7 +121,7 @@ module _ (d : Day) (x : ℕ → ℕ) where
   feasible-keeps f k l =
       record {
         within = f .within k l;
-        served = due-met d k l (f .served k l) (λ e. omega (arith, ended e));
+        served = due-met d k (f .served k l) (λ e. omega (arith, ended e));
         ends = λ e. omega (arith, due-last d k e, ended e);
       }
     where

@@ -1,10 +1,9 @@
 -- The weigher's verdict on a plan, in the report's terms (document 01, "The weigher"; document 02, 2.1; report, section 2).
 -- A plan is a function from periods to amounts, as in the crate day's Plan. Index k is period k + 1.
 -- Main definition: `verdictOf`. Assumes nothing.
-use mathlib.Core.Bool.{Bool, true, false, cond, _&&_, _||_}
+use mathlib.Core.Bool.{Bool, true, false, _&&_, _||_}
 use mathlib.Core.Option.{Option, none, some}
-use Prim.Native.Nat.{ℕ, suc, _+_, _≤_}
-use native.Mathlib.Omega.{arith}
+use Prim.Native.Nat.{ℕ, suc, _+_}
 use lib.Dec.{eqb, ltb}
 use Rattle.day.specs.declared.Totals.{Totals}
 use Rattle.day.specs.Sums.{at, sumTo}
@@ -27,11 +26,6 @@ shortAt d x k = ltb (d .opening + sumTo x (suc k)) (dueTo d (suc k))
 -- it is above Z in period n
 abbrev pub overAt : Day → (ℕ → ℕ) → ℕ → Bool
 overAt d x k = eqb (suc k) (periods d) && ltb (dueTo d (suc k)) (d .opening + sumTo x (suc k))
-
--- what must have been there is no less than the demand
-pub due-least : (past : Bool) (demanded closing : ℕ) → demanded ≤ cond past (demanded + closing) demanded
-due-least true demanded closing = omega arith
-due-least false demanded closing = omega arith
 
 -- a period breaks some rule
 abbrev pub breaks : Day → (ℕ → ℕ) → ℕ → Bool

@@ -1,14 +1,14 @@
 -- What the walk over a day's periods carries from one to the next, and what one period does to it.
 -- Main statement: `ruling-is`: where a period breaks no rule, the sums are then those through it. Assumes nothing.
 use mathlib.Core.Path.{_≡_, refl}
-use mathlib.Core.Bool.{Bool, true, false, cond, _&&_, _||_}
+use mathlib.Core.Bool.{Bool, true, false, _&&_, _||_}
 use mathlib.Core.List.{List}
 use Prim.Native.Nat.{ℕ, suc, _+_, _-_, _*_, _^_, _≤_, _<_}
 use native.Mathlib.Nat.{add-assoc}
-use lib.Dec.{eqb, leb, ltb}
+use lib.Dec.{eqb, ltb}
 use lib.ListN.{length}
 use Rattle.day.specs.Sums.{at, sumTo}
-use Rattle.day.specs.Day.{Day, periods, demandTo, maxPeriods, maxCapacity, maxSum}
+use Rattle.day.specs.Day.{Day, periods, dueOf, demandTo, maxPeriods}
 use Rattle.day.specs.Plan.{making, costTo, Feasible, setupAt, setups}
 use Rattle.checks.specs.Passed.{SameLengths}
 use Rattle.weigher.specs.declared.Rule.{Rule}
@@ -34,7 +34,7 @@ rulingOn false r s = Kept s
 abbrev pub rulingAt : Day → (ℕ → ℕ) → ℕ → Ruling
 rulingAt d x k = rulingOn (breaks d x k) (ruleAt d x k) (sumsTo d x (suc k))
 
--- the same from the entries of period i of n and the sums before it, in the report's order: what making costs, then the holding cost
+-- the same from one period's entries and the sums before it, in the report's order: what making costs, then the holding cost
 abbrev pub nextOf : Entries → ℕ → Sums → Sums
 nextOf p x s = record {
   cost = s .cost + making (p .setup) (p .unit) x + p .holding * (s .supplied + x - (s .demanded + p .demand));
@@ -43,13 +43,13 @@ nextOf p x s = record {
   demanded = s .demanded + p .demand;
 }
 
-abbrev pub rulingOf : Entries → ℕ → (i n : ℕ) → Sums → (closing : ℕ) → Ruling
-rulingOf p x i n s closing =
+abbrev pub rulingOf : Entries → ℕ → (last : Bool) → Sums → (closing : ℕ) → Ruling
+rulingOf p x last s closing =
     let t = nextOf p x s in
-    let due = cond (leb n i) (t .demanded + closing) (t .demanded) in
+    let due = dueOf last (t .demanded) closing in
     let above = ltb (p .capacity) x in
     let short = ltb (t .supplied) due in
-    let over = eqb i n && ltb due (t .supplied) in
+    let over = last && ltb due (t .supplied) in
     rulingOn (above || short || over) (ruleOf above short) t
 
 -- the entries of period k + 1
@@ -64,15 +64,15 @@ entriesAt d k = record {
 
 -- from the sums before a period, its entries give what the report says of it
 pub ruling-is : (d : Day) (x : ℕ → ℕ) (k : ℕ)
-    → rulingOf (entriesAt d k) (x k) (suc k) (periods d) (sumsTo d x k) (d .closing) ≡ rulingAt d x k
+    → rulingOf (entriesAt d k) (x k) (eqb (suc k) (periods d)) (sumsTo d x k) (d .closing) ≡ rulingAt d x k
 ruling-is d x k = rw (add-assoc (d .opening), add-assoc (costTo d x k)) refl
 
 -- sums that leave room for one period more
 pub record Room (s : Sums) : Type 0 where
   pub cost : s .cost < 2 ^ 63
   pub setups : s .setups < 2 ^ 7
-  pub supplied : s .supplied ≤ maxSum
-  pub demanded : s .demanded ≤ maxPeriods * maxCapacity
+  pub supplied : s .supplied < 2 ^ 23
+  pub demanded : s .demanded < 2 ^ 23
 
 -- tables of one length, at most 96, and a plan that has an amount for each period
 pub record Weighable (d : Day) (plan : List ℕ) : Type 0 where

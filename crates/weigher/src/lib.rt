@@ -79,21 +79,21 @@ enum Ruling {
     Broke(Rule),
 }
 
-// The rules of period i of n in their order, then what making costs, then the holding cost.
-fn judge(p: Entries, amount: u16, i: usize, n: usize, s: Sums, closing: u16) -> Ruling
+// One period's rules in their order, then what making costs, then the holding cost.
+fn judge(p: Entries, amount: u16, last: bool, s: Sums, closing: u16) -> Ruling
     requires { ⌜ Room s ⌝ }
-    ensures { λ r. ⌜ r ≡ rulingOf p amount i n s closing ⌝ }
+    ensures { λ r. ⌜ r ≡ rulingOf p amount last s closing ⌝ }
 {
     let supplied = s.supplied + (amount as u64);
     let demanded = s.demanded + (p.demand as u64);
-    let due = checks::due(demanded, closing, i, n);
+    let due = checks::due(demanded, closing, last);
     if p.capacity < amount {
         return Ruling::Broke(Rule::AboveCapacity);
     }
     if supplied < due {
         return Ruling::Broke(Rule::Short);
     }
-    if i == n && due < supplied {
+    if last && due < supplied {
         return Ruling::Broke(Rule::Over);
     }
     let making = s.cost + terms::making_cost(p.setup, p.unit, amount as u64);
@@ -129,7 +129,7 @@ fn advance(
         unit: unit[i],
         holding: holding[i],
     };
-    judge(p, plan[i], i + 1, demand.len(), s, ends.closing)
+    judge(p, plan[i], i + 1 == demand.len(), s, ends.closing)
 }
 
 // The verdict, period by period.

@@ -5,10 +5,10 @@ use mathlib.Core.Bool.{false, _&&_}
 use mathlib.Core.Logic.{⊎-elim}
 use Prim.Native.Nat.{_+_}
 use native.Mathlib.Omega.{arith}
-use lib.Dec.{eqb, leb, ltb}
+use lib.Dec.{ltb}
 use borrow.Author.Needs.{needs}
-use borrow.Author.Tests.{lt-ltb, le-ltb, eq-eqb, ne-eqb}
-use Rattle.weigher.specs.Verdict.{due-least}
+use borrow.Author.Tests.{lt-ltb, le-ltb}
+use Rattle.day.specs.Day.{due-least}
 use Rattle.weigher.proofs.judge.Statement.{statement}
 use Rattle.weigher.proofs.judge.Tie as tie
 
@@ -16,24 +16,23 @@ use Rattle.weigher.proofs.judge.Tie as tie
 kept : (c : tie.Joined3)
     → let d = c .before .before .before .before in
     let a = d .before .before .before .before .args in
-    (eqb (a .i) (a .n) && ltb (d .due .result) (a .s .supplied + a .amount)) ≡ false
-kept c = ⊎-elim (λ w. rw (eq-eqb _ _ (w .0 .taken), w .1 .left) refl) (λ w. rw (ne-eqb _ _ (w .left)) refl) (c .if3 .came)
+    (a .last && ltb (d .due .result) (a .s .supplied + a .amount)) ≡ false
+kept c = ⊎-elim (λ w. rw (w .0 .taken, w .1 .left) refl) (λ w. rw (w .left) refl) (c .if3 .came)
 
 returns : tie.Need-returns
 returns c = simp (lt-ltb _ _ (c .if1 .taken))
 
 returns-2 : tie.Need-returns-2
 returns-2 c =
-    rw
-    (← c .before .before .before .due .ensures)
-    (simp (le-ltb _ _ (c .before .if1 .left), lt-ltb _ _ (c .if2 .taken)))
+    let known = c .before .before in
+    rw (← known .before .due .ensures) (simp (le-ltb _ _ (c .before .if1 .left), lt-ltb _ _ (c .if2 .taken)))
 
 returns-3 : tie.Need-returns-3
 returns-3 c =
     let tested = c .before .before in
     rw
     (← tested .before .before .before .due .ensures)
-    (simp (le-ltb _ _ (tested .before .if1 .left), le-ltb _ _ (tested .if2 .left), eq-eqb _ _ (c .before .if3 .taken), c .if4 .taken))
+    (simp (le-ltb _ _ (tested .before .if1 .left), le-ltb _ _ (tested .if2 .left), c .before .if3 .taken, c .if4 .taken))
 
 returns-4 : tie.Need-returns-4
 returns-4 c =
@@ -57,7 +56,7 @@ sub-holding-cost c =
     let tested = c .before .before .before in
     let known = tested .before .before .before in
     let a = known .before .before .before .before .args in
-    omega (arith, tested .if2 .left, known .due .ensures, due-least (leb (a .n) (a .i)) (a .s .demanded + a .p .demand) (a .closing))
+    omega (arith, tested .if2 .left, known .due .ensures, due-least (a .last) (a .s .demanded + a .p .demand) (a .closing))
 
 pub judge-spec : {M : Type 1} → statement M
 judge-spec =
