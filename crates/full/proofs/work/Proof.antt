@@ -49,8 +49,8 @@ fill-requires c κs =
 
 ready : (c : tie.After-fill)
     → let k = counted c in
-      let s = begun k in
-      Workable (problemIn (c .fill .last .1 .0) (given s)) (k .before .total .result) (k .cells .result) (lent s)
+    let s = begun k in
+    Workable (problemIn (c .fill .last .1 .0) (given s)) (k .before .total .result) (k .cells .result) (lent s)
 ready c = let k = counted c in workable (begun k .pre) (c .fill .ensures) (k .before .total .ensures .is) (k .cells .ensures)
 
 totals-requires : tie.Need-totals-requires
