@@ -1,13 +1,13 @@
 //! Document 01's tests on lent tables and memory, by its numbers: each alone, and in the order in which calls apply them.
 //! Every function answers what the conditions say that it cites from the crate day. What a caller learns from an answer is in specs/.
 ghost use mathlib.Core.Path.{_≡_};
-ghost use mathlib.Core.Bool.{_||_, cond};
+ghost use mathlib.Core.Bool.{_||_};
 ghost use mathlib.Core.List.{[], _∷_};
-ghost use Prim.Native.Nat.{_+_, _-_, _*_, _≤_};
-ghost use lib.Dec.{leb, ltb};
+ghost use Prim.Native.Nat.{_+_, _-_, _*_, _^_, _≤_, _<_};
+ghost use lib.Dec.{ltb};
 ghost use lib.ListN.{length};
 ghost use Rattle.day.specs.Sums.{Term, at, sumTo};
-ghost use Rattle.day.specs.Day.{dayOf, tablesOf, needed, total, maxPeriods, maxDemand, maxCapacity, maxSetup, maxRate, maxSum};
+ghost use Rattle.day.specs.Day.{dayOf, tablesOf, needed, dueOf, total, maxPeriods, maxDemand, maxCapacity, maxSetup, maxRate, maxSum};
 ghost use Rattle.day.specs.Lent.{dayBefore, tablesBefore};
 ghost use Rattle.day.specs.Refusals.{checked, first, badCount, badLengths, badValue, tableTests, totalTests, dayTests, badAreas, badSlots};
 ghost use Rattle.day.specs.Refusals.{shortage, unequal, binding};
@@ -181,15 +181,15 @@ fn memory(
     Check::Passed
 }
 
-// What must have been there after i of n periods: the demand so far, and Z with it once the day is over.
-fn due(demanded: u64, closing: u16, i: usize, n: usize) -> u64
-    requires { ⌜ demanded ≤ maxSum ⌝ }
-    ensures { λ r. ⌜ r ≡ cond (leb n i) (demanded + closing) demanded ⌝ }
+// What must have been there by the end of a period: the demand so far, and Z with it after the last.
+pub fn due(demanded: u64, closing: u16, last: bool) -> u64
+    requires { ⌜ demanded < 2 ^ 24 ⌝ }
+    ensures { λ r. ⌜ r ≡ dueOf last demanded closing ⌝ }
 {
-    if i < n {
-        return demanded;
+    if last {
+        return demanded + (closing as u64);
     }
-    demanded + (closing as u64)
+    demanded
 }
 
 // a less b, where it is above 0
@@ -202,12 +202,12 @@ fn beyond(a: u64, b: u64) -> u64
     a - b
 }
 
-// What must have been made after i of n periods.
-pub fn net_to(demanded: u64, i: usize, n: usize, ends: Ends) -> u64
-    requires { ⌜ demanded ≤ maxSum ⌝ }
-    ensures { λ r. ⌜ r ≡ cond (leb n i) (demanded + ends .closing) demanded - ends .opening ⌝ }
+// What must have been made by the end of a period.
+pub fn net_to(demanded: u64, last: bool, ends: Ends) -> u64
+    requires { ⌜ demanded < 2 ^ 24 ⌝ }
+    ensures { λ r. ⌜ r ≡ dueOf last demanded (ends .closing) - ends .opening ⌝ }
 {
-    beyond(due(demanded, ends.closing, i, n), ends.opening as u64)
+    beyond(due(demanded, ends.closing, last), ends.opening as u64)
 }
 
 // 7, for tables of one length: the first period with R − A above C, or the last with T above C
@@ -223,7 +223,7 @@ fn shortage(demand: &[u16], capacity: &[u16], ends: Ends) -> Check
         demanded += demand[i] as u64;
         available += capacity[i] as u64;
         i += 1;
-        if available < net_to(demanded, i, demand.len(), ends) {
+        if available < net_to(demanded, i == demand.len(), ends) {
             return Check::Refused(Refusal::Shortage(i as u16));
         }
     }

@@ -2,13 +2,13 @@
 -- report, section 2).
 -- Assumes nothing.
 use mathlib.Core.Path.{_≡_, refl}
-use mathlib.Core.Bool.{cond}
+use mathlib.Core.Bool.{Bool, true, false, cond}
 use mathlib.Core.List.{List}
-use Prim.Native.Nat.{ℕ, _+_, _-_, _*_, _<_}
-use lib.Dec.{leb}
+use Prim.Native.Nat.{ℕ, _+_, _-_, _*_, _≤_, _<_}
+use lib.Dec.{eqb}
 use lib.ListN.{length}
 use native.Mathlib.Omega.{arith}
-use borrow.Author.Tests.{lt-leb, le-leb}
+use borrow.Author.Tests.{eq-eqb, ne-eqb}
 use Rattle.day.specs.declared.Ends.{Ends}
 use Rattle.day.specs.Sums.{at, sumTo}
 
@@ -36,15 +36,18 @@ dayOf demand capacity setup unit holding ends = record {
 }
 
 -- both 0, where they are not given: the day of tables alone
+abbrev pub endsWith : (opening closing : ℕ) → Ends
+endsWith opening closing = record { opening = opening; closing = closing }
+
 abbrev pub noEnds : Ends
-noEnds = record { opening = 0; closing = 0 }
+noEnds = endsWith 0 0
 
 abbrev pub tablesOf : (demand capacity setup unit holding : List ℕ) → Day
 tablesOf demand capacity setup unit holding = dayOf demand capacity setup unit holding noEnds
 
 -- the ends of a day
 abbrev pub endsOf : Day → Ends
-endsOf d = record { opening = d .opening; closing = d .closing }
+endsOf d = endsWith (d .opening) (d .closing)
 
 -- n
 abbrev pub periods : Day → ℕ
@@ -89,15 +92,22 @@ abbrev pub total : Day → ℕ
 total d = needed d - d .opening
 
 -- what must have been there after i periods: R_i, and Z with it once the day is over
+abbrev pub dueOf : (last : Bool) (demanded closing : ℕ) → ℕ
+dueOf last demanded closing = cond last (demanded + closing) demanded
+
 abbrev pub dueTo : Day → ℕ → ℕ
-dueTo d i = cond (leb (periods d) i) (demandTo d i + d .closing) (demandTo d i)
+dueTo d i = dueOf (eqb i (periods d)) (demandTo d i) (d .closing)
 
 -- what must have been made after i periods: R_i − A, never below 0, and T once the day is over
 abbrev pub netTo : Day → ℕ → ℕ
 netTo d i = dueTo d i - d .opening
 
+pub due-least : (last : Bool) (demanded closing : ℕ) → demanded ≤ dueOf last demanded closing
+due-least true demanded closing = omega arith
+due-least false demanded closing = omega arith
+
 pub net-before : (d : Day) (i : ℕ) → i < periods d → netTo d i ≡ demandTo d i - d .opening
-net-before d i l = rw (lt-leb _ _ l) refl
+net-before d i l = rw (ne-eqb i (periods d) (λ e. omega arith)) refl
 
 pub net-end : (d : Day) → netTo d (periods d) ≡ total d
-net-end d = rw (le-leb (periods d) (periods d) (omega arith)) refl
+net-end d = rw (eq-eqb (periods d) (periods d) refl) refl

@@ -136,7 +136,7 @@ dayIn s = record {
   closing = chargeIn 2 s;
 }
 
--- the bytes of numbers; the head; a period's body and record; the file of a day
+-- the bytes of numbers; the head; a period's body and record; the file of a day: the head, the period records, the end record
 abbrev pub bytes2 : ℕ → List ℕ
 bytes2 v = v / 256 ∷ v % 256 ∷ []
 
@@ -152,10 +152,10 @@ fieldsOf demand capacity setup unit holding = bytes2 demand ++ bytes2 capacity +
 abbrev pub recordOf : Day → ℕ → List ℕ
 recordOf d k = periodKind ∷ fieldsOf (at (d .demand) k) (at (d .capacity) k) (at (d .setup) k) (at (d .unit) k) (at (d .holding) k)
 
--- the head and the first k period records
+-- the first k period records
 abbrev pub recordsOf : Day → ℕ → List ℕ
-recordsOf d zero = headOf (d .opening) (d .closing)
+recordsOf d zero = []
 recordsOf d (suc k) = recordsOf d k ++ recordOf d k
 
 abbrev pub fileOf : Day → List ℕ
-fileOf d = recordsOf d (periods d) ++ endKind ∷ bytes2 (periods d)
+fileOf d = headOf (d .opening) (d .closing) ++ (recordsOf d (periods d) ++ endKind ∷ bytes2 (periods d))

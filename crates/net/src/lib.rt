@@ -17,7 +17,7 @@ pub fn fill(demand: &[u16], net: &mut [u16], ends: Ends)
     let mut i = 0;
     while i < demand.len() {
         demanded += demand[i] as u64;
-        let next = checks::net_to(demanded, i + 1, demand.len(), ends);
+        let next = checks::net_to(demanded, i + 1 == demand.len(), ends);
         net[i] = (next - made) as u16;
         made = next;
         i += 1;
