@@ -1,6 +1,6 @@
 //! Makes a failing input smaller as long as it still fails, and prints it.
 use crate::input::{Call, Input};
-use crate::plain::Day;
+use crate::plain::{self, Day};
 use std::time::{Duration, Instant};
 
 /// Smaller numbers to try in place of one.
@@ -49,7 +49,18 @@ fn steps(input: &Input) -> Vec<Input> {
         next.plans = input.plans.iter().map(|plan| without(plan, i)).collect();
         tries.push(next);
     }
-    // records of the file: the first may have 5 bytes
+    // a period of a file that is whole, and of its end's count
+    if let Ok(records) = plain::walk(&input.file) {
+        let count = (records.periods() as u16).wrapping_sub(1).to_be_bytes();
+        for &body in &records.bodies {
+            let mut file = input.file.clone();
+            file.drain(body - 1..body + plain::PERIOD_BODY);
+            let end = file.len() - plain::END_BODY;
+            file[end..].copy_from_slice(&count);
+            tries.push(Input { file, ..input.clone() });
+        }
+    }
+    // records of any file: the first may have 5 bytes
     for (first, length) in [(0, 5), (0, 17), (5, 17)] {
         for at in (first..input.file.len()).step_by(length) {
             let mut next = input.clone();

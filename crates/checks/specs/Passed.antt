@@ -21,7 +21,8 @@ use Rattle.day.specs.Sums.{at}
 use Rattle.day.specs.Find.{find, none-found, nothing-found, some-found}
 use Rattle.day.specs.Day.{Day, periods, maxPeriods, maxDemand, maxCapacity, maxSetup, maxRate, maxTotal}
 use Rattle.day.specs.Day.{demandTo, capacityTo, needed, total, netTo, net-before}
-use Rattle.day.specs.Refusals.{numberOf, periodOf, refuseAt, anywhere, first, badCount, badLengths, aboveLimit, badValue, tableTests, badTotal, badOpening, totalTests, dayTests}
+use Rattle.day.specs.Refusals.{numberOf, periodOf, refuseAt, anywhere, first, badCount, badLengths, aboveLimit, badValue, tableTests}
+use Rattle.day.specs.Refusals.{badTotal, badOpening, totalTests, dayTests}
 use Rattle.day.specs.Refusals.{badAreas, badSlots, short, shortage, differs, unequal, binds, binding}
 use Rattle.day.specs.Tests.{first-split, first-passed, first-one, not-refused, nowhere, neither}
 use Rattle.day.specs.Outcome.{Path, Sizes, Roomy, memoryTests, pathTests, refusal}

@@ -35,10 +35,10 @@ dayOf demand capacity setup unit holding ends = record {
   closing = ends .closing;
 }
 
--- both 0, where they are not given: the day of tables alone
 abbrev pub endsWith : (opening closing : ℕ) → Ends
 endsWith opening closing = record { opening = opening; closing = closing }
 
+-- both 0, where they are not given: the day of tables alone
 abbrev pub noEnds : Ends
 noEnds = endsWith 0 0
 

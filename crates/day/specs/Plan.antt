@@ -1,5 +1,6 @@
 -- Plans of a day: the conditions that they keep, what they cost, how two of equal cost are told apart, and the plan wanted.
--- After the report, section 2, with the charge at both ends of document 02, 2.1. A plan is a function from periods to amounts; only its values in the day's periods count.
+-- After the report, section 2, with the charge at both ends of document 02, 2.1.
+-- A plan is a function from periods to amounts; only its values in the day's periods count.
 -- Main definition: `Optimal`. Assumes nothing.
 use mathlib.Core.Path.{_≡_}
 use mathlib.Core.Logic.{_⊎_}

@@ -110,7 +110,8 @@ module _ (d : Day) (x y : ℕ → ℕ) (same : (k : ℕ) → k < periods d → x
   cost-alike = sum-ext (costAt d x) (costAt d y) (periods d) (λ k l. let e = same k l in let s = sums-alike k l in rw (s, e) refl)
 
 -- of a fact about every feasible plan
-abbrev pub everyFeasible : (d : Day) {P : (ℕ → ℕ) → Type 0} → ((y : ℕ → ℕ) → Option (P y)) → Option ((y : ℕ → ℕ) → Feasible d y → P (at (listOf y (periods d))))
+abbrev pub everyFeasible : (d : Day) {P : (ℕ → ℕ) → Type 0} → ((y : ℕ → ℕ) → Option (P y))
+    → Option ((y : ℕ → ℕ) → Feasible d y → P (at (listOf y (periods d))))
 everyFeasible d p =
     Option·map
     (λ all y f. all y (f .within) (feasible-alike d y (at (listOf y (periods d))) (λ k l. sym (at-listOf y (periods d) k l)) f))

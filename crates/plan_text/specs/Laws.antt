@@ -25,6 +25,7 @@ use Rattle.checks.specs.Passed.{admitted}
 use Rattle.dayfile.specs.declared.ReadAnswer.{ReadAnswer}
 use Rattle.dayfile.specs.declared.ReadAnswer.the-variants as Read
 use Rattle.dayfile.specs.Answers.{shortest, badRead, firstOf, Reading}
+use Rattle.dayfile.specs.Passed.{read-given}
 use Rattle.dayfile.specs.Layout.{day-in-front}
 use Rattle.dayfile_reader.specs.Tables.{read-passed}
 use Rattle.lines.specs.Text.{lineBytes, planLine, amountLine, refusalLine, HavePeriods, Put, PutWithin, put-put}
@@ -128,7 +129,8 @@ read-text s after answer n ends {text} {later} {r} e run p =
     let q = subst (λ (a : ReadAnswer). Reading s blankDay a after) e run in
     let passed : badRead s 96 ≡ none = subst (λ (k : ℕ). badRead s k ≡ none) blank-shortest (q .0) in
     let cells : n - 0 ≡ n = omega arith in
-    let front : firstOf (n - 0) after ends ≡ dayIn s = rw cells (day-in-front s n blankDay after (first-value (q .1)) (q .2)) in
+    let given = read-given s n ends (q .1) in
+    let front : firstOf (n - 0) after ends ≡ dayIn s = rw cells (day-in-front s n ends blankDay after (given .0) (given .1) (q .2)) in
     rw (passed, first-one (refusal full (dayIn s) lent)) (subst (λ (d : Day). PrintedDay d text later r) front p)
 
 -- the line of the reader's refusal

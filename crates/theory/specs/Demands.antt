@@ -39,7 +39,8 @@ module _ (d : Day) (fits : Fits d) where
     λ s.
         let c = subst (Covered (modelOf p)) (periods-is d) (covered-iff p .1 (supplied-iff d (fits .nonempty) .0 s)) in
         let e = floor-is d (fits .nonempty) (periods d) (omega arith) in
-        let w = interval (modelOf p) (model-rising p) (periods d) c (total d) (omega (arith, e, net-end d)) (omega (arith, e, net-end d, c (periods d) (omega arith))) in
+        let h = c (periods d) (omega arith) in
+        let w = interval (modelOf p) (model-rising p) (periods d) c (total d) (omega (arith, e, net-end d)) (omega (arith, e, net-end d, h)) in
         (w .0, model-feasible d fits (w .0) (w .1)),
   )
 

@@ -3,14 +3,14 @@
 -- `bounded`, a day within the limits gives what the loops rely on; `net-listed`, what a loop that fills the net needs ends with.
 -- Assumes nothing.
 use mathlib.Core.Path.{_≡_, sym, ap, _∙_}
-use mathlib.Core.List.{List}
+use mathlib.Core.List.{List, []}
 use mathlib.Core.Logic.{_↔_}
 use Prim.Native.Nat.{ℕ, zero, suc, _+_, _-_, _≤_, _<_}
 use native.Mathlib.Decide.{decLt}
 use native.Mathlib.Omega.{arith}
 use lib.ListN.{length}
-use Rattle.day.specs.Sums.{at, sumTo, sum-ext, sum-grows, listOf, at-listOf, length-listOf, listOf-at}
-use Rattle.day.specs.Day.{Day, periods, demandTo, capacityTo, needed, total, netTo, net-before, net-end, maxPeriods, maxTotal}
+use Rattle.day.specs.Sums.{at, sumTo, sum-ext, listOf, at-listOf, length-listOf, listOf-at}
+use Rattle.day.specs.Day.{Day, dayOf, endsOf, periods, demandTo, capacityTo, needed, total, netTo, net-before, net-end, maxPeriods, maxTotal}
 use Rattle.checks.specs.Passed.{DayLimits}
 use Rattle.theory.specs.Problem.{Problem, problemWith, Bounded, Supplied}
 use Rattle.theory.specs.Problem as Problem
@@ -37,7 +37,8 @@ pub record NetFits (d : Day) : Type 0 where
   pub few : periods d ≤ maxPeriods
   pub small : needed d ≤ maxTotal
 
-pub limits-net : {d : Day} → DayLimits d → NetFits d
+-- of a day's demands and ends alone, as the function has it that fills the net needs
+pub limits-net : {d : Day} → DayLimits d → NetFits (dayOf (d .demand) [] [] [] [] (endsOf d))
 limits-net g = record { nonempty = g .limits .nonempty; few = g .limits .few; small = g .small }
 
 pub limits-fit : {d : Day} → DayLimits d → Fits d

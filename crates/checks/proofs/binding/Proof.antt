@@ -63,7 +63,8 @@ loop-again c =
     let p = c .before .before .before .before .before .before .before in
     let d = given p in
     let i = p .loop .i in
-    let free = le-ltb (at (d .capacity) i) (total d - (demandTo d i - d .opening)) (omega (arith, remains (c .before .before .before), c .before .if1 .left)) in (
+    let enough = remains (c .before .before .before) in
+    let free = le-ltb (at (d .capacity) i) (total d - (demandTo d i - d .opening)) (omega (arith, enough, c .before .if1 .left)) in (
       searched-next (p .loop .inv .0) free (omega arith),
       rw add-one (omega arith),
       omega (arith, c .shared-slice-known4 .given i),

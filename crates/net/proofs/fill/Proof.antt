@@ -8,7 +8,7 @@ use native.Mathlib.Omega.{arith}
 use lib.ListN.{length, set, length-set}
 use lib.Seq.{getD-set-same, getD-set-other}
 use Rattle.day.specs.Sums.{at, below}
-use Rattle.day.specs.Day.{Day, dayOf, periods, demandTo, netTo, maxCapacity}
+use Rattle.day.specs.Day.{Day, dayOf, periods, demandTo, netTo, maxPeriods, maxCapacity}
 use Rattle.theory.specs.Net.{netNeed, NetFits, net-zero, net-rises, net-below, net-listed}
 use Rattle.net.proofs.fill.Statement.{statement}
 use Rattle.net.proofs.fill.Tie as tie
@@ -67,14 +67,21 @@ answered c =
     let sum : p .loop .demanded + at (given p .demand) (p .loop .i) ≡ demandTo (given p) (suc (p .loop .i)) = omega (arith, p .loop .inv .sum) in
     rw (add-one, sum) at (c .net-to .ensures)
 
+-- R of the periods passed, and the need at hand, are low
+summed : (c : tie.After-shared-slice-known2 Inv-loop μ-loop)
+    → let p = c .before .before in p .loop .demanded + at (given p .demand) (p .loop .i) ≤ maxPeriods * maxCapacity
+summed c =
+    let p = c .before .before in
+    omega (arith, c .shared-slice-known2 .given (p .loop .i), p .loop .inv .low, c .before .loop-test .taken, p .before .before .before .pre .1 .few)
+
 cast-demanded : tie.Need-cast-demanded Inv-loop μ-loop
 cast-demanded c = omega (arith, c .shared-slice-known2 .given (c .before .before .loop .i))
 
 add-demanded : tie.Need-add-demanded Inv-loop μ-loop
-add-demanded c = let p = c .before .before in omega (arith, c .shared-slice-known2 .given (p .loop .i), p .loop .inv .low, p .before .before .before .pre .1 .few)
+add-demanded c = omega (arith, summed c)
 
 net-to-requires : tie.Need-net-to-requires Inv-loop μ-loop
-net-to-requires c κs = let p = c .before .before in omega (arith, c .shared-slice-known2 .given (p .loop .i), p .loop .inv .low, p .before .before .before .pre .1 .few)
+net-to-requires c κs = omega (arith, summed c)
 
 sub-net : tie.Need-sub-net Inv-loop μ-loop
 sub-net c = let p = at-loop c in omega (arith, answered c, p .loop .inv .is, net-rises (given p) (p .loop .i) (c .before .before .loop-test .taken))
