@@ -80,14 +80,14 @@ module _ (d : Day) (m : Memory) (ok : Admitted uncapped d (sizesOf m)) where
   same-rows = refl
 
   -- The net needs as they were filled in.
-  module _ (net : List ℕ) (e : net ≡ netNeeds d) where
+  module _ (net : List ℕ) (is-net : net ≡ netNeeds d) where
     abbrev loops : Problem
     loops = uncapacitated net (d .setup) (d .unit) (d .holding)
 
     pub solvable : Solvable loops m
     solvable =
         let size = periods-is d in
-        rw e
+        rw is-net
         (record {
           ready = record {
             bounded = loops-bounded;
@@ -100,7 +100,7 @@ module _ (d : Day) (m : Memory) (ok : Admitted uncapped d (sizesOf m)) where
     -- The memory once the plan is found.
     module _ (after : Memory) (solved : Solved loops m after) where
       left : Solved (loopsOf d) m after
-      left = rw e at solved
+      left = rw is-net at solved
 
       is : after .slots ≡ plan ++ drop n (m .slots)
       is = left .slots ∙ ap (λ (s : Solution). s .plan ++ drop n (m .slots)) same-rows

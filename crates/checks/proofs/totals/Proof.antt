@@ -1,6 +1,9 @@
 -- `checks::totals` meets its contract: each way gives the values of the two tests. Assumes nothing.
+use mathlib.Core.Path.{_≡_}
+use mathlib.Core.Bool.{false}
 use mathlib.Core.List.{[]}
 use native.Mathlib.Omega.{arith}
+use lib.Dec.{ltb}
 use borrow.Author.Needs.{needs}
 use borrow.Author.Tests.{lt-ltb, le-ltb}
 use Rattle.day.specs.Day.{Day, dayOf, needed, maxTotal}
@@ -14,23 +17,19 @@ given c = let a = c .before .before .args in dayOf (a .demand .now) [] [] [] [] 
 returns : tie.Need-returns
 returns c = simp (lt-ltb maxTotal (needed (given (c .before))) (omega (arith, c .before .required .ensures .is, c .if1 .taken)))
 
+-- 4 passed
+small : (c : tie.Else1) → ltb maxTotal (needed (given (c .before))) ≡ false
+small c = le-ltb maxTotal (needed (given (c .before))) (omega (arith, c .before .required .ensures .is, c .if1 .left))
+
 returns-2 : tie.Need-returns-2
 returns-2 c =
     let p = c .before .before .before in
-    let e = p .required .ensures .is in
-    simp (
-      le-ltb maxTotal (needed (given p)) (omega (arith, e, c .before .before .if1 .left)),
-      lt-ltb (needed (given p)) (given p .opening) (omega (arith, e, c .if2 .taken)),
-    )
+    simp (small (c .before .before), lt-ltb (needed (given p)) (given p .opening) (omega (arith, p .required .ensures .is, c .if2 .taken)))
 
 returns-3 : tie.Need-returns-3
 returns-3 c =
     let p = c .before .before .before in
-    let e = p .required .ensures .is in
-    simp (
-      le-ltb maxTotal (needed (given p)) (omega (arith, e, c .before .before .if1 .left)),
-      le-ltb (needed (given p)) (given p .opening) (omega (arith, e, c .if2 .left)),
-    )
+    simp (small (c .before .before), le-ltb (needed (given p)) (given p .opening) (omega (arith, p .required .ensures .is, c .if2 .left)))
 
 pub totals-spec : {M : Type 1} → statement M
 totals-spec = tie.close (tie.spec (λ c κs. search needs) returns (λ c. search needs) returns-2 returns-3)
