@@ -1,9 +1,9 @@
--- `trials::paths::total` meets its contract: the sum so far is at most 4,097. Assumes nothing.
+-- `trials::paths::summed` meets its contract: the sum so far is at most 4,097. Assumes nothing.
 use Prim.Native.Nat.{_-_, _≤_}
 use lib.ListN.{length}
 use borrow.Author.Needs.{needs}
-use Rattle.trials.proofs.paths.total.Statement.{statement}
-use Rattle.trials.proofs.paths.total.Tie as tie
+use Rattle.trials.proofs.paths.summed.Statement.{statement}
+use Rattle.trials.proofs.paths.summed.Tie as tie
 
 abbrev Inv-loop : tie.InvT-loop
 Inv-loop demand sum₀ i₀ sum i = (sum ≤ 4097) × (i ≤ length demand)
@@ -11,8 +11,8 @@ Inv-loop demand sum₀ i₀ sum i = (sum ≤ 4097) × (i ≤ length demand)
 abbrev μ-loop : tie.MeasureT-loop
 μ-loop demand sum₀ i₀ sum i = length demand - i
 
-pub total-spec : {M : Type 1} → statement M
-total-spec =
+pub summed-spec : {M : Type 1} → statement M
+summed-spec =
     tie.close
     (tie.spec
     Inv-loop μ-loop (λ c. search needs) (λ c. search needs) (λ c. search needs) (λ c κs. search needs) (λ c. search needs)
