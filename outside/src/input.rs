@@ -583,7 +583,7 @@ pub fn changed(random: &mut Random, call: Call, size: Size, ends: Ends) -> Input
         let which = random.index(input.lent.len());
         input.lent[which] = random.index(input.lent[which] + 2);
     } else if call.path() == Some(Path::Full) {
-        // the areas go by the demand, which may have changed; a full one is too large to lend every time
+        // the areas go by T, which may have changed; a full one is too large to lend every time
         let needed = input.needed();
         if needed[1] < 100_000 {
             input.lent = needed;

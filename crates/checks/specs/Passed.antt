@@ -1,4 +1,4 @@
--- What a caller of the tests learns. Main statements, in document 01's order of the tests:
+-- What a caller of the tests learns. Main statements, in the documents' order of the tests:
 --     tables-passed, day-passed             1, 2, 3: what `Limits` says of the tables; 4, 14
 --     shortage-passed, shortage-refused     7: what must have been made is at most C throughout; the first period in which it is not
 --     equal-passed                          8
@@ -6,21 +6,22 @@
 --     admitted                              all tests of a path: what its work relies on
 -- Assumes nothing.
 use mathlib.Core.Path.{_≡_, refl, sym, ap, _∙_}
-use mathlib.Core.Bool.{Bool, false, not, _||_}
+use mathlib.Core.Bool.{Bool, false, not, _||_, or-false}
 use mathlib.Core.List.{List, [], _∷_}
 use mathlib.Core.Option.{Option, none, some, Option·none-ne-some, Option·some-ne-none, Option·some-injective}
 use Prim.Native.Nat.{ℕ, zero, suc, _+_, _-_, _≤_, _<_}
+use native.Mathlib.Decide.{decLt}
 use native.Mathlib.Omega.{arith}
 use lib.Dec.{ltb, eqb}
 use lib.ListN.{length}
-use borrow.Author.Tests.{ltb-true, ltb-false, le-ltb, eqb-true, eqb-false, eq-eqb, ne-eqb, not-false}
+use borrow.Author.Tests.{ltb-true, ltb-false, lt-ltb, le-ltb, eqb-true, eqb-false, eq-eqb, ne-eqb, not-false}
 use Rattle.day.specs.declared.Refusal.{Refusal}
-use Rattle.day.specs.declared.Refusal.the-variants.{PeriodCount, TableLength, AboveLimit, TotalDemand, ShortArea, FewSlots, SurplusCharge}
+use Rattle.day.specs.declared.Refusal.the-variants.{PeriodCount, TableLength, AboveLimit, TotalDemand, ShortArea, FewSlots, SurplusInventory}
 use Rattle.day.specs.declared.Refusal.the-variants.{Shortage, UnequalCapacities, BindingCapacity}
 use Rattle.day.specs.Sums.{at}
 use Rattle.day.specs.Find.{find, none-found, nothing-found, some-found}
 use Rattle.day.specs.Day.{Day, periods, maxPeriods, maxDemand, maxCapacity, maxSetup, maxRate, maxTotal}
-use Rattle.day.specs.Day.{demandTo, capacityTo, needed, total, netTo, net-before}
+use Rattle.day.specs.Day.{demandTo, capacityTo, required, total, netTo, net-before, net-end}
 use Rattle.day.specs.Refusals.{numberOf, periodOf, refuseAt, anywhere, first, badCount, badLengths, aboveLimit, badValue, tableTests}
 use Rattle.day.specs.Refusals.{badTotal, badOpening, totalTests, dayTests}
 use Rattle.day.specs.Refusals.{badAreas, badSlots, short, shortage, differs, unequal, binds, binding}
@@ -55,7 +56,7 @@ pub record Limits (d : Day) : Type 0 where
   pub lengths : SameLengths d
   pub within : (k : ℕ) → k < periods d → Within d k
 
--- what test 7 refuses, by document 01's numbers: the first period k + 1 by whose end more must have been made than C
+-- what test 7 refuses, by number and period: the first period k + 1 by whose end more must have been made than C
 pub record FirstShort (d : Day) (r : Refusal) : Type 0 where
   pub k : ℕ
   pub number : numberOf r ≡ 7
@@ -136,8 +137,8 @@ tables-passed d e =
 -- what tests 1 to 4 and 14 leave
 pub record DayLimits (d : Day) : Type 0 where
   pub limits : Limits d
-  pub small : needed d ≤ maxTotal
-  pub used : d .opening ≤ needed d
+  pub small : required d ≤ maxTotal
+  pub used : d .opening ≤ required d
 
 pub day-passed : (d : Day) → first (dayTests d) ≡ none → DayLimits d
 day-passed d e =
@@ -145,8 +146,8 @@ day-passed d e =
     let s = first-split (badTotal d ∷ []) (badOpening d ∷ []) (t .1) in
     record {
       limits = tables-passed d (t .0);
-      small = ltb-false _ _ (not-refused (ltb maxTotal (needed d)) TotalDemand (rw first-one at (s .0)));
-      used = ltb-false _ _ (not-refused (ltb (needed d) (d .opening)) SurplusCharge (rw first-one at (s .1)));
+      small = ltb-false _ _ (not-refused (ltb maxTotal (required d)) TotalDemand (rw first-one at (s .0)));
+      used = ltb-false _ _ (not-refused (ltb (required d) (d .opening)) SurplusInventory (rw first-one at (s .1)));
     }
 
 -- 5, 6
@@ -164,9 +165,29 @@ memory-passed P d s e =
       slots = ltb-false _ _ (not-refused (ltb (s .slots) n) FewSlots (rw first-one at (t .1)));
     }
 
--- 7: never more must have been made than C
+-- of two bounds the larger decides
+larger-decides : (c a b : ℕ) → a ≤ b → (ltb c a || ltb c b) ≡ ltb c b
+larger-decides c a b l = go (decLt c a)
+  where
+    go : Dec (c < a) → (ltb c a || ltb c b) ≡ ltb c b
+    go (yes h) = rw (lt-ltb c a h, lt-ltb c b (omega arith)) refl
+    go (no h) = rw (le-ltb c a (omega arith)) refl
+
+-- 7: by the end of the period more must have been made than C
+pub short-is : (d : Day) (k : ℕ) → k < periods d → short d k ≡ ltb (capacityTo d (suc k)) (netTo d (suc k))
+short-is d k l = go (decLt (suc k) (periods d))
+  where
+    go : Dec (suc k < periods d) → short d k ≡ ltb (capacityTo d (suc k)) (netTo d (suc k))
+    go (yes h) = rw (net-before d (suc k) h, ne-eqb (suc k) (periods d) (λ e. omega arith)) (or-false _)
+    go (no h) =
+        let e : suc k ≡ periods d = omega arith in
+        let net : netTo d (suc k) ≡ total d = ap (netTo d) e ∙ net-end d in
+        rw (net, eq-eqb (suc k) (periods d) e)
+        (larger-decides (capacityTo d (suc k)) (demandTo d (suc k) - d .opening) (total d) (omega (arith, ap (demandTo d) e)))
+
+-- never more must have been made than C
 pub shortage-passed : (d : Day) → shortage d ≡ none → (k : ℕ) → k < periods d → netTo d (suc k) ≤ capacityTo d (suc k)
-shortage-passed d e k l = ltb-false _ _ (none-found (short d) (periods d) (nowhere Shortage _ e) k l)
+shortage-passed d e k l = ltb-false _ _ (sym (short-is d k l) ∙ none-found (short d) (periods d) (nowhere Shortage _ e) k l)
 
 pub shortage-refused : (d : Day) (r : Refusal) → shortage d ≡ some r → FirstShort d r
 shortage-refused d r e = go (find (short d) (periods d)) refl e
@@ -180,8 +201,8 @@ shortage-refused d r e = go (find (short d) (periods d)) refl e
           number = sym (ap numberOf (Option·some-injective _ _ s));
           period = sym (ap periodOf (Option·some-injective _ _ s));
           inside = f .inside;
-          above = ltb-true _ _ (f .passes);
-          earlier = λ j l. ltb-false _ _ (f .first j l);
+          above = ltb-true _ _ (sym (short-is d k (f .inside)) ∙ f .passes);
+          earlier = λ j l. ltb-false _ _ (sym (short-is d j (omega (arith, f .inside))) ∙ f .first j l);
         }
 
 -- 8: one capacity throughout

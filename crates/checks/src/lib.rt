@@ -1,4 +1,4 @@
-//! Document 01's tests on lent tables and memory, by its numbers: each alone, and in the order in which calls apply them.
+//! The documents' tests on lent tables and memory, by their numbers: each alone, and in the order in which calls apply them.
 //! Every function answers what the conditions say that it cites from the crate day. What a caller learns from an answer is in specs/.
 ghost use mathlib.Core.Path.{_≡_};
 ghost use mathlib.Core.Bool.{_||_};
@@ -7,7 +7,7 @@ ghost use Prim.Native.Nat.{_+_, _-_, _*_, _^_, _≤_, _<_};
 ghost use lib.Dec.{ltb};
 ghost use lib.ListN.{length};
 ghost use Rattle.day.specs.Sums.{Term, at, sumTo};
-ghost use Rattle.day.specs.Day.{dayOf, tablesOf, needed, dueOf, total, maxPeriods, maxDemand, maxCapacity, maxSetup, maxRate, maxSum};
+ghost use Rattle.day.specs.Day.{dayOf, tablesOf, required, dueOf, total, maxPeriods, maxDemand, maxCapacity, maxSetup, maxRate, maxSum};
 ghost use Rattle.day.specs.Lent.{dayBefore, tablesBefore};
 ghost use Rattle.day.specs.Refusals.{checked, first, badCount, badLengths, badValue, tableTests, totalTests, dayTests, badAreas, badSlots};
 ghost use Rattle.day.specs.Refusals.{shortage, unequal, binding};
@@ -98,15 +98,15 @@ pub fn tables(
     values(demand, capacity, setup, unit, holding)
 }
 
-// R over the day; the sum needs more than 16 bits
-pub fn summed(demand: &[u16]) -> u64
-    requires { ⌜ length (now demand) ≤ maxPeriods ⌝ }
-    ensures { λ r. ⌜ Term (sumTo (at (now (demand .entry))) (length (now (demand .entry)))) (maxPeriods * maxCapacity) r ⌝ }
+// The sum of a table, R over the day of the needs; it needs more than 16 bits
+pub fn summed(table: &[u16]) -> u64
+    requires { ⌜ length (now table) ≤ maxPeriods ⌝ }
+    ensures { λ r. ⌜ Term (sumTo (at (now (table .entry))) (length (now (table .entry)))) (maxPeriods * maxCapacity) r ⌝ }
 {
     let mut sum: u64 = 0;
     let mut i = 0;
-    while i < demand.len() {
-        sum += demand[i] as u64;
+    while i < table.len() {
+        sum += table[i] as u64;
         i += 1;
     }
     sum
@@ -115,7 +115,7 @@ pub fn summed(demand: &[u16]) -> u64
 // R + Z
 fn required(demand: &[u16], ends: Ends) -> u64
     requires { ⌜ length (now demand) ≤ maxPeriods ⌝ }
-    ensures { λ r. ⌜ Term (needed (dayOf (now (demand .entry)) [] [] [] [] ends)) maxSum r ⌝ }
+    ensures { λ r. ⌜ Term (required (dayOf (now (demand .entry)) [] [] [] [] ends)) maxSum r ⌝ }
 {
     summed(demand) + (ends.closing as u64)
 }
@@ -123,7 +123,7 @@ fn required(demand: &[u16], ends: Ends) -> u64
 // T, what is made over the day
 pub fn total(demand: &[u16], ends: Ends) -> u64
     requires { ⌜ length (now demand) ≤ maxPeriods ⌝ }
-    requires { ⌜ ends .opening ≤ needed (dayOf (now demand) [] [] [] [] ends) ⌝ }
+    requires { ⌜ ends .opening ≤ required (dayOf (now demand) [] [] [] [] ends) ⌝ }
     ensures { λ r. ⌜ Term (total (dayOf (now (demand .entry)) [] [] [] [] ends)) maxSum r ⌝ }
 {
     required(demand, ends) - (ends.opening as u64)
@@ -139,7 +139,7 @@ fn totals(demand: &[u16], ends: Ends) -> Check
         return Check::Refused(Refusal::TotalDemand);
     }
     if required < (ends.opening as u64) {
-        return Check::Refused(Refusal::SurplusCharge);
+        return Check::Refused(Refusal::SurplusInventory);
     }
     Check::Passed
 }
@@ -249,7 +249,7 @@ fn equal(demand: &[u16], capacity: &[u16]) -> Check
 fn binding(demand: &[u16], capacity: &[u16], ends: Ends) -> Check
     requires { ⌜ length (now capacity) ≡ length (now demand) ⌝ }
     requires { ⌜ length (now demand) ≤ maxPeriods ⌝ }
-    requires { ⌜ ends .opening ≤ needed (dayOf (now demand) [] [] [] [] ends) ⌝ }
+    requires { ⌜ ends .opening ≤ required (dayOf (now demand) [] [] [] [] ends) ⌝ }
     ensures { λ r. ⌜ r ≡ checked (binding (dayOf (now (demand .entry)) (now (capacity .entry)) [] [] [] ends)) ⌝ }
 {
     let total = total(demand, ends);
@@ -270,7 +270,7 @@ fn binding(demand: &[u16], capacity: &[u16], ends: Ends) -> Check
 fn own(kind: PathKind, demand: &[u16], capacity: &[u16], ends: Ends) -> Check
     requires { ⌜ length (now capacity) ≡ length (now demand) ⌝ }
     requires { ⌜ length (now demand) ≤ maxPeriods ⌝ }
-    requires { ⌜ ends .opening ≤ needed (dayOf (now demand) [] [] [] [] ends) ⌝ }
+    requires { ⌜ ends .opening ≤ required (dayOf (now demand) [] [] [] [] ends) ⌝ }
     ensures { λ r. ⌜ r ≡ checked (first (pathOf kind .own (dayOf (now (demand .entry)) (now (capacity .entry)) [] [] [] ends))) ⌝ }
 {
     match kind {
@@ -318,7 +318,7 @@ fn room(
 ) -> Check
     requires { ⌜ length (now capacity) ≡ length (now demand) ⌝ }
     requires { ⌜ length (now demand) ≤ maxPeriods ⌝ }
-    requires { ⌜ ends .opening ≤ needed (dayOf (now demand) [] [] [] [] ends) ⌝ }
+    requires { ⌜ ends .opening ≤ required (dayOf (now demand) [] [] [] [] ends) ⌝ }
     ensures { λ r. ⌜
         r ≡ checked (first (pathTests (pathOf kind)
         (dayOf (now (demand .entry)) (now (capacity .entry)) [] [] [] ends)

@@ -84,12 +84,12 @@ abbrev pub capacityTo : Day → ℕ → ℕ
 capacityTo d i = sumTo (at (d .capacity)) i
 
 -- R + Z: what the day delivers and hands on
-abbrev pub needed : Day → ℕ
-needed d = demandTo d (periods d) + d .closing
+abbrev pub required : Day → ℕ
+required d = demandTo d (periods d) + d .closing
 
 -- T = R + Z − A: what is made over the day
 abbrev pub total : Day → ℕ
-total d = needed d - d .opening
+total d = required d - d .opening
 
 -- what must have been there after i periods: R_i, and Z with it once the day is over
 abbrev pub dueOf : (last : Bool) (demanded closing : ℕ) → ℕ

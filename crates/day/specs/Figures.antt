@@ -1,4 +1,4 @@
--- An answer in document 01's figures: the number and the period of what it refuses, and the values that it gives.
+-- An answer in the documents' figures: the number and the period of what it refuses, and the values that it gives.
 -- Each answer's figures are defined in its own crate; those of a path's answer here, and the promise of a call that answers with its tests.
 -- Main definitions: `Figures`, `answerFigures`, `Checks`; main statements: `same-values`, `checks-is`, `is-checks`. Assumes nothing.
 use mathlib.Core.Path.{_≡_, refl, sym, ap, subst}

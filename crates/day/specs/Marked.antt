@@ -9,7 +9,7 @@ use native.Mathlib.Decide.{decLe, decLt, ℕ-discrete}
 use lib.ListN.{length, replicate}
 use Rattle.day.specs.declared.Refusal.{Refusal}
 use Rattle.day.specs.Sums.{at}
-use Rattle.day.specs.Day.{Day, periods, capacityTo, netTo}
+use Rattle.day.specs.Day.{Day, tablesOf, periods, capacityTo, netTo}
 use Rattle.day.specs.Plan.{Feasible, Optimal, cost, setups}
 use Rattle.day.specs.Refusals.{numberOf, periodOf, first}
 use Rattle.day.specs.Outcome.{Sizes, Path, Roomy, refusal, dayRefusal, roomy-refusal}
@@ -52,15 +52,9 @@ marked =
 
 -- the day of a row
 abbrev pub dayOfRow : MarkedRow → Day
-dayOfRow r = record {
-  demand = r .demand;
-  capacity = r .capacity;
-  setup = replicate (length (r .demand)) (r .setup);
-  unit = replicate (length (r .demand)) (r .unit);
-  holding = replicate (length (r .demand)) (r .holding);
-  opening = 0;
-  closing = 0;
-}
+dayOfRow r =
+    let all = replicate (length (r .demand)) in
+    tablesOf (r .demand) (r .capacity) (all (r .setup)) (all (r .unit)) (all (r .holding))
 
 -- a plan of the day, and what it costs
 pub record Costs (d : Day) (x : List ℕ) (c : ℕ) : Type 0 where

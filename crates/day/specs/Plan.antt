@@ -6,7 +6,7 @@ use mathlib.Core.Path.{_≡_}
 use mathlib.Core.Logic.{_⊎_}
 use Prim.Native.Nat.{ℕ, zero, suc, _+_, _-_, _*_, _≤_, _<_}
 use Rattle.day.specs.Sums.{at, sumTo}
-use Rattle.day.specs.Day.{Day, periods, demandTo, needed}
+use Rattle.day.specs.Day.{Day, periods, demandTo, required}
 
 -- I_i = A + X_i − R_i, the charge left after i periods; cut off at 0, which condition (2) rules out
 abbrev pub inventory : Day → (ℕ → ℕ) → ℕ → ℕ
@@ -38,7 +38,7 @@ pub record Feasible (d : Day) (x : ℕ → ℕ) : Type 0 where
   -- (2): demand is met on time, R_i ≤ A + X_i
   pub served : (k : ℕ) → k < periods d → demandTo d (suc k) ≤ d .opening + sumTo x (suc k)
   -- (3): Z is left at the end, A + X_n = R_n + Z
-  pub ends : d .opening + sumTo x (periods d) ≡ needed d
+  pub ends : d .opening + sumTo x (periods d) ≡ required d
   -- (4): no amount is above its period's capacity
   pub within : (k : ℕ) → k < periods d → x k ≤ at (d .capacity) k
 
@@ -66,8 +66,8 @@ pub record Optimal (d : Day) (x : ℕ → ℕ) : Type 0 where
   pub feasible : Feasible d x
   pub first : (y : ℕ → ℕ) → Feasible d y → Precedes (cost d) (periods d) x y
 
--- a run (report: regeneration interval): the periods a + 1 to b lie between two moments with empty store, the charge being above 0 in between;
--- it also begins and ends with the day
+-- a run (the report's regeneration interval, where A and Z are 0): the periods a + 1 to b lie between two moments with empty store, the charge
+-- being above 0 in between; it also begins and ends with the day
 pub record Run (d : Day) (x : ℕ → ℕ) (a b : ℕ) : Type 0 where
   pub ahead : a < b
   pub inside : b ≤ periods d

@@ -2,7 +2,7 @@
 -- A call's first refusal in order is `first` of a list of these; laws of such lists are in `Tests`. Conditions 10 to 13 are in `File`.
 -- Assumes nothing.
 use mathlib.Core.Path.{_≡_}
-use mathlib.Core.Bool.{Bool, true, false, not, _||_}
+use mathlib.Core.Bool.{Bool, true, false, not, _&&_, _||_}
 use mathlib.Core.List.{List, [], _∷_, _++_}
 use mathlib.Core.Option.{Option, none, some}
 use Prim.Native.Nat.{ℕ, suc, _-_}
@@ -11,13 +11,13 @@ use lib.ListN.{length}
 use Rattle.day.specs.declared.Refusal.{Refusal}
 use Rattle.day.specs.declared.Refusal.the-variants.{PeriodCount, TableLength, AboveLimit, TotalDemand, ShortArea, FewSlots, Shortage}
 use Rattle.day.specs.declared.Refusal.the-variants.{UnequalCapacities, BindingCapacity}
-use Rattle.day.specs.declared.Refusal.the-variants.{UnknownKind, TruncatedFile, WrongEnd, NoSuchPeriod, SurplusCharge}
+use Rattle.day.specs.declared.Refusal.the-variants.{UnknownKind, TruncatedFile, WrongEnd, NoSuchPeriod, SurplusInventory}
 use Rattle.day.specs.declared.Check.{Check}
 use Rattle.day.specs.declared.Check.the-variants.{Passed, Refused}
 use Rattle.day.specs.Sums.{at}
 use Rattle.day.specs.Find.{find}
 use Rattle.day.specs.Day.{Day, periods, maxPeriods, maxDemand, maxCapacity, maxSetup, maxRate, maxTotal}
-use Rattle.day.specs.Day.{demandTo, capacityTo, needed, total, netTo}
+use Rattle.day.specs.Day.{demandTo, capacityTo, required, total}
 
 -- the documents' number of a refusal
 abbrev pub numberOf : Refusal → ℕ
@@ -34,7 +34,7 @@ numberOf UnknownKind = 10
 numberOf TruncatedFile = 11
 numberOf WrongEnd = 12
 numberOf NoSuchPeriod = 13
-numberOf SurplusCharge = 14
+numberOf SurplusInventory = 14
 
 -- the period that it names, counted from 1; 0 where it names none
 abbrev pub periodOf : Refusal → ℕ
@@ -51,7 +51,7 @@ periodOf UnknownKind = 0
 periodOf TruncatedFile = 0
 periodOf WrongEnd = 0
 periodOf NoSuchPeriod = 0
-periodOf SurplusCharge = 0
+periodOf SurplusInventory = 0
 
 -- the refusal, where its condition holds
 abbrev pub refuse : Bool → Refusal → Option Refusal
@@ -72,7 +72,7 @@ abbrev pub first : List (Option Refusal) → Option Refusal
 first [] = none
 first (o ∷ rest) = orNext o (first rest)
 
--- r is given where o is a call's first refusal in order: it has document 01's number and period of that one, which fix it (`gives-is`)
+-- r is given where o is a call's first refusal in order: it has the documents' number and period of that one, which fix it (`gives-is`)
 pub record Gives (o : Option Refusal) (r : Refusal) : Type 0 where
   pub first : Refusal
   pub is : o ≡ some first
@@ -112,11 +112,11 @@ badValue d = refuseAt AboveLimit (find (aboveLimit d) (periods d))
 
 -- 4: R + Z above 4,096
 abbrev pub badTotal : Day → Option Refusal
-badTotal d = refuse (ltb maxTotal (needed d)) TotalDemand
+badTotal d = refuse (ltb maxTotal (required d)) TotalDemand
 
 -- 14: A above R + Z
 abbrev pub badOpening : Day → Option Refusal
-badOpening d = refuse (ltb (needed d) (d .opening)) SurplusCharge
+badOpening d = refuse (ltb (required d) (d .opening)) SurplusInventory
 
 -- 5: a work area shorter than the path needs: cost cells, choice cells
 abbrev pub badAreas : (costs needed choices needed′ : ℕ) → Option Refusal
@@ -126,9 +126,11 @@ badAreas costs needed choices needed′ = refuse (ltb costs needed || ltb choice
 abbrev pub badSlots : (slots needed : ℕ) → Option Refusal
 badSlots slots needed = refuse (ltb slots needed) FewSlots
 
--- 7: R − A above C at some period, or T above C at the last
+-- 7: R − A above C at some period, or T above C in period n
 abbrev pub short : Day → ℕ → Bool
-short d k = ltb (capacityTo d (suc k)) (netTo d (suc k))
+short d k =
+    ltb (capacityTo d (suc k)) (demandTo d (suc k) - d .opening)
+    || (eqb (suc k) (periods d) && ltb (capacityTo d (suc k)) (total d))
 
 abbrev pub shortage : Day → Option Refusal
 shortage d = refuseAt Shortage (find (short d) (periods d))

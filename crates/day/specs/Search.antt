@@ -9,7 +9,7 @@ use native.Mathlib.Nat.{eq-or-lt-of-le, le-of-suc-le-suc}
 use native.Mathlib.Decide.{decLe, decLt, ℕ-discrete}
 use native.Mathlib.Omega.{arith}
 use Rattle.day.specs.Sums.{at, sumTo, below, sum-ext, listOf, at-listOf}
-use Rattle.day.specs.Day.{Day, periods, demandTo, needed}
+use Rattle.day.specs.Day.{Day, periods, demandTo, required}
 use Rattle.day.specs.Plan.{costAt, cost, Feasible, Smaller, Precedes, Optimal}
 
 -- a test that passed gives its proof
@@ -75,7 +75,7 @@ feasible? d x =
     (λ p. record { served = p .0; ends = p .1 .0; within = p .1 .1 })
     (λ f. (f .served, (f .ends, f .within)))
     (Dec·and (below? (λ k. decLe (demandTo d (suc k)) (d .opening + sumTo x (suc k))) (periods d))
-    (Dec·and (ℕ-discrete (d .opening + sumTo x (periods d)) (needed d)) (below? (λ k. decLe (x k) (at (d .capacity) k)) (periods d))))
+    (Dec·and (ℕ-discrete (d .opening + sumTo x (periods d)) (required d)) (below? (λ k. decLe (x k) (at (d .capacity) k)) (periods d))))
 
 unfoldable pub smaller? : (n : ℕ) (x y : ℕ → ℕ) → Dec (Smaller n x y)
 smaller? n x y =

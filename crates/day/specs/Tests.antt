@@ -10,7 +10,7 @@ use lib.ListN.{getD}
 use Rattle.day.specs.declared.Refusal.{Refusal}
 use Rattle.day.specs.declared.Refusal.the-variants.{PeriodCount, TableLength, AboveLimit, TotalDemand, ShortArea, FewSlots, Shortage}
 use Rattle.day.specs.declared.Refusal.the-variants.{UnequalCapacities, BindingCapacity}
-use Rattle.day.specs.declared.Refusal.the-variants.{UnknownKind, TruncatedFile, WrongEnd, NoSuchPeriod, SurplusCharge}
+use Rattle.day.specs.declared.Refusal.the-variants.{UnknownKind, TruncatedFile, WrongEnd, NoSuchPeriod, SurplusInventory}
 use Rattle.day.specs.declared.Check.{Check}
 use Rattle.day.specs.declared.Check.the-variants.{Passed, Refused}
 use Rattle.day.specs.Refusals.{numberOf, periodOf, Gives, refuse, refuseAt, first, checked}
@@ -47,7 +47,7 @@ withNumber number i =
     ∷ NoSuchPeriod
     ∷ [])
     number
-    SurplusCharge
+    SurplusInventory
 
 number-fixes : (r : Refusal) → withNumber (numberOf r) (periodOf r) ≡ r
 unfolding withNumber
@@ -64,7 +64,7 @@ number-fixes UnknownKind = refl
 number-fixes TruncatedFile = refl
 number-fixes WrongEnd = refl
 number-fixes NoSuchPeriod = refl
-number-fixes SurplusCharge = refl
+number-fixes SurplusInventory = refl
 
 -- number and period fix a refusal: what is given is the first in order, and the other way round
 pub gives-is : {o : Option Refusal} {r : Refusal} → Gives o r → o ≡ some r

@@ -18,7 +18,7 @@ pub enum Refusal {
     TruncatedFile,
     WrongEnd,
     NoSuchPeriod,
-    SurplusCharge,
+    SurplusInventory,
 }
 
 impl Refusal {
@@ -39,7 +39,7 @@ impl Refusal {
             Refusal::TruncatedFile => 11,
             Refusal::WrongEnd => 12,
             Refusal::NoSuchPeriod => 13,
-            Refusal::SurplusCharge => 14,
+            Refusal::SurplusInventory => 14,
         }
     }
 
@@ -60,7 +60,7 @@ impl Refusal {
             Refusal::TruncatedFile => 0,
             Refusal::WrongEnd => 0,
             Refusal::NoSuchPeriod => 0,
-            Refusal::SurplusCharge => 0,
+            Refusal::SurplusInventory => 0,
         }
     }
 }

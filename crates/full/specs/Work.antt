@@ -11,7 +11,7 @@ use Rattle.theory.specs.Model.{OptimalTo}
 use Rattle.theory.specs.Problem.{Problem, periods, total, modelOf}
 use Rattle.full_table.specs.Table.{Fillable}
 
--- what tests 1 to 7 leave, where T is N over all periods, and c says how many cells the path needs
+-- what tests 1 to 7 and 14 leave, where T is N over all periods, and c says how many cells the path needs
 pub record Workable (p : Problem) (T : ℕ) (c : Needed) (m : Memory) : Type 0 where
   pub fillable : Fillable p (m .costs) (m .choices) T
   pub slotCells : periods p ≤ length (m .slots)

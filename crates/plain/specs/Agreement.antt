@@ -10,7 +10,7 @@ use Rattle.day.specs.declared.Totals.{Totals}
 use Rattle.day.specs.declared.Answer.{Answer}
 use Rattle.day.specs.declared.Answer.the-variants.{Refused, Planned}
 use Rattle.day.specs.Sums.{at}
-use Rattle.day.specs.Day.{Day, periods, needed}
+use Rattle.day.specs.Day.{Day, periods, required}
 use Rattle.day.specs.Refusals.{numberOf}
 use Rattle.plain.specs.declared.Best.{Best}
 
@@ -43,7 +43,7 @@ pub record Same (best : Best) (n : ℕ) (t : Totals) (slots : List ℕ) : Type 0
 
 -- the number of the refusal of a day without a plan: 14 where A is above R + Z, else 7
 abbrev pub withoutPlan : Day → ℕ
-withoutPlan d = cond (ltb (needed d) (d .opening)) 14 7
+withoutPlan d = cond (ltb (required d) (d .opening)) 14 7
 
 -- the plan found; or that refusal, where none was found
 abbrev pub Agrees : Day → Best → Answer → List ℕ → Type 0

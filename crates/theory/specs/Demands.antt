@@ -1,7 +1,7 @@
 -- What demands 2 and 3 say of a day and its plan, beyond the contract of any one call.
--- Main statements: `feasible-iff`, `shortage-iff`, `shortage-names` (demand 2); `optimal-exists`, `plan-unique` (demand 3).
+-- Main statements: `plan-uses`, `feasible-iff`, `shortage-iff`, `shortage-names` (demand 2); `optimal-exists`, `plan-unique` (demand 3).
 -- Assumes nothing.
-use mathlib.Core.Path.{_≡_, sym, ap, subst}
+use mathlib.Core.Path.{_≡_, refl, sym, ap, subst, _∙_}
 use mathlib.Core.Logic.{_↔_}
 use mathlib.Core.Option.{none, some}
 use Prim.Native.Nat.{ℕ, suc, _≤_, _<_}
@@ -10,10 +10,10 @@ use borrow.Author.Tests.{le-ltb}
 use Rattle.day.specs.declared.Refusal.{Refusal}
 use Rattle.day.specs.declared.Refusal.the-variants.{Shortage}
 use Rattle.day.specs.Find.{nothing-found}
-use Rattle.day.specs.Day.{Day, periods, capacityTo, total, netTo, net-end}
+use Rattle.day.specs.Day.{Day, periods, capacityTo, required, total, netTo, net-end}
 use Rattle.day.specs.Plan.{Feasible, Optimal, cost}
-use Rattle.day.specs.Refusals.{short, shortage, refuseAt}
-use Rattle.checks.specs.Passed.{FirstShort, shortage-passed, shortage-refused}
+use Rattle.day.specs.Refusals.{badOpening, short, shortage, refuseAt}
+use Rattle.checks.specs.Passed.{FirstShort, short-is, shortage-passed, shortage-refused}
 use Rattle.theory.specs.Order.{precedes-anti}
 use Rattle.theory.specs.Recursion as Recursion
 use Rattle.theory.specs.Reachable.{Covered, interval, feasible-covered}
@@ -24,6 +24,10 @@ use Rattle.theory.specs.Base.{feasible-model, model-feasible, same-plan}
 -- Demand 3: the plan is one.
 pub plan-unique : (d : Day) (x y : ℕ → ℕ) → Optimal d x → Optimal d y → (k : ℕ) → k < periods d → x k ≡ y k
 plan-unique d x y o q = precedes-anti (cost d) (periods d) x y (o .first y (q .feasible)) (q .first x (o .feasible))
+
+-- Demand 2: refusal 14 is given to no day that has a plan, which uses A up.
+pub plan-uses : (d : Day) (x : ℕ → ℕ) → Feasible d x → badOpening d ≡ none
+plan-uses d x f = rw (le-ltb (required d) (d .opening) (omega (arith, f .ends))) refl
 
 -- Of a day that tests 1 and 14 let pass.
 module _ (d : Day) (fits : Fits d) where
@@ -56,7 +60,8 @@ module _ (d : Day) (fits : Fits d) where
     λ e. feasible-iff .1 (shortage-passed d e),
     λ w.
         ap (refuseAt Shortage)
-        (nothing-found (short d) (periods d) (λ k l. le-ltb (capacityTo d (suc k)) (netTo d (suc k)) (feasible-iff .0 w k l))),
+        (nothing-found (short d) (periods d)
+        (λ k l. short-is d k l ∙ le-ltb (capacityTo d (suc k)) (netTo d (suc k)) (feasible-iff .0 w k l))),
   )
 
 -- Demand 2: and then it names the first period by whose end more must have been made than C.

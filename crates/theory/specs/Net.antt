@@ -10,7 +10,7 @@ use native.Mathlib.Decide.{decLt}
 use native.Mathlib.Omega.{arith}
 use lib.ListN.{length}
 use Rattle.day.specs.Sums.{at, sumTo, sum-ext, listOf, at-listOf, length-listOf, listOf-at}
-use Rattle.day.specs.Day.{Day, dayOf, endsOf, periods, demandTo, capacityTo, needed, total, netTo, net-before, net-end, maxPeriods, maxTotal}
+use Rattle.day.specs.Day.{Day, dayOf, endsOf, periods, demandTo, capacityTo, required, total, netTo, net-before, net-end, maxPeriods, maxTotal}
 use Rattle.checks.specs.Passed.{DayLimits}
 use Rattle.theory.specs.Problem.{Problem, problemWith, Bounded, Supplied}
 use Rattle.theory.specs.Problem as Problem
@@ -29,13 +29,13 @@ problemOf d = problemWith (netNeeds d) (d .capacity) (d .setup) (d .unit) (d .ho
 -- what tests 1 and 14 leave: there is a period, and A ≤ R + Z
 pub record Fits (d : Day) : Type 0 where
   pub nonempty : 0 < periods d
-  pub used : d .opening ≤ needed d
+  pub used : d .opening ≤ required d
 
 -- what the net needs ask to be of 16 bits: there is a period, at most 96 are there, and R + Z is within its limit
 pub record NetFits (d : Day) : Type 0 where
   pub nonempty : 0 < periods d
   pub few : periods d ≤ maxPeriods
-  pub small : needed d ≤ maxTotal
+  pub small : required d ≤ maxTotal
 
 -- of a day's demands and ends alone, as the function has it that fills the net needs
 pub limits-net : {d : Day} → DayLimits d → NetFits (dayOf (d .demand) [] [] [] [] (endsOf d))
@@ -105,7 +105,7 @@ module _ (d : Day) where
       λ s k l. omega (arith, floor-is (suc k) l, s k (omega (arith, periods-is))),
     )
 
-    net-limit : (top : ℕ) → needed d ≤ top → (k : ℕ) → k < n → at (netNeeds d) k ≤ top
+    net-limit : (top : ℕ) → required d ≤ top → (k : ℕ) → k < n → at (netNeeds d) k ≤ top
     net-limit top h k l = omega (arith, at-listOf (netNeed d) n k l, net-below (suc k) l)
 
   pub bounded : DayLimits d → Bounded (problemOf d)

@@ -46,7 +46,7 @@ pub struct Totals {
     pub setups: u64,
 }
 
-/// Document 01's number of a refusal, and the period that it names; 0 where it names none.
+/// The documents' number of a refusal, and the period that it names; 0 where it names none.
 #[derive(Clone, Copy, Debug, PartialEq, Eq)]
 pub struct Refusal {
     pub number: u64,

@@ -1,6 +1,6 @@
 -- `checks::shortage` meets its contract. The loop's invariant: R and C of the periods passed, none of which is short.
 -- Assumes nothing.
-use mathlib.Core.Path.{_≡_, refl}
+use mathlib.Core.Path.{_≡_, refl, _∙_}
 use mathlib.Core.List.{[]}
 use Prim.Native.Nat.{suc, _+_, _≤_, _*_, _-_}
 use native.Mathlib.Numerals.{add-one}
@@ -11,6 +11,7 @@ use Rattle.day.specs.declared.Refusal.the-variants.{Shortage}
 use Rattle.day.specs.Sums.{at}
 use Rattle.day.specs.Day.{Day, dayOf, demandTo, capacityTo, netTo, maxCapacity}
 use Rattle.day.specs.Refusals.{short}
+use Rattle.checks.specs.Passed.{short-is}
 use Rattle.checks.proofs.Search.{Searched, searched-next, searched-all, refused-here}
 use Rattle.checks.proofs.shortage.Statement.{statement}
 use Rattle.checks.proofs.shortage.Tie as tie
@@ -63,7 +64,7 @@ returns c =
     let p = c .before .before .before .before .before in
     let i = p .loop .i in
     let d = given p in
-    let above = lt-ltb (capacityTo d (suc i)) (netTo d (suc i)) (omega (arith, answered (c .before))) in
+    let above = short-is d i (omega arith) ∙ lt-ltb (capacityTo d (suc i)) (netTo d (suc i)) (omega (arith, answered (c .before))) in
     refused-here (p .loop .inv .0) Shortage above (omega arith)
 
 loop-again : tie.Need-loop-again Inv-loop μ-loop
@@ -71,7 +72,7 @@ loop-again c =
     let p = c .before .before .before .before .before in
     let i = p .loop .i in
     let d = given p in
-    let covered = le-ltb (capacityTo d (suc i)) (netTo d (suc i)) (omega (arith, answered (c .before))) in (
+    let covered = short-is d i (omega arith) ∙ le-ltb (capacityTo d (suc i)) (netTo d (suc i)) (omega (arith, answered (c .before))) in (
       searched-next (p .loop .inv .0) covered (omega arith),
       rw add-one (omega arith),
       omega (arith, c .before .before .before .shared-slice-known3 .given i),

@@ -11,10 +11,10 @@ use Rattle.checks.proofs.summed.Statement.{statement}
 use Rattle.checks.proofs.summed.Tie as tie
 
 abbrev Inv-loop : tie.InvT-loop
-Inv-loop demand sum₀ i₀ sum i = (i ≤ length demand) × (sum ≡ sumTo (at demand) i) × (sum ≤ maxCapacity * i)
+Inv-loop table sum₀ i₀ sum i = (i ≤ length table) × (sum ≡ sumTo (at table) i) × (sum ≤ maxCapacity * i)
 
 abbrev μ-loop : tie.MeasureT-loop
-μ-loop demand sum₀ i₀ sum i = length demand - i
+μ-loop table sum₀ i₀ sum i = length table - i
 
 cast-sum : tie.Need-cast-sum Inv-loop μ-loop
 cast-sum c = omega (arith, c .shared-slice-known .given (c .before .before .loop .i))
@@ -27,7 +27,7 @@ loop-again c = rw add-one (omega (arith, c .shared-slice-known .given (c .before
 
 returns : tie.Need-returns Inv-loop μ-loop
 returns c =
-    let e : c .before .loop .i ≡ length (c .before .before .args .demand .now) = omega arith in
+    let e : c .before .loop .i ≡ length (c .before .before .args .table .now) = omega arith in
     record { is = rw e at (c .before .loop .inv .1); low = omega arith }
 
 pub summed-spec : {M : Type 1} → statement M

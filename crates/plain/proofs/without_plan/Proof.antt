@@ -3,7 +3,7 @@ use mathlib.Core.List.{[]}
 use native.Mathlib.Omega.{arith}
 use borrow.Author.Tests.{lt-ltb, le-ltb}
 use borrow.Author.Needs.{needs}
-use Rattle.day.specs.Day.{Day, dayOf, needed}
+use Rattle.day.specs.Day.{Day, dayOf, required}
 use Rattle.plain.proofs.without_plan.Statement.{statement}
 use Rattle.plain.proofs.without_plan.Tie as tie
 
@@ -14,12 +14,12 @@ given c = let a = c .before .before .args in dayOf (a .demand .now) [] [] [] [] 
 returns : tie.Need-returns
 returns c =
     let s = c .before .before .before in
-    simp (lt-ltb (needed (given s)) (given s .opening) (omega (arith, s .summed .ensures .is, c .if1 .taken)))
+    simp (lt-ltb (required (given s)) (given s .opening) (omega (arith, s .summed .ensures .is, c .if1 .taken)))
 
 returns-2 : tie.Need-returns-2
 returns-2 c =
     let s = c .before .before .before in
-    simp (le-ltb (needed (given s)) (given s .opening) (omega (arith, s .summed .ensures .is, c .if1 .left)))
+    simp (le-ltb (required (given s)) (given s .opening) (omega (arith, s .summed .ensures .is, c .if1 .left)))
 
 pub without-plan-spec : {M : Type 1} → statement M
 without-plan-spec =
