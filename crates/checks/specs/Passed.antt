@@ -27,7 +27,6 @@ use Rattle.day.specs.Refusals.{badTotal, badOpening, totalTests, dayTests}
 use Rattle.day.specs.Refusals.{badAreas, badSlots, short, shortage, differs, unequal, binds, binding}
 use Rattle.day.specs.Tests.{first-split, first-passed, first-one, not-refused, nowhere, neither}
 use Rattle.day.specs.Outcome.{Path, Sizes, Roomy, memoryTests, pathTests, refusal}
-use Rattle.checks.specs.declared.Needed.{Needed}
 
 -- every table is as long as the demand table
 pub record SameLengths (d : Day) : Type 0 where
@@ -64,11 +63,6 @@ pub record FirstShort (d : Day) (r : Refusal) : Type 0 where
   pub inside : k < periods d
   pub above : capacityTo d (suc k) < netTo d (suc k)
   pub earlier : (j : ℕ) → j < k → netTo d (suc j) ≤ capacityTo d (suc j)
-
--- what a path needs for n periods in which T is made
-pub record NeededBy (P : Path) (n T : ℕ) (r : Needed) : Type 0 where
-  pub costs : r .costs ≡ P .costCells n T
-  pub choices : r .choices ≡ P .choiceCells n T
 
 -- 1
 pub count-passed : (n : ℕ) → badCount n ≡ none → (1 ≤ n) × (n ≤ maxPeriods)

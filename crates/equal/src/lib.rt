@@ -72,7 +72,7 @@ fn work(
     let mut table = [0u16; 96];
     let net = &mut table[0..n];
     net::fill(demand, net, ends);
-    let needed = checks::cells(PathKind::Equal, n, 0);
+    let needed = path_checks::cells(PathKind::Equal, n, 0);
     let cost_cells = needed.costs;
     let choice_cells = needed.choices;
     solve(
@@ -108,7 +108,7 @@ pub fn plan(
         r
         (memoryAfter costs choices slots) ⌝ }
 {
-    if let Check::Refused(r) = checks::path(
+    if let Check::Refused(r) = path_checks::path(
         PathKind::Equal,
         demand,
         capacity,

@@ -5,8 +5,8 @@ use lib.ListN.{length, drop}
 use Rattle.day.specs.Sums.{at}
 use Rattle.day.specs.Outcome.{Memory}
 use Rattle.day.specs.Paths.{full}
-use Rattle.checks.specs.declared.Needed.{Needed}
-use Rattle.checks.specs.Passed.{NeededBy}
+use Rattle.path_checks.specs.declared.Needed.{Needed}
+use Rattle.path_checks.specs.Needed.{NeededBy}
 use Rattle.theory.specs.Model.{OptimalTo}
 use Rattle.theory.specs.Problem.{Problem, periods, total, modelOf}
 use Rattle.full_table.specs.Table.{Fillable}

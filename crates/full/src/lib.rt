@@ -6,12 +6,12 @@ ghost use Rattle.day.specs.Paths.{full};
 ghost use Rattle.checks.specs.Passed.{Admitted};
 ghost use Rattle.theory.specs.Problem.{problemWith};
 ghost use Rattle.full.specs.Work.{Workable, PlanLeft};
-use checks::Needed;
 use day::Answer;
 use day::Check;
 use day::Ends;
 use day::PathKind;
 use day::Totals;
+use path_checks::Needed;
 
 // The plan into the slots, by the needed cells of both areas.
 fn fill_and_read(
@@ -73,7 +73,7 @@ fn work(
 {
     let n = demand.len();
     let total = checks::total(demand, ends) as usize;
-    let needed = checks::cells(PathKind::Full, n, total);
+    let needed = path_checks::cells(PathKind::Full, n, total);
     let mut table = [0u16; 96];
     let net = &mut table[0..n];
     net::fill(demand, net, ends);
@@ -113,7 +113,7 @@ pub fn plan(
         r
         (memoryAfter costs choices slots) ⌝ }
 {
-    if let Check::Refused(r) = checks::path(
+    if let Check::Refused(r) = path_checks::path(
         PathKind::Full,
         demand,
         capacity,

@@ -87,7 +87,7 @@ pub fn plan(
         r
         (memoryAfter costs choices slots) ⌝ }
 {
-    if let Check::Refused(r) = checks::path(
+    if let Check::Refused(r) = path_checks::path(
         PathKind::Uncapped,
         demand,
         capacity,

@@ -11,7 +11,7 @@ use Rattle.day.specs.declared.Refusal.the-variants.{AboveLimit}
 use Rattle.day.specs.Sums.{at}
 use Rattle.day.specs.Day.{Day, tablesOf, maxDemand, maxCapacity, maxSetup, maxRate}
 use Rattle.day.specs.Refusals.{aboveLimit}
-use Rattle.checks.proofs.Search.{Searched, searched-next, searched-all, refused-here}
+use Rattle.checks.specs.Search.{Searched, searched-next, searched-all, refused-here}
 use Rattle.checks.proofs.values.Statement.{statement}
 use Rattle.checks.proofs.values.Tie as tie
 

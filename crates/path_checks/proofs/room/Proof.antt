@@ -1,4 +1,4 @@
--- `checks::room` meets its contract: each answer is the first refusal, given those of the tests before it. Assumes nothing.
+-- `path_checks::room` meets its contract: each answer is the first refusal, given those of the tests before it. Assumes nothing.
 use mathlib.Core.Path.{_≡_, refl}
 use mathlib.Core.List.{List, [], _∷_, _++_}
 use mathlib.Core.Option.{Option, none}
@@ -11,10 +11,10 @@ use Rattle.day.specs.Refusals.{checked, first, badAreas, badSlots, shortage}
 use Rattle.day.specs.Tests.{passed, alone, group-refused, group-passed, group-decides}
 use Rattle.day.specs.Outcome.{Path, Sizes, sizes, memoryTests}
 use Rattle.day.specs.Paths.{pathOf}
-use Rattle.checks.specs.declared.Needed.{Needed}
-use Rattle.checks.specs.Passed.{NeededBy}
-use Rattle.checks.proofs.room.Statement.{statement}
-use Rattle.checks.proofs.room.Tie as tie
+use Rattle.path_checks.specs.declared.Needed.{Needed}
+use Rattle.path_checks.specs.Needed.{NeededBy}
+use Rattle.path_checks.proofs.room.Statement.{statement}
+use Rattle.path_checks.proofs.room.Tie as tie
 
 -- the cells that were counted are those that the path needs
 memory-is : (P : Path) (d : Day) (s : Sizes) {T : ℕ} {needed : Needed} {answer : Check} → T ≡ total d → NeededBy P (periods d) T needed

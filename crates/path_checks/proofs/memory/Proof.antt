@@ -1,8 +1,8 @@
--- `checks::memory` meets its contract: each way gives the values of the tests before it. Assumes nothing.
+-- `path_checks::memory` meets its contract: each way gives the values of the tests before it. Assumes nothing.
 use mathlib.Core.Logic.{⊎-elim}
 use borrow.Author.Tests.{lt-ltb, le-ltb}
-use Rattle.checks.proofs.memory.Statement.{statement}
-use Rattle.checks.proofs.memory.Tie as tie
+use Rattle.path_checks.proofs.memory.Statement.{statement}
+use Rattle.path_checks.proofs.memory.Tie as tie
 
 returns : tie.Need-returns
 returns c = ⊎-elim (λ w. simp (lt-ltb _ _ (w .taken))) (λ w. simp (le-ltb _ _ (w .0 .left), w .1 .taken)) (c .if1 .came)

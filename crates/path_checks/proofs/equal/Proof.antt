@@ -1,4 +1,4 @@
--- `checks::equal` meets its contract. The loop's invariant: no capacity passed differs from the first. Assumes nothing.
+-- `path_checks::equal` meets its contract. The loop's invariant: no capacity passed differs from the first. Assumes nothing.
 use mathlib.Core.Path.{refl, ap}
 use mathlib.Core.Bool.{not}
 use mathlib.Core.List.{[]}
@@ -9,9 +9,9 @@ use borrow.Author.Tests.{eq-eqb, ne-eqb}
 use Rattle.day.specs.Sums.{at}
 use Rattle.day.specs.Day.{tablesOf}
 use Rattle.day.specs.Refusals.{differs}
-use Rattle.checks.proofs.Search.{Searched, searched-next, searched-all, found-here}
-use Rattle.checks.proofs.equal.Statement.{statement}
-use Rattle.checks.proofs.equal.Tie as tie
+use Rattle.checks.specs.Search.{Searched, searched-next, searched-all, found-here}
+use Rattle.path_checks.proofs.equal.Statement.{statement}
+use Rattle.path_checks.proofs.equal.Tie as tie
 
 abbrev Inv-loop : tie.InvT-loop
 Inv-loop demand capacity i₀ i = Searched (differs (tablesOf demand capacity [] [] [])) (length demand) i

@@ -1,4 +1,4 @@
--- `checks::path` meets its contract: the first refusal of the day, or that of the path after it. Assumes nothing.
+-- `path_checks::path` meets its contract: the first refusal of the day, or that of the path after it. Assumes nothing.
 use mathlib.Core.Path.{_≡_, refl}
 use mathlib.Core.List.{List, []}
 use mathlib.Core.Option.{none}
@@ -13,9 +13,9 @@ use Rattle.day.specs.Refusals.{checked, first, dayTests}
 use Rattle.day.specs.Tests.{passed, group-refused, group-decides}
 use Rattle.day.specs.Outcome.{Sizes, sizes, pathTests}
 use Rattle.day.specs.Paths.{pathOf}
 use Rattle.checks.specs.Passed.{day-passed}
-use Rattle.checks.proofs.path.Statement.{statement}
-use Rattle.checks.proofs.path.Tie as tie
+use Rattle.path_checks.proofs.path.Statement.{statement}
+use Rattle.path_checks.proofs.path.Tie as tie
 
 -- no path's tests look at costs
 two-tables : (kind : PathKind) (demand capacity setup unit holding : List ℕ) (ends : Ends) (s : Sizes) {answer : Check}

@@ -1,11 +1,11 @@
--- `checks::own` meets its contract: each path has its own test, or none. Assumes nothing.
+-- `path_checks::own` meets its contract: each path has its own test, or none. Assumes nothing.
 use mathlib.Core.List.{[]}
 use borrow.Author.Needs.{needs}
 use Rattle.day.specs.Day.{Day, dayOf}
 use Rattle.day.specs.Refusals.{unequal, binding}
 use Rattle.day.specs.Tests.{alone}
-use Rattle.checks.proofs.own.Statement.{statement}
-use Rattle.checks.proofs.own.Tie as tie
+use Rattle.path_checks.proofs.own.Statement.{statement}
+use Rattle.path_checks.proofs.own.Tie as tie
 
 -- the two tables
 abbrev tables : tie.Start → Day

@@ -1,4 +1,4 @@
--- `checks::shortage` meets its contract. The loop's invariant: R and C of the periods passed, none of which is short.
+-- `path_checks::shortage` meets its contract. The loop's invariant: R and C of the periods passed, none of which is short.
 -- Assumes nothing.
 use mathlib.Core.Path.{_≡_, refl, _∙_}
 use mathlib.Core.List.{[]}
@@ -11,10 +11,10 @@ use Rattle.day.specs.declared.Refusal.the-variants.{Shortage}
 use Rattle.day.specs.Sums.{at}
 use Rattle.day.specs.Day.{Day, dayOf, demandTo, capacityTo, netTo, maxCapacity}
 use Rattle.day.specs.Refusals.{short}
 use Rattle.checks.specs.Passed.{short-is}
-use Rattle.checks.proofs.Search.{Searched, searched-next, searched-all, refused-here}
-use Rattle.checks.proofs.shortage.Statement.{statement}
-use Rattle.checks.proofs.shortage.Tie as tie
+use Rattle.checks.specs.Search.{Searched, searched-next, searched-all, refused-here}
+use Rattle.path_checks.proofs.shortage.Statement.{statement}
+use Rattle.path_checks.proofs.shortage.Tie as tie
 
 abbrev Inv-loop : tie.InvT-loop
 Inv-loop demand capacity ends demanded₀ available₀ i₀ demanded available i =

@@ -1,4 +1,4 @@
--- `checks::binding` meets its contract. The loop's invariant: R of the periods passed, none of whose capacities may bind.
+-- `path_checks::binding` meets its contract. The loop's invariant: R of the periods passed, none of whose capacities may bind.
 -- Assumes nothing.
 use mathlib.Core.Path.{_≡_, refl}
 use mathlib.Core.List.{[]}
@@ -11,9 +11,9 @@ use Rattle.day.specs.declared.Refusal.the-variants.{BindingCapacity}
 use Rattle.day.specs.Sums.{at}
 use Rattle.day.specs.Day.{Day, dayOf, total, demandTo, maxCapacity}
 use Rattle.day.specs.Refusals.{binds}
-use Rattle.checks.proofs.Search.{Searched, searched-next, searched-all, refused-here}
-use Rattle.checks.proofs.binding.Statement.{statement}
-use Rattle.checks.proofs.binding.Tie as tie
+use Rattle.checks.specs.Search.{Searched, searched-next, searched-all, refused-here}
+use Rattle.path_checks.proofs.binding.Statement.{statement}
+use Rattle.path_checks.proofs.binding.Tie as tie
 
 abbrev Inv-loop : tie.InvT-loop
 Inv-loop demand capacity ends total demanded₀ i₀ demanded i =

@@ -1,12 +1,12 @@
--- `checks::cells` meets its contract: no product passes 96 × (97 × 65,535 + 1). Assumes nothing.
+-- `path_checks::cells` meets its contract: no product passes 96 × (97 × 65,535 + 1). Assumes nothing.
 use mathlib.Core.Path.{refl}
 use Prim.Native.Nat.{ℕ, _+_, _*_, _≤_}
 use native.Mathlib.Nat.{mul-le-mul}
 use native.Mathlib.Omega.{arith}
 use borrow.Author.Needs.{needs}
 use Rattle.day.specs.Day.{maxPeriods, maxSum}
-use Rattle.checks.proofs.cells.Statement.{statement}
-use Rattle.checks.proofs.cells.Tie as tie
+use Rattle.path_checks.proofs.cells.Statement.{statement}
+use Rattle.path_checks.proofs.cells.Tie as tie
 
 -- the products, for at most 96 periods
 row-low : (n T : ℕ) → n ≤ maxPeriods → T ≤ maxSum → n * (T + 1) ≤ maxPeriods * (maxSum + 1)
