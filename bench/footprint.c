@@ -5,30 +5,31 @@
 #include <ucontext.h>
 #include "yakkurem.h"
 
-enum { PERIODS = 96, MOST = 4096, STACK = 1 << 18, FILE_BYTES = 17 * PERIODS + 3 };
+enum { PERIODS = 96, MOST = 4096, STACK = 1 << 18, FILE_BYTES = 17 * PERIODS + 8 };
 
 static uint16_t need[PERIODS], capacity[PERIODS], plan[PERIODS];
 static uint32_t start[PERIODS], unit[PERIODS], upkeep[PERIODS];
 static uint64_t costs[2 * (MOST + 1)];
 static uint16_t choices[PERIODS * (MOST + 1)];
 static uint8_t file[FILE_BYTES];
-static size_t n;
+static size_t n, file_length;
+static uint16_t opening, closing;
 
-#define TABLES need, n, capacity, n, start, n, unit, n, upkeep, n
+#define DAY need, n, capacity, n, start, n, unit, n, upkeep, n, opening, closing
 #define MEMORY costs, sizeof costs / sizeof *costs, choices, sizeof choices / sizeof *choices, plan, PERIODS
 
-static uint64_t answer[2], code;
+static uint64_t answer[3], code;
 static int64_t difference[1];
 
-static void full(void) { code = yakkurem_full(TABLES, MEMORY, answer); }
-static void uncapped(void) { code = yakkurem_uncapped(TABLES, MEMORY, answer); }
-static void equal(void) { code = yakkurem_equal(TABLES, MEMORY, answer); }
-static void weigh(void) { code = yakkurem_weigh(TABLES, plan, PERIODS, answer); }
-static void compare(void) { code = yakkurem_compare(TABLES, plan, PERIODS, plan, PERIODS, difference); }
-static void write_file(void) { code = yakkurem_write(TABLES, file, sizeof file, answer); }
-static void lookup(void) { code = yakkurem_lookup(file, 17 * n + 3, n, answer); }
+static void full(void) { code = yakkurem_full(DAY, MEMORY, answer); }
+static void uncapped(void) { code = yakkurem_uncapped(DAY, MEMORY, answer); }
+static void equal(void) { code = yakkurem_equal(DAY, MEMORY, answer); }
+static void weigh(void) { code = yakkurem_weigh(DAY, plan, PERIODS, answer); }
+static void compare(void) { code = yakkurem_compare(DAY, plan, PERIODS, plan, PERIODS, difference); }
+static void write_file(void) { code = yakkurem_write(DAY, file, sizeof file, answer); }
+static void lookup(void) { code = yakkurem_lookup(file, file_length, n, answer); }
 static void read_file(void) {
-    code = yakkurem_read(file, 17 * n + 3, need, PERIODS, capacity, PERIODS, start, PERIODS, unit, PERIODS, upkeep, PERIODS, answer);
+    code = yakkurem_read(file, file_length, need, PERIODS, capacity, PERIODS, start, PERIODS, unit, PERIODS, upkeep, PERIODS, answer);
 }
 
 static const struct { const char *name; void (*call)(void); } calls[] = {
@@ -63,12 +64,16 @@ static size_t taken(void (*call)(void), unsigned char paint) {
     return (size_t)(top - stack) - untouched;
 }
 
-/* Days of 1 to 96 periods: the whole need in one period or spread, costs at their limits or small; capacities that can't bind,
- * equal ones that are just enough, and ones that are too small. */
+/* Days of 1 to 96 periods: the whole need in one period or spread, or half of it charge to hand on, with some to begin with; costs at
+ * their limits or small; capacities that can't bind, equal ones that are just enough, and ones that are too small. */
 static void make(size_t periods, int shape, uint16_t most) {
     n = periods;
+    opening = shape == 3 ? 100 : 0;
+    closing = shape == 3 ? MOST / 2 : 0;
+    file_length = 17 * n + (shape == 3 ? 8 : 3);
     for (size_t i = 0; i < n; i++) {
-        need[i] = shape == 0 ? (uint16_t)(MOST * (i + 1) / n - MOST * i / n) : (i == (shape == 1 ? 0 : n - 1) ? MOST : 0);
+        size_t whole = MOST - closing;
+        need[i] = shape % 3 == 0 ? (uint16_t)(whole * (i + 1) / n - whole * i / n) : (i == (shape == 1 ? 0 : n - 1) ? MOST : 0);
         capacity[i] = most;
         start[i] = i % 3 ? 1000000000 : 7;
         unit[i] = i % 5 ? 1000000 : 3;
@@ -81,7 +86,7 @@ int main(void) {
     static const uint16_t capacities[] = {0, 43, 60, 4096, 65535};
     size_t deepest[CALLS] = {0}, accepted[CALLS] = {0};
     for (size_t s = 0; s < 5; s++)
-        for (int shape = 0; shape < 3; shape++)
+        for (int shape = 0; shape < 4; shape++)
             for (size_t c = 0; c < 5; c++)
                 for (size_t k = 0; k < CALLS; k++)
                     for (int paint = 0x55; paint <= 0xaa; paint += 0x55) {

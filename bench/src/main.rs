@@ -11,7 +11,7 @@ mod random;
 use plain::{Day, Path};
 use random::Random;
 use std::hint::black_box;
-use yakkurem::{Memory, Tables};
+use yakkurem::Memory;
 
 const ROUNDS: usize = 9;
 
@@ -29,7 +29,7 @@ impl Areas {
     }
 }
 
-/// A day of n periods with need `total` in all, one capacity, and costs of a common size.
+/// A day of n periods with need `total` in all, no charge at its ends, one capacity, and costs of a common size.
 fn day(n: usize, total: u64, capacity: u16) -> Day {
     let mut random = Random::new(total + capacity as u64 + n as u64);
     let mut table = |low: u64, high: u64| (0..n).map(|_| random.between(low, high) as u32).collect::<Vec<u32>>();
@@ -41,16 +41,18 @@ fn day(n: usize, total: u64, capacity: u16) -> Day {
         demand[i - 1] -= moved;
         demand[i] += moved;
     }
-    Day { demand, capacity: vec![capacity; n], setup: table(1000, 9000), unit: table(5, 15), holding: table(1, 9) }
+    let (setup, unit, holding) = (table(1000, 9000), table(5, 15), table(1, 9));
+    Day { demand, capacity: vec![capacity; n], setup, unit, holding, opening: 0, closing: 0 }
 }
 
 fn library(path: Path, day: &Day, areas: &mut Areas) -> u64 {
-    let tables = Tables { demand: &day.demand, capacity: &day.capacity, setup: &day.setup, unit: &day.unit, holding: &day.holding };
+    let Day { demand, capacity, setup, unit, holding, .. } = day;
+    let day = yakkurem::Day { demand, capacity, setup, unit, holding, opening: 0, closing: 0 };
     let memory = Memory { costs: &mut areas.costs, choices: &mut areas.choices, slots: &mut areas.slots };
     let planned = match path {
-        Path::Full => yakkurem::full(tables, memory),
-        Path::Uncapped => yakkurem::uncapped(tables, memory),
-        Path::Equal => yakkurem::equal(tables, memory),
+        Path::Full => yakkurem::full(day, memory),
+        Path::Uncapped => yakkurem::uncapped(day, memory),
+        Path::Equal => yakkurem::equal(day, memory),
     };
     planned.expect("a day that the path accepts").cost
 }
@@ -141,7 +143,7 @@ const PATHS: [(Path, &str); 3] = [(Path::Full, "full"), (Path::Uncapped, "uncapp
 
 fn main() {
     println!("# Benchmarks\n");
-    println!("Written by `bench/run`: the library's paths beside plain Rust programs of the same methods (`bench/src/methods.rs`) and beside recursion (5) by its letter (`outside/src/plain.rs`), which knows no bounds on the totals. Same process, same days, both built for release; all work on lent memory that was not cleared before a call. The library also tests the tables and clears its areas; the plain programs do neither. Recursion (5) by its letter allocates its rows.\n");
+    println!("Written by `bench/run`: the library's paths beside plain Rust programs of the same methods (`bench/src/methods.rs`) and beside recursion (5) by its letter (`outside/src/plain.rs`), which knows no bounds on the totals. Same process, same days, both built for release; all work on lent memory that was not cleared before a call. The library also tests the tables and clears its areas; the plain programs do neither. Recursion (5) by its letter allocates its rows. The days have no charge at their ends, so R is T.\n");
     println!("Times are the thread's processor time on x86-64 Linux. A figure is the median of {ROUNDS} rounds, with the smallest and the largest: that spread is the machine's noise. A ratio below 1 means that the library is faster.\n");
     println!("## Days of 96 periods\n");
     println!("| Path | R | Capacity | Library | To the plain program | To recursion (5) |");

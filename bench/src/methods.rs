@@ -1,5 +1,5 @@
 //! Plain programs of the three paths' methods, on the same lent memory, for comparison of speed.
-//! They test nothing and leave their areas as they are.
+//! They are for days without charge at the ends, test nothing and leave their areas as they are.
 use crate::plain::Day;
 
 fn production(day: &Day, i: usize, x: u64) -> u64 {

@@ -2,7 +2,7 @@
 use crate::input::{Call, Input};
 use crate::plain::{self, Path, Rule, Verdict};
 use crate::random::mix;
-use yakkurem::{codes, fault, Fault, Memory, Refusal, Tables, TablesMut};
+use yakkurem::{codes, fault, Day, Fault, Filled, Memory, Refusal, TablesMut};
 
 /// Everything that a caller can see after a call: its code, its out-array, and each lent part with the cells around it.
 #[derive(Clone, Debug, PartialEq)]
@@ -104,7 +104,8 @@ pub fn expected(input: &Input) -> Seen {
     let unwritten = match input.call {
         Call::Full | Call::Uncapped | Call::Equal | Call::Weigh | Call::Lookup => wide(&out::<u64, 2>()),
         Call::Compare => wide(&out::<i64, 1>()),
-        Call::Read | Call::Write => wide(&out::<u64, 1>()),
+        Call::Read => wide(&out::<u64, 3>()),
+        Call::Write => wide(&out::<u64, 1>()),
     };
     let mut seen = Seen { code: 0, out: unwritten, lent: before(input) };
     if let Some(refusal) = input.refusals().first() {
@@ -121,16 +122,15 @@ pub fn expected(input: &Input) -> Seen {
         },
         Call::Compare => accepted_comparison(input, &mut seen),
         Call::Read => {
-            let n = plain::walk(&input.file).unwrap();
-            let day = plain::day_in(&input.file, n);
+            let day = plain::day_in(&input.file, &plain::walk(&input.file).unwrap());
             fill(&mut seen.lent[0], &day.demand);
             fill(&mut seen.lent[1], &day.capacity);
             fill(&mut seen.lent[2], &day.setup);
             fill(&mut seen.lent[3], &day.unit);
             fill(&mut seen.lent[4], &day.holding);
-            seen.out = vec![n as u64];
+            seen.out = vec![day.periods() as u64, day.opening as u64, day.closing as u64];
         }
-        Call::Lookup => seen.out = plain::place(input.period).map(|v| v as u64).into(),
+        Call::Lookup => seen.out = plain::walk(&input.file).unwrap().place(input.period).map(|v| v as u64).into(),
         Call::Write => {
             let file = plain::file_of(&input.day);
             fill(&mut seen.lent[0], &file);
@@ -140,13 +140,13 @@ pub fn expected(input: &Input) -> Seen {
     seen
 }
 
-fn tables(input: &Input) -> Tables<'_> {
-    let day = &input.day;
-    Tables { demand: &day.demand, capacity: &day.capacity, setup: &day.setup, unit: &day.unit, holding: &day.holding }
+fn day(input: &Input) -> Day<'_> {
+    let plain::Day { demand, capacity, setup, unit, holding, opening, closing } = &input.day;
+    Day { demand, capacity, setup, unit, holding, opening: *opening, closing: *closing }
 }
 
 /// A path's call, with or without its code.
-type PathCall = fn(Tables, Memory, &mut [u64; 2]) -> u64;
+type PathCall = fn(Day, Memory, &mut [u64; 2]) -> u64;
 
 fn run_path(call: PathCall, input: &Input) -> Seen {
     let mut costs: Vec<u64> = pattern(0, input.lent[0]);
@@ -154,7 +154,7 @@ fn run_path(call: PathCall, input: &Input) -> Seen {
     let mut slots: Vec<u16> = pattern(2, input.lent[2]);
     let mut answer = out();
     let memory = Memory { costs: lent(&mut costs), choices: lent(&mut choices), slots: lent(&mut slots) };
-    let code = call(tables(input), memory, &mut answer);
+    let code = call(day(input), memory, &mut answer);
     Seen { code, out: wide(&answer), lent: vec![wide(&costs), wide(&choices), wide(&slots)] }
 }
 
@@ -165,7 +165,7 @@ fn run_read(input: &Input) -> Seen {
     let mut setup: Vec<u32> = pattern(2, l[2]);
     let mut unit: Vec<u32> = pattern(3, l[3]);
     let mut holding: Vec<u32> = pattern(4, l[4]);
-    let mut periods = out();
+    let mut day = out();
     let filled = TablesMut {
         demand: lent(&mut demand),
         capacity: lent(&mut capacity),
@@ -173,8 +173,8 @@ fn run_read(input: &Input) -> Seen {
         unit: lent(&mut unit),
         holding: lent(&mut holding),
     };
-    let code = codes::read(&input.file, filled, &mut periods);
-    Seen { code, out: wide(&periods), lent: vec![wide(&demand), wide(&capacity), wide(&setup), wide(&unit), wide(&holding)] }
+    let code = codes::read(&input.file, filled, &mut day);
+    Seen { code, out: wide(&day), lent: vec![wide(&demand), wide(&capacity), wide(&setup), wide(&unit), wide(&holding)] }
 }
 
 /// What the library does. The tables, plans and file that it only reads are to be as they were.
@@ -186,12 +186,12 @@ pub fn actual(given: &Input) -> Seen {
         Call::Equal => run_path(codes::equal, input),
         Call::Weigh => {
             let mut answer = out();
-            let code = codes::weigh(tables(input), &input.plans[0], &mut answer);
+            let code = codes::weigh(day(input), &input.plans[0], &mut answer);
             Seen { code, out: wide(&answer), lent: vec![] }
         }
         Call::Compare => {
             let mut difference = out();
-            let code = codes::compare(tables(input), &input.plans[0], &input.plans[1], &mut difference);
+            let code = codes::compare(day(input), &input.plans[0], &input.plans[1], &mut difference);
             Seen { code, out: wide(&difference), lent: vec![] }
         }
         Call::Read => run_read(input),
@@ -203,7 +203,7 @@ pub fn actual(given: &Input) -> Seen {
         Call::Write => {
             let mut bytes: Vec<u8> = pattern(0, input.lent[0]);
             let mut count = out();
-            let code = codes::write(tables(input), lent(&mut bytes), &mut count);
+            let code = codes::write(day(input), lent(&mut bytes), &mut count);
             Seen { code, out: wide(&count), lent: vec![wide(&bytes)] }
         }
     };
@@ -215,20 +215,20 @@ pub fn actual(given: &Input) -> Seen {
 pub fn results_agree(input: &Input, seen: &Seen) -> bool {
     let refusal = Refusal { number: seen.code % 256, period: seen.code / 256 };
     let accepted = seen.code == 0;
-    let path = |call: fn(Tables, Memory) -> Result<yakkurem::Totals, Refusal>| {
+    let path = |call: fn(Day, Memory) -> Result<yakkurem::Totals, Refusal>| {
         let (mut costs, mut choices, mut slots) = (vec![7u64; input.lent[0]], vec![7u16; input.lent[1]], vec![7u16; input.lent[2]]);
-        let result = call(tables(input), Memory { costs: &mut costs, choices: &mut choices, slots: &mut slots });
+        let result = call(day(input), Memory { costs: &mut costs, choices: &mut choices, slots: &mut slots });
         result == if accepted { Ok(yakkurem::Totals { cost: seen.out[0], setups: seen.out[1] }) } else { Err(refusal) }
     };
     match input.call {
         Call::Full => path(yakkurem::full),
         Call::Uncapped => path(yakkurem::uncapped),
         Call::Equal => path(yakkurem::equal),
-        Call::Weigh => match yakkurem::weigh(tables(input), &input.plans[0]) {
+        Call::Weigh => match yakkurem::weigh(day(input), &input.plans[0]) {
             Ok(totals) => accepted && seen.out == [totals.cost, totals.setups],
             Err(why) => why == said(seen.code),
         },
-        Call::Compare => match yakkurem::compare(tables(input), &input.plans[0], &input.plans[1]) {
+        Call::Compare => match yakkurem::compare(day(input), &input.plans[0], &input.plans[1]) {
             Ok(difference) => accepted && seen.out == [difference as u64],
             Err(why) => why == said(seen.code),
         },
@@ -238,13 +238,14 @@ pub fn results_agree(input: &Input, seen: &Seen) -> bool {
             let (mut setup, mut unit, mut holding) = (vec![0; l[2]], vec![0; l[3]], vec![0; l[4]]);
             let filled =
                 TablesMut { demand: &mut demand, capacity: &mut capacity, setup: &mut setup, unit: &mut unit, holding: &mut holding };
-            yakkurem::read(&input.file, filled) == if accepted { Ok(seen.out[0]) } else { Err(refusal) }
+            let day = Filled { periods: seen.out[0], opening: seen.out[1] as u16, closing: seen.out[2] as u16 };
+            yakkurem::read(&input.file, filled) == if accepted { Ok(day) } else { Err(refusal) }
         }
         Call::Lookup => match yakkurem::lookup(&input.file, input.period) {
-            Ok(body) => accepted && std::ptr::eq(body, plain::body(&input.file, input.period)),
+            Ok(body) => accepted && std::ptr::eq(body, plain::body(&input.file, &plain::walk(&input.file).unwrap(), input.period)),
             Err(why) => why == refusal,
         },
-        Call::Write => yakkurem::write(tables(input), &mut vec![0; input.lent[0]]) == if accepted { Ok(seen.out[0]) } else { Err(refusal) },
+        Call::Write => yakkurem::write(day(input), &mut vec![0; input.lent[0]]) == if accepted { Ok(seen.out[0]) } else { Err(refusal) },
     }
 }
 

@@ -26,16 +26,26 @@ impl Call {
         }
     }
 
-    /// The refusals that the call can give, in document 01's order.
-    pub fn refusals(self) -> &'static [u64] {
-        match self {
-            Call::Full => &[1, 2, 3, 4, 5, 6, 7],
-            Call::Uncapped => &[1, 2, 3, 4, 5, 6, 7, 9],
-            Call::Equal => &[1, 2, 3, 4, 5, 6, 7, 8],
-            Call::Weigh | Call::Compare => &[1, 2, 3, 4, 6],
+    /// The refusals that the call can give on days with such ends, in the papers' order.
+    pub fn refusals(self, ends: Ends) -> Vec<u64> {
+        let order: &[u64] = match self {
+            Call::Full => &[1, 2, 3, 4, 14, 5, 6, 7],
+            Call::Uncapped => &[1, 2, 3, 4, 14, 5, 6, 7, 9],
+            Call::Equal => &[1, 2, 3, 4, 14, 5, 6, 7, 8],
+            Call::Weigh | Call::Compare => &[1, 2, 3, 4, 14, 6],
             Call::Read => &[10, 11, 12, 1, 6, 3],
             Call::Lookup => &[10, 11, 12, 1, 13],
             Call::Write => &[1, 2, 3, 6],
+        };
+        order.iter().copied().filter(|&number| ends == Ends::Any || number != 14).collect()
+    }
+
+    /// How many plans the call weighs.
+    fn plans(self) -> usize {
+        match self {
+            Call::Weigh => 1,
+            Call::Compare => 2,
+            _ => 0,
         }
     }
 
@@ -57,6 +67,13 @@ pub struct Input {
     pub period: usize,
     /// lengths of what is lent: cost area, choice area and slots; or the five tables to fill; or the bytes to write
     pub lent: Vec<usize>,
+}
+
+/// The charge at both ends of a day.
+#[derive(Clone, Copy, Debug, PartialEq)]
+pub enum Ends {
+    Zero,
+    Any,
 }
 
 /// How large a day is, and how its numbers are drawn.
@@ -94,8 +111,8 @@ impl Input {
                 let (costs, choices) = plain::cells(self.call.path().unwrap(), &self.day);
                 vec![costs, choices, self.day.periods()]
             }
-            Call::Read => vec![plain::walk(&self.file).unwrap_or(self.file.len() / 17); 5],
-            Call::Write => vec![plain::file_length(self.day.periods())],
+            Call::Read => vec![plain::walk(&self.file).map_or(self.file.len() / 17, |records| records.periods()); 5],
+            Call::Write => vec![plain::file_length(&self.day)],
             Call::Weigh | Call::Compare | Call::Lookup => vec![],
         }
     }
@@ -143,19 +160,19 @@ fn shape(random: &mut Random, call: Call, day: &mut Day) {
     let n = day.periods();
     match call {
         Call::Equal => {
-            let least = (1..=n).map(|i| day.demand_to(i).div_ceil(i as u64)).max().unwrap_or(0);
-            let total = day.total();
+            let least = (1..=n).map(|i| day.least_by(i).div_ceil(i as u64)).max().unwrap_or(0);
+            let whole = day.least_by(n);
             let capacity = match random.between(0, 3) {
                 0 => least,
                 1 => least + random.between(0, 3),
-                2 => random.between(0, total + 1),
+                2 => random.between(0, whole + 1),
                 _ => day.capacity[0] as u64,
             };
             day.capacity = vec![capacity.min(65_535) as u16; n];
         }
         Call::Uncapped => {
             for i in 0..n {
-                let rest = day.total() - day.demand_to(i);
+                let rest = plain::rest(day, i + 1).max(0);
                 let spare = random.pick(&[0, 0, 1, 1000, 65_535]);
                 day.capacity[i] = (rest + spare).min(65_535) as u16;
             }
@@ -164,8 +181,58 @@ fn shape(random: &mut Random, call: Call, day: &mut Day) {
     }
 }
 
+/// Hands on nothing, some of what later periods need, or all of the day's need: then R is 0.
+fn give_closing(random: &mut Random, day: &mut Day) {
+    let n = day.periods();
+    let (from, all) = match random.between(0, 3) {
+        0 => (n, false),
+        1 => (0, true),
+        _ => (random.index(n), false),
+    };
+    for need in &mut day.demand[from..] {
+        let handed_on = if all { *need } else { random.between(0, *need as u64) as u16 };
+        *need -= handed_on;
+        day.closing += handed_on;
+    }
+}
+
+/// Begins with nothing, with all that the day asks for, with what its first periods need, or with any part.
+fn give_opening(random: &mut Random, size: Size, day: &mut Day) {
+    let n = day.periods();
+    let asked = day.asked();
+    day.opening = match random.between(0, 6) {
+        0 => 0,
+        1 => asked as u16,
+        2 => random.between(0, asked) as u16,
+        3 => (day.demand_to(random.index(n)) + random.between(0, 1)).min(asked) as u16,
+        // as much again as is added to the needs, so that as much is left to make
+        _ if size != Size::Limits => {
+            let last = random.index(n);
+            let more = random.pick(&[1, 2, 3, 4]);
+            for _ in 0..more {
+                day.demand[random.index(last + 1)] += 1;
+            }
+            more
+        }
+        _ => 1,
+    };
+}
+
+/// Gives a day charge at its ends, within the limits. A day with a plan mostly keeps one.
+fn give_ends(random: &mut Random, call: Call, size: Size, day: &mut Day) {
+    give_closing(random, day);
+    give_opening(random, size, day);
+    // all that can be made is handed on, or one unit more
+    let supply = day.opening as u64 + day.capacity_to(day.periods());
+    if random.once_in(8) && day.total() <= supply && supply < 500 {
+        day.closing = (supply - day.total() + random.pick(&[0, 0, 1])) as u16;
+    } else if !random.once_in(3) {
+        shape(random, call, day);
+    }
+}
+
 /// A day within the limits; three of four have a plan.
-pub fn day(random: &mut Random, call: Call, size: Size) -> Day {
+pub fn day(random: &mut Random, call: Call, size: Size, ends: Ends) -> Day {
     let (n, total, capacity, setup, rate) = match size {
         Size::Tiny => (random.between(1, 5), random.between(0, 9), 5, random.pick(&[0, 1, 3, 5]), random.pick(&[0, 1, 2])),
         Size::Middle => (random.between(1, 20), random.between(0, 120), 30, random.pick(&[5, 100, 1000]), random.pick(&[1, 10])),
@@ -193,6 +260,8 @@ pub fn day(random: &mut Random, call: Call, size: Size) -> Day {
         setup: narrow32(costs(random, setup)),
         unit: narrow32(costs(random, rate)),
         holding: narrow32(costs(random, rate)),
+        opening: 0,
+        closing: 0,
     };
     if size == Size::Limits {
         // the whole demand in the first period or in the last is the longest way through the tables
@@ -213,6 +282,9 @@ pub fn day(random: &mut Random, call: Call, size: Size) -> Day {
             shape(random, call, &mut day);
         }
     }
+    if ends == Ends::Any {
+        give_ends(random, call, size, &mut day);
+    }
     day
 }
 
@@ -221,12 +293,12 @@ fn weighed(random: &mut Random, day: &Day) -> Vec<u16> {
     let n = day.periods();
     let mut plan = match plain::shortage(day) {
         None if plain::plans(day) <= 2000.0 && !random.once_in(3) => plain::search(day).unwrap().plan,
-        // make what is needed as late as capacity allows
+        // make what is to be made as late as capacity allows
         None => {
             let mut plan = vec![0u16; n];
             let mut wanted = 0u64;
             for i in (0..n).rev() {
-                wanted += day.demand[i] as u64;
+                wanted += day.least_by(i + 1) - day.least_by(i);
                 plan[i] = wanted.min(day.capacity[i] as u64) as u16;
                 wanted -= plan[i] as u64;
             }
@@ -255,8 +327,8 @@ fn enough(random: &mut Random, needed: usize) -> usize {
 }
 
 /// Fills in what goes with the day, and lends enough.
-fn complete(random: &mut Random, call: Call, day: Day, plans: usize) -> Input {
-    let plans = (0..plans).map(|_| weighed(random, &day)).collect();
+fn complete(random: &mut Random, call: Call, day: Day) -> Input {
+    let plans = (0..call.plans()).map(|_| weighed(random, &day)).collect();
     let mut input = Input { call, day, plans, file: vec![], period: 0, lent: vec![] };
     if call.reads_file() {
         input.file = plain::file_of(&input.day);
@@ -271,14 +343,9 @@ fn complete(random: &mut Random, call: Call, day: Day, plans: usize) -> Input {
 }
 
 /// An input that is refused, if at all, for a shortage or a capacity alone.
-pub fn valid(random: &mut Random, call: Call, size: Size) -> Input {
-    let day = day(random, call, size);
-    let plans = match call {
-        Call::Weigh => 1,
-        Call::Compare => 2,
-        _ => 0,
-    };
-    complete(random, call, day, plans)
+pub fn valid(random: &mut Random, call: Call, size: Size, ends: Ends) -> Input {
+    let day = day(random, call, size, ends);
+    complete(random, call, day)
 }
 
 fn push_period(random: &mut Random, day: &mut Day) {
@@ -327,8 +394,8 @@ fn raise_value(random: &mut Random, day: &mut Day) {
     }
 }
 
-/// Changes a day's tables so that the numbered condition may hold; one that does not suit the day leaves it.
-fn damage_tables(random: &mut Random, day: &mut Day, number: u64) {
+/// Changes a day so that the numbered condition may hold; one that does not suit the day leaves it.
+fn damage_day(random: &mut Random, day: &mut Day, ends: Ends, number: u64) {
     let n = day.periods();
     match number {
         1 if random.once_in(2) => {
@@ -344,6 +411,10 @@ fn damage_tables(random: &mut Random, day: &mut Day, number: u64) {
         }
         2 => change_length(random, day),
         3 => raise_value(random, day),
+        4 if ends == Ends::Any && random.once_in(2) => {
+            let least = (plain::MAX_TOTAL + 1).saturating_sub(day.total());
+            day.closing = random.pick(&[least, least, least + 1, 65_535]) as u16;
+        }
         4 if n >= 2 => {
             let (i, j) = (random.index(n), random.index(n));
             day.demand[i] = 4096;
@@ -352,7 +423,8 @@ fn damage_tables(random: &mut Random, day: &mut Day, number: u64) {
         7 if n > 0 => {
             let i = random.index(n);
             day.demand[i] = day.demand[i].max(1);
-            let needed = day.demand_to(i + 1);
+            day.opening = (day.opening as u64).min(day.demand_to(i + 1) - 1) as u16;
+            let needed = day.demand_to(i + 1) - day.opening as u64;
             if random.once_in(2) {
                 let each = (needed - 1) / (i as u64 + 1);
                 day.capacity = vec![each as u16; n];
@@ -368,27 +440,52 @@ fn damage_tables(random: &mut Random, day: &mut Day, number: u64) {
         }
         9 if n > 0 && day.capacity.len() == n => {
             let i = random.index(n);
-            let rest = day.total() - day.demand_to(i);
+            let rest = plain::rest(day, i + 1).max(0) as u64;
             day.capacity[i] = rest.saturating_sub(random.pick(&[1, 1, 2, rest])).min(65_535) as u16;
+        }
+        14 => {
+            let least = day.asked() + 1;
+            day.opening = random.pick(&[least, least, least + 1, 65_535]).min(65_535) as u16;
         }
         _ => {}
     }
 }
 
-fn damage_file(random: &mut Random, file: &mut Vec<u8>, number: u64) {
+/// Where the records begin of a file that was written of a day.
+fn boundaries(file: &[u8]) -> Vec<usize> {
+    let first = if file[0] == plain::CHARGE { vec![0] } else { vec![] };
+    let periods = (1 + plain::CHARGE_BODY) * first.len();
+    let count = file.len().saturating_sub(periods + 1 + plain::END_BODY) / (1 + plain::PERIOD_BODY);
+    first.into_iter().chain((0..=count).map(|i| periods + (1 + plain::PERIOD_BODY) * i)).collect()
+}
+
+/// Puts in a record of the charge at both ends: one too late, a second one, or a first one with two zeros.
+fn misplace_charge(random: &mut Random, file: &mut Vec<u8>) {
+    let places = boundaries(file);
+    let at = random.pick(&places);
+    let record = if at == 0 { plain::charge_record(0, 0) } else { plain::charge_record(random.pick(&[0, 1]), 2) };
+    if at > 0 && random.once_in(3) {
+        // cut short as well
+        file.truncate(at);
+        file.extend(&record[..random.between(1, 4) as usize]);
+    } else {
+        file.splice(at..at, record);
+    }
+}
+
+fn damage_file(random: &mut Random, file: &mut Vec<u8>, ends: Ends, number: u64) {
     match number {
         10 => {
-            let kinds = file.len().saturating_sub(3) / 17;
-            let at = 17 * random.index(kinds + 1);
-            if at < file.len() {
-                file[at] = random.pick(&[0, 3, 7, 255]);
-            }
+            let places = boundaries(file);
+            let at = random.pick(&places);
+            file[at] = random.pick(&[0, 6, 7, 255]);
         }
         11 => {
             let length =
                 if random.once_in(3) { file.len().saturating_sub(random.between(1, 3) as usize) } else { random.index(file.len()) };
             file.truncate(length);
         }
+        12 if ends == Ends::Any && random.once_in(2) => misplace_charge(random, file),
         12 => {
             let last = file.len() - 1;
             match random.between(0, 2) {
@@ -402,21 +499,17 @@ fn damage_file(random: &mut Random, file: &mut Vec<u8>, number: u64) {
 }
 
 /// An input that was damaged for each of the numbers.
-pub fn damaged(random: &mut Random, call: Call, size: Size, numbers: &[u64]) -> Input {
-    let mut day = day(random, call, size);
+pub fn damaged(random: &mut Random, call: Call, size: Size, ends: Ends, numbers: &[u64]) -> Input {
+    let mut day = day(random, call, size, ends);
     // in an order in which what comes later mostly keeps what came before
-    for number in [7, 8, 9, 4, 3, 1, 2] {
+    for number in [7, 8, 9, 4, 3, 1, 2, 14] {
         if numbers.contains(&number) {
-            damage_tables(random, &mut day, number);
+            damage_day(random, &mut day, ends, number);
         }
     }
     let mut input = Input { call, day, plans: vec![], file: vec![], period: 0, lent: vec![] };
     let n = input.day.periods();
-    let plans = match call {
-        Call::Weigh => 1,
-        Call::Compare => 2,
-        _ => 0,
-    };
+    let plans = call.plans();
     input.plans = (0..plans).map(|_| vec![random.between(0, 3) as u16; enough(random, n)]).collect();
     if call.reads_file() {
         let mut day = std::mem::take(&mut input.day);
@@ -428,7 +521,7 @@ pub fn damaged(random: &mut Random, call: Call, size: Size, numbers: &[u64]) -> 
         }
         for number in [12, 10, 11] {
             if numbers.contains(&number) {
-                damage_file(random, &mut input.file, number);
+                damage_file(random, &mut input.file, ends, number);
             }
         }
     }
@@ -452,8 +545,8 @@ pub fn damaged(random: &mut Random, call: Call, size: Size, numbers: &[u64]) -> 
 }
 
 /// An input with something changed that no rule names: any value, length or byte.
-pub fn changed(random: &mut Random, call: Call, size: Size) -> Input {
-    let mut input = valid(random, call, size);
+pub fn changed(random: &mut Random, call: Call, size: Size, ends: Ends) -> Input {
+    let mut input = valid(random, call, size, ends);
     for _ in 0..random.between(1, 3) {
         if call.reads_file() {
             let at = random.index(input.file.len());
@@ -469,12 +562,15 @@ pub fn changed(random: &mut Random, call: Call, size: Size) -> Input {
         } else {
             let n = input.day.periods();
             let i = random.index(n);
-            match random.between(0, 5) {
+            let numbers = if ends == Ends::Any { 7 } else { 5 };
+            match random.between(0, numbers) {
                 0 => input.day.demand[i] = random.pick(&[0, 1, 4096, 4097, 65_535]),
                 1 => input.day.capacity[i] = random.pick(&[0, 1, 4095, 4096, 65_535]),
                 2 => input.day.setup[i] = random.pick(&[0, 999_999_999, 1_000_000_000, 1_000_000_001, u32::MAX]),
                 3 => input.day.unit[i] = random.pick(&[0, 999_999, 1_000_000, 1_000_001, u32::MAX]),
                 4 => input.day.holding[i] = random.pick(&[0, 999_999, 1_000_000, 1_000_001, u32::MAX]),
+                6 => input.day.opening = random.pick(&[0, 1, 4095, 4096, 4097, 65_535]),
+                7 => input.day.closing = random.pick(&[0, 1, 4095, 4096, 4097, 65_535]),
                 _ if input.plans.is_empty() => {}
                 _ => {
                     let which = random.index(input.plans.len());
@@ -487,7 +583,7 @@ pub fn changed(random: &mut Random, call: Call, size: Size) -> Input {
         let which = random.index(input.lent.len());
         input.lent[which] = random.index(input.lent[which] + 2);
     } else if call.path() == Some(Path::Full) {
-        // the areas go by the demand, which may have changed; a full one is too large to lend every time
+        // the areas go by T, which may have changed; a full one is too large to lend every time
         let needed = input.needed();
         if needed[1] < 100_000 {
             input.lent = needed;

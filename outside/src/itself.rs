@@ -1,37 +1,57 @@
 //! The plain implementation against itself and the papers, before anything is compared with it.
-use crate::input::{self, Call, Size};
+use crate::input::{self, Call, Ends, Size};
 use crate::plain::{self, Day, Planned, Refusal, Totals};
 use crate::random::Random;
 
-/// A day and its plan with cost and setups, or the period of refusal 7. One value of b, p or h stands for all periods.
+/// A day and its plan with cost and setups, or the number and period of the refusal. One value of b, p or h stands for all periods.
 struct Row {
     demand: &'static [u16],
     capacity: &'static [u16],
     setup: &'static [u32],
     unit: &'static [u32],
     holding: &'static [u32],
-    claim: Result<(&'static [u16], u64, u64), usize>,
+    /// A and Z
+    ends: (u16, u16),
+    claim: Result<(&'static [u16], u64, u64), (u64, usize)>,
 }
 
 #[rustfmt::skip]
 const ROWS: &[Row] = &[
     // document 01's marked days
-    Row { demand: &[0], capacity: &[0], setup: &[5], unit: &[1], holding: &[1], claim: Ok((&[0], 0, 0)) },
-    Row { demand: &[1], capacity: &[1], setup: &[5], unit: &[2], holding: &[9], claim: Ok((&[1], 7, 1)) },
-    Row { demand: &[2], capacity: &[1], setup: &[5], unit: &[2], holding: &[9], claim: Err(1) },
-    Row { demand: &[2, 3], capacity: &[5, 5], setup: &[10], unit: &[1], holding: &[1], claim: Ok((&[5, 0], 18, 1)) },
-    Row { demand: &[2, 3], capacity: &[5, 5], setup: &[10], unit: &[1], holding: &[4], claim: Ok((&[2, 3], 25, 2)) },
-    Row { demand: &[2, 2], capacity: &[4, 4], setup: &[10], unit: &[1], holding: &[5], claim: Ok((&[4, 0], 24, 1)) },
-    Row { demand: &[0, 4], capacity: &[3, 3], setup: &[10], unit: &[1], holding: &[1], claim: Ok((&[1, 3], 25, 2)) },
-    Row { demand: &[1, 5], capacity: &[2, 3], setup: &[0], unit: &[1], holding: &[1], claim: Err(2) },
-    Row { demand: &[1, 4], capacity: &[2, 3], setup: &[0], unit: &[1], holding: &[1], claim: Ok((&[2, 3], 6, 2)) },
-    Row { demand: &[3, 0], capacity: &[2, 9], setup: &[0], unit: &[1], holding: &[1], claim: Err(1) },
-    Row { demand: &[2, 2, 3], capacity: &[4, 4, 4], setup: &[6], unit: &[1], holding: &[1], claim: Ok((&[4, 0, 3], 21, 2)) },
-    Row { demand: &[0, 0], capacity: &[0, 0], setup: &[5], unit: &[1], holding: &[1], claim: Ok((&[0, 0], 0, 0)) },
+    Row { demand: &[0], capacity: &[0], setup: &[5], unit: &[1], holding: &[1], ends: (0, 0), claim: Ok((&[0], 0, 0)) },
+    Row { demand: &[1], capacity: &[1], setup: &[5], unit: &[2], holding: &[9], ends: (0, 0), claim: Ok((&[1], 7, 1)) },
+    Row { demand: &[2], capacity: &[1], setup: &[5], unit: &[2], holding: &[9], ends: (0, 0), claim: Err((7, 1)) },
+    Row { demand: &[2, 3], capacity: &[5, 5], setup: &[10], unit: &[1], holding: &[1], ends: (0, 0), claim: Ok((&[5, 0], 18, 1)) },
+    Row { demand: &[2, 3], capacity: &[5, 5], setup: &[10], unit: &[1], holding: &[4], ends: (0, 0), claim: Ok((&[2, 3], 25, 2)) },
+    Row { demand: &[2, 2], capacity: &[4, 4], setup: &[10], unit: &[1], holding: &[5], ends: (0, 0), claim: Ok((&[4, 0], 24, 1)) },
+    Row { demand: &[0, 4], capacity: &[3, 3], setup: &[10], unit: &[1], holding: &[1], ends: (0, 0), claim: Ok((&[1, 3], 25, 2)) },
+    Row { demand: &[1, 5], capacity: &[2, 3], setup: &[0], unit: &[1], holding: &[1], ends: (0, 0), claim: Err((7, 2)) },
+    Row { demand: &[1, 4], capacity: &[2, 3], setup: &[0], unit: &[1], holding: &[1], ends: (0, 0), claim: Ok((&[2, 3], 6, 2)) },
+    Row { demand: &[3, 0], capacity: &[2, 9], setup: &[0], unit: &[1], holding: &[1], ends: (0, 0), claim: Err((7, 1)) },
+    Row { demand: &[2, 2, 3], capacity: &[4, 4, 4], setup: &[6], unit: &[1], holding: &[1], ends: (0, 0), claim: Ok((&[4, 0, 3], 21, 2)) },
+    Row { demand: &[0, 0], capacity: &[0, 0], setup: &[5], unit: &[1], holding: &[1], ends: (0, 0), claim: Ok((&[0, 0], 0, 0)) },
     // ties that only demand 3 settles
-    Row { demand: &[1, 0, 2], capacity: &[2, 3, 1], setup: &[3], unit: &[1], holding: &[1], claim: Ok((&[1, 2, 0], 11, 2)) },
-    Row { demand: &[0, 0, 0, 4], capacity: &[3, 3, 3, 3], setup: &[0, 1, 0, 1], unit: &[1, 0, 0, 1], holding: &[0, 0, 1, 1], claim: Ok((&[0, 3, 1, 0], 5, 2)) },
-    Row { demand: &[3, 2, 0, 1], capacity: &[5, 5, 5, 5], setup: &[3], unit: &[0], holding: &[1], claim: Ok((&[3, 3, 0, 0], 8, 2)) },
+    Row { demand: &[1, 0, 2], capacity: &[2, 3, 1], setup: &[3], unit: &[1], holding: &[1], ends: (0, 0), claim: Ok((&[1, 2, 0], 11, 2)) },
+    Row { demand: &[0, 0, 0, 4], capacity: &[3, 3, 3, 3], setup: &[0, 1, 0, 1], unit: &[1, 0, 0, 1], holding: &[0, 0, 1, 1],
+          ends: (0, 0), claim: Ok((&[0, 3, 1, 0], 5, 2)) },
+    Row { demand: &[3, 2, 0, 1], capacity: &[5, 5, 5, 5], setup: &[3], unit: &[0], holding: &[1], ends: (0, 0), claim: Ok((&[3, 3, 0, 0], 8, 2)) },
+    // charge at both ends: of the fourth marked day; with nothing to make, and one unit more than that
+    Row { demand: &[2, 3], capacity: &[5, 5], setup: &[10], unit: &[1], holding: &[1], ends: (1, 1), claim: Ok((&[5, 0], 20, 1)) },
+    Row { demand: &[2, 3], capacity: &[5, 5], setup: &[10], unit: &[1], holding: &[1], ends: (6, 1), claim: Ok((&[0, 0], 5, 0)) },
+    Row { demand: &[2, 3], capacity: &[0, 0], setup: &[10], unit: &[1], holding: &[1], ends: (5, 0), claim: Ok((&[0, 0], 3, 0)) },
+    Row { demand: &[2, 3], capacity: &[5, 5], setup: &[10], unit: &[1], holding: &[1], ends: (7, 1), claim: Err((14, 0)) },
+    Row { demand: &[0], capacity: &[0], setup: &[0], unit: &[0], holding: &[0], ends: (1, 0), claim: Err((14, 0)) },
+    // nothing needed, and something to hand on; more than can be made, by one unit
+    Row { demand: &[0, 0], capacity: &[5, 5], setup: &[10], unit: &[1], holding: &[1], ends: (0, 3), claim: Ok((&[0, 3], 16, 1)) },
+    Row { demand: &[0, 0], capacity: &[1, 1], setup: &[10], unit: &[1], holding: &[1], ends: (0, 2), claim: Ok((&[1, 1], 25, 2)) },
+    Row { demand: &[0, 0], capacity: &[1, 1], setup: &[10], unit: &[1], holding: &[1], ends: (0, 3), claim: Err((7, 2)) },
+    Row { demand: &[0, 0], capacity: &[1, 1], setup: &[10], unit: &[1], holding: &[1], ends: (1, 3), claim: Ok((&[1, 1], 27, 2)) },
+    // more at the beginning than the first periods need; a shortage that it only puts off
+    Row { demand: &[1, 1, 4], capacity: &[1, 1, 1], setup: &[0], unit: &[1], holding: &[1], ends: (3, 0), claim: Ok((&[1, 1, 1], 9, 3)) },
+    Row { demand: &[5, 0], capacity: &[2, 9], setup: &[0], unit: &[1], holding: &[1], ends: (2, 0), claim: Err((7, 1)) },
+    Row { demand: &[1, 5, 0], capacity: &[2, 1, 9], setup: &[0], unit: &[1], holding: &[1], ends: (2, 4), claim: Err((7, 2)) },
+    // a tie between what is made for closing at once and later
+    Row { demand: &[2, 0], capacity: &[4, 4], setup: &[10], unit: &[1], holding: &[5], ends: (0, 2), claim: Ok((&[4, 0], 34, 1)) },
 ];
 
 fn all(values: &[u32], n: usize) -> Vec<u32> {
@@ -50,14 +70,34 @@ fn check_row(row: &Row) {
         setup: all(row.setup, n),
         unit: all(row.unit, n),
         holding: all(row.holding, n),
+        opening: row.ends.0,
+        closing: row.ends.1,
     };
     let expected = row.claim.ok().map(|(plan, cost, setups)| Planned { plan: plan.to_vec(), totals: Totals { cost, setups } });
     assert_eq!(plain::search(&day), expected, "{day:?}");
     assert_eq!(plain::recursion(&day), expected, "{day:?}");
-    assert_eq!(plain::shortage(&day), row.claim.err().map(|period| Refusal { number: 7, period }), "{day:?}");
+    assert_eq!(refused(&day), row.claim.err().map(|(number, period)| Refusal { number, period }), "{day:?}");
 }
 
-/// Document 01's file of the fourth marked day, and what a walk says of its examples.
+/// Why a day within the limits has no plan.
+fn refused(day: &Day) -> Option<Refusal> {
+    plain::bad_opening(day).or(plain::shortage(day))
+}
+
+/// The day without charge at its ends that has the same plans: what is still to be made counts as need.
+fn net(day: &Day) -> Day {
+    let demand = (1..=day.periods()).map(|i| day.least_by(i) - if i == 1 { 0 } else { day.least_by(i - 1) });
+    Day { demand: demand.map(|v| v as u16).collect(), opening: 0, closing: 0, ..day.clone() }
+}
+
+/// The upkeep that every plan pays beyond the one of the net day: on what the day begins with until it is used up, and on what it hands on.
+fn standing(day: &Day) -> u64 {
+    let n = day.periods();
+    let held = |i: usize| if i == n { day.closing as u64 } else { (day.opening as u64).saturating_sub(day.demand_to(i)) };
+    (1..=n).map(|i| day.holding[i - 1] as u64 * held(i)).sum()
+}
+
+/// Document 01's file of the fourth marked day, alone and with charge at both ends; and what a walk says of broken files.
 fn check_files() {
     #[rustfmt::skip]
     let file = [
@@ -65,29 +105,64 @@ fn check_files() {
         1, 0, 3, 0, 5, 0, 0, 0, 10, 0, 0, 0, 1, 0, 0, 0, 1,
         2, 0, 2,
     ];
-    let day = Day { demand: vec![2, 3], capacity: vec![5, 5], setup: vec![10, 10], unit: vec![1, 1], holding: vec![1, 1] };
-    assert_eq!(plain::walk(&file), Ok(2));
-    assert_eq!(plain::day_in(&file, 2), day);
-    assert_eq!(plain::file_of(&day), file);
-    for (bytes, number) in [(&[7u8][..], 10), (&[], 11), (&[2, 0, 1], 12)] {
-        assert_eq!(plain::walk(bytes), Err(Refusal { number, period: 0 }));
+    let (demand, capacity) = (vec![2, 3], vec![5, 5]);
+    let day = Day { demand, capacity, setup: vec![10, 10], unit: vec![1, 1], holding: vec![1, 1], opening: 0, closing: 0 };
+    let with_ends = Day { opening: 1, closing: 258, ..day.clone() };
+    for (day, first) in [(day, &[][..]), (with_ends, &[3, 0, 1, 1, 2])] {
+        let file = [first, &file].concat();
+        let records = plain::walk(&file).unwrap();
+        assert_eq!([records.place(1), records.place(2)], [[first.len() + 1, 16], [first.len() + 18, 16]]);
+        assert_eq!(plain::day_in(&file, &records), day);
+        assert_eq!(plain::file_of(&day), file);
+        assert_eq!(plain::file_length(&day), file.len());
     }
+    let broken: &[(&[u8], u64)] = &[
+        (&[7], 10),
+        (&[], 11),
+        (&[2, 0, 1], 12),
+        // kind 3: cut short; two zeros, before a later fault; a second one, cut short or whole; after the end
+        (&[3], 11),
+        (&[3, 0, 0, 0], 11),
+        (&[3, 0, 0, 0, 1], 11),
+        (&[3, 0, 0, 0, 0], 12),
+        (&[3, 0, 0, 0, 0, 7], 12),
+        (&[3, 0, 0, 0, 1, 7], 10),
+        (&[3, 0, 0, 0, 1, 3], 12),
+        (&[3, 0, 0, 0, 1, 3, 0, 0, 0, 1, 2, 0, 0], 12),
+        (&[3, 0, 0, 0, 1, 2, 0, 1], 12),
+        (&[2, 0, 0, 3, 0, 0, 0, 1], 12),
+    ];
+    for &(bytes, number) in broken {
+        assert_eq!(plain::walk(bytes), Err(Refusal { number, period: 0 }), "{bytes:?}");
+    }
+    assert_eq!(plain::walk(&[3, 0, 0, 0, 1, 2, 0, 0]).map(|records| records.periods()), Ok(0));
 }
 
-/// All plans tried, against recursion (5), on days with many ties; and refusal 7 exactly where there is no plan.
-pub fn check(random: &mut Random, days: usize) {
+/// All plans tried, against recursion (5), on days with many ties; and refusals 7 and 14 exactly where there is no plan.
+pub fn check(random: &mut Random, ends: Ends, days: usize) {
     for row in ROWS {
         check_row(row);
     }
     check_files();
     for _ in 0..days {
         let call = random.pick(&[Call::Full, Call::Uncapped, Call::Equal]);
-        let day = input::day(random, call, Size::Tiny);
-        let found = plain::search(&day);
-        assert_eq!(found, plain::recursion(&day), "{day:?}");
-        assert_eq!(found.is_some(), plain::shortage(&day).is_none(), "{day:?}");
-        if let Some(planned) = found {
-            assert_eq!(plain::verdict(&day, &planned.plan), plain::Verdict::Holds(planned.totals));
+        let mut day = input::day(random, call, Size::Tiny, ends);
+        if ends == Ends::Any && random.once_in(8) {
+            day.opening = day.asked() as u16 + random.pick(&[1, 2]);
         }
+        if plain::plans(&day) <= 100_000.0 {
+            check_day(&day);
+        }
+    }
+}
+
+fn check_day(day: &Day) {
+    let found = plain::search(day);
+    assert_eq!(found, plain::recursion(day), "{day:?}");
+    assert_eq!(found.is_some(), refused(day).is_none(), "{day:?}");
+    if let Some(planned) = found {
+        assert_eq!(plain::verdict(day, &planned.plan), plain::Verdict::Holds(planned.totals));
+        let Planned { plan, totals } = plain::recursion(&net(day)).unwrap();
+        assert_eq!((plan, totals.cost + standing(day)), (planned.plan, planned.totals.cost), "{day:?}");
     }
 }

@@ -1,4 +1,5 @@
-//! What the tests from outside compare with, document 01 in plain code, and the inputs that they compare on.
+//! What the tests from outside compare with, the papers in plain code, and the inputs that they compare on.
+pub mod ends;
 pub mod input;
 pub mod plain;
 pub mod random;

@@ -8,20 +8,25 @@ mod itself;
 mod published;
 mod shrink;
 
-use input::{Call, Input, Size, CALLS};
-use outside::{input, plain, random};
+use input::{Call, Ends, Input, Size, CALLS};
+use outside::{ends, input, plain, random};
 use random::Random;
 use std::process::exit;
 use std::time::Instant;
 
 const SEED: u64 = 1979;
 
+/// The last number of a refusal.
+const LAST: usize = 14;
+
 /// The inputs of one run, counted by their outcome.
 struct Run {
     random: Random,
+    /// of the days that are made up
+    ends: Ends,
     inputs: usize,
     accepted: usize,
-    refused: [usize; 14],
+    refused: [usize; LAST + 1],
     broken: usize,
 }
 
@@ -35,14 +40,20 @@ impl Run {
         self.inputs += 1;
         match expected.code % 256 {
             0 => self.accepted += 1,
-            number @ 1..=13 => self.refused[number as usize] += 1,
+            number if number <= LAST as u64 => self.refused[number as usize] += 1,
             _ => self.broken += 1,
+        }
+    }
+
+    fn try_inputs(&mut self, inputs: &[Input]) {
+        for input in inputs {
+            self.try_input(input);
         }
     }
 
     /// Each refusal alone and with each that comes after it: the first in order is given.
     fn pairs(&mut self, call: Call, times: usize) {
-        let order = call.refusals();
+        let order = call.refusals(self.ends);
         for (place, &first) in order.iter().enumerate() {
             for &second in &order[place..] {
                 for _ in 0..times {
@@ -53,14 +64,15 @@ impl Run {
         }
     }
 
-    /// An input that is refused `first` and for which, as far as the file can be walked, the condition of `second` holds too.
+    /// An input that is refused `first` and for which the condition of `second` holds too, as far as the file can be walked, and unless
+    /// there is too much charge to make any (14): then no capacity is too low (7, 9).
     fn refused_input(&mut self, call: Call, first: u64, second: u64) -> Input {
         for _ in 0..10_000 {
             let size = self.random.pick(&[Size::Tiny, Size::Tiny, Size::Middle]);
-            let input = input::damaged(&mut self.random, call, size, &[first, second]);
+            let input = input::damaged(&mut self.random, call, size, self.ends, &[first, second]);
             let refusals = input.refusals();
-            let walked = first < 10;
-            if refusals.first().is_some_and(|r| r.number == first) && (!walked || refusals.iter().any(|r| r.number == second)) {
+            let alone = matches!((first, second), (10..=12, _) | (14, 7 | 9));
+            if refusals.first().is_some_and(|r| r.number == first) && (alone || refusals.iter().any(|r| r.number == second)) {
                 return input;
             }
         }
@@ -69,23 +81,39 @@ impl Run {
 
     fn valid(&mut self, call: Call, size: Size, times: usize) {
         for _ in 0..times {
-            let input = input::valid(&mut self.random, call, size);
+            let input = input::valid(&mut self.random, call, size, self.ends);
             self.try_input(&input);
         }
     }
 
     fn changed(&mut self, call: Call, size: Size, times: usize) {
         for _ in 0..times {
-            let input = input::changed(&mut self.random, call, size);
+            let input = input::changed(&mut self.random, call, size, self.ends);
             self.try_input(&input);
         }
     }
 
     fn damaged(&mut self, call: Call, times: usize) {
         for _ in 0..times {
-            let numbers: Vec<u64> = (0..3).map(|_| self.random.pick(call.refusals())).collect();
-            let input = input::damaged(&mut self.random, call, Size::Tiny, &numbers);
+            let numbers: Vec<u64> = (0..3).map(|_| self.random.pick(&call.refusals(self.ends))).collect();
+            let input = input::damaged(&mut self.random, call, Size::Tiny, self.ends, &numbers);
             self.try_input(&input);
+        }
+    }
+
+    /// Every call on made-up days with such ends, after the plain implementation against itself; `part` of the full count of each.
+    fn made_up(&mut self, ends: Ends, part: usize) {
+        self.ends = ends;
+        itself::check(&mut self.random, ends, 4000 / part);
+        for call in CALLS {
+            self.pairs(call, 24 / part + 1);
+            self.valid(call, Size::Tiny, 3000 / part);
+            self.valid(call, Size::Middle, 400 / part);
+            self.valid(call, Size::Long, 40 / part);
+            self.valid(call, Size::Limits, if call.path().is_some() { 4 } else { 100 } / part);
+            self.changed(call, Size::Tiny, 800 / part);
+            self.changed(call, Size::Long, 12 / part);
+            self.damaged(call, 400 / part);
         }
     }
 }
@@ -109,16 +137,17 @@ fn report(input: &Input) -> ! {
     exit(1);
 }
 
-/// A file of more records than the end's two bytes can count: the count is not taken modulo 65,536.
-fn long_file(call: Call) -> Input {
-    let mut file = vec![];
-    for _ in 0..65_537 {
-        file.push(plain::PERIOD);
-        file.extend([0; plain::PERIOD_BODY]);
-    }
-    file.extend([plain::END, 0, 1]);
-    let lent = if call == Call::Read { vec![1; 5] } else { vec![] };
-    Input { call, day: plain::Day::default(), plans: vec![], file, period: 1, lent }
+/// A file of more records than the end's two bytes can count, alone and after another kind: the count is not taken modulo 65,536.
+fn long_files(call: Call) -> [Input; 2] {
+    [vec![], plain::charge_record(1, 2)].map(|mut file| {
+        for _ in 0..65_537 {
+            file.push(plain::PERIOD);
+            file.extend([0; plain::PERIOD_BODY]);
+        }
+        file.extend([plain::END, 0, 1]);
+        let lent = if call == Call::Read { vec![1; 5] } else { vec![] };
+        Input { call, day: plain::Day::default(), plans: vec![], file, period: 1, lent }
+    })
 }
 
 fn main() {
@@ -127,26 +156,19 @@ fn main() {
         Some(word) => word.parse().expect("the seed is a number"),
     };
     let start = Instant::now();
-    let mut run = Run { random: Random::new(seed), inputs: 0, accepted: 0, refused: [0; 14], broken: 0 };
-    itself::check(&mut run.random, 4000);
-    for call in CALLS {
-        run.pairs(call, 25);
-        run.valid(call, Size::Tiny, 3000);
-        run.valid(call, Size::Middle, 400);
-        run.valid(call, Size::Long, 40);
-        run.valid(call, Size::Limits, if call.path().is_some() { 4 } else { 100 });
-        run.changed(call, Size::Tiny, 800);
-        run.changed(call, Size::Long, 12);
-        run.damaged(call, 400);
-    }
+    let mut run = Run { random: Random::new(seed), ends: Ends::Zero, inputs: 0, accepted: 0, refused: [0; LAST + 1], broken: 0 };
+    run.made_up(Ends::Zero, 1);
     for call in [Call::Read, Call::Lookup] {
-        run.try_input(&long_file(call));
+        run.try_inputs(&long_files(call));
     }
     let published = published::inputs();
-    for input in &published {
-        run.try_input(input);
+    run.try_inputs(&published);
+    run.made_up(Ends::Any, 2);
+    run.try_inputs(&ends::limits(&CALLS));
+    for file in ends::files() {
+        run.try_inputs(&ends::on_file(&file));
     }
-    let refused = (1..=13).map(|number| format!("{number}: {}", run.refused[number])).collect::<Vec<_>>().join(", ");
+    let refused = (1..=LAST).map(|number| format!("{number}: {}", run.refused[number])).collect::<Vec<_>>().join(", ");
     println!("outside: seed {seed}, {} inputs of {} calls as the plain implementation has them", run.inputs, CALLS.len());
     println!("accepted {}, broken plans {}, refused {refused}", run.accepted, run.broken);
     println!("published instances: {} inputs, each with the published cost", published.len());

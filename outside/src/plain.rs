@@ -1,7 +1,7 @@
-//! Document 01 and the report in plain code, written from these alone: what every call should answer.
+//! Documents 01 and 02 (request 2.1) and the report in plain code, written from these alone: what every call should answer.
 //! Names are lot sizing's; document 01 says need for demand, start for setup, upkeep for holding.
 
-/// A day: one entry a period in each table.
+/// A day: one entry a period in each table, and the charge at both its ends, A and Z.
 #[derive(Clone, Debug, Default, PartialEq)]
 pub struct Day {
     pub demand: Vec<u16>,
@@ -9,6 +9,8 @@ pub struct Day {
     pub setup: Vec<u32>,
     pub unit: Vec<u32>,
     pub holding: Vec<u32>,
+    pub opening: u16,
+    pub closing: u16,
 }
 
 #[derive(Clone, Copy, Debug, PartialEq, Eq)]
@@ -55,11 +57,13 @@ pub const MAX_SETUP: u64 = 1_000_000_000;
 pub const MAX_RATE: u64 = 1_000_000;
 pub const MAX_TOTAL: u64 = 4096;
 
-/// The file's kinds: a period and the end, with the lengths of their bodies.
+/// The file's kinds: a period, the end, and the charge at both ends of the day; with the lengths of their bodies.
 pub const PERIOD: u8 = 1;
 pub const END: u8 = 2;
+pub const CHARGE: u8 = 3;
 pub const PERIOD_BODY: usize = 16;
 pub const END_BODY: usize = 2;
+pub const CHARGE_BODY: usize = 4;
 
 const INFINITE: u64 = u64::MAX;
 
@@ -81,6 +85,27 @@ impl Day {
     pub fn total(&self) -> u64 {
         self.demand_to(self.periods())
     }
+
+    /// R + Z: what the day asks for.
+    pub fn asked(&self) -> u64 {
+        self.total() + self.closing as u64
+    }
+
+    /// T: what a plan makes in all; none where the day begins with more than it asks for.
+    pub fn whole(&self) -> Option<u64> {
+        self.asked().checked_sub(self.opening as u64)
+    }
+
+    /// The least that a plan makes in the first i periods.
+    pub fn least_by(&self, i: usize) -> u64 {
+        let asked = if i == self.periods() { self.asked() } else { self.demand_to(i) };
+        asked.saturating_sub(self.opening as u64)
+    }
+
+    /// The charge left after the first i periods, in which so much was made; below 0 where it does not reach.
+    pub fn left(&self, i: usize, made: u64) -> i64 {
+        self.opening as i64 + made as i64 - self.demand_to(i) as i64
+    }
 }
 
 /// The sum of the first i entries, as far as there are so many.
@@ -99,14 +124,14 @@ fn production(day: &Day, i: usize, x: u64) -> u64 {
     }
 }
 
+/// h_i I_i, where so much is made by then.
+fn holding(day: &Day, i: usize, made: u64) -> u64 {
+    day.holding[i] as u64 * u64::try_from(day.left(i + 1, made)).expect("a plan that is not short")
+}
+
 /// Sum (1) of a plan that keeps the conditions.
 pub fn cost(day: &Day, plan: &[u16]) -> u64 {
-    (0..day.periods())
-        .map(|i| {
-            let left = sum_to(plan, i + 1) - day.demand_to(i + 1);
-            production(day, i, plan[i] as u64) + day.holding[i] as u64 * left
-        })
-        .sum()
+    (0..day.periods()).map(|i| production(day, i, plan[i] as u64) + holding(day, i, sum_to(plan, i + 1))).sum()
 }
 
 pub fn totals(day: &Day, plan: &[u16]) -> Totals {
@@ -118,14 +143,15 @@ pub fn totals(day: &Day, plan: &[u16]) -> Totals {
 pub fn verdict(day: &Day, plan: &[u16]) -> Verdict {
     let n = day.periods();
     for i in 1..=n {
-        let (made, needed) = (sum_to(plan, i), day.demand_to(i));
+        let left = day.left(i, sum_to(plan, i));
+        let least = if i == n { day.closing as i64 } else { 0 };
         if plan[i - 1] > day.capacity[i - 1] {
             return Verdict::Broken(Rule::AboveCapacity, i);
         }
-        if made < needed {
+        if left < least {
             return Verdict::Broken(Rule::Short, i);
         }
-        if i == n && made > needed {
+        if i == n && left > least {
             return Verdict::Broken(Rule::Over, i);
         }
     }
@@ -139,8 +165,8 @@ fn smaller(x: &[u16], y: &[u16]) -> bool {
 
 /// How many plans `search` would try, at most.
 pub fn plans(day: &Day) -> f64 {
-    let total = day.total();
-    day.capacity.iter().map(|&c| (c as u64).min(total) as f64 + 1.0).product()
+    let most = day.whole().unwrap_or(0);
+    day.capacity.iter().map(|&c| (c as u64).min(most) as f64 + 1.0).product()
 }
 
 /// The plan of a day by trying all: of those that hold the cheapest, and of equally cheap ones the smallest.
@@ -159,8 +185,8 @@ pub fn search(day: &Day) -> Option<Planned> {
             }
             return;
         }
-        // a plan that holds makes no more than the whole demand
-        for x in 0..=(day.capacity[i] as u64).min(day.total()) {
+        // no period of a plan that holds makes more than the whole plan
+        for x in 0..=(day.capacity[i] as u64).min(day.whole().unwrap_or(0)) {
             plan.push(x as u16);
             extend(day, plan, best);
             plan.pop();
@@ -173,15 +199,15 @@ pub fn search(day: &Day) -> Option<Planned> {
 
 /// The plan of a day by recursion (5), by its letter: D_i(X) for every X, and the smallest x that gives it.
 pub fn recursion(day: &Day) -> Option<Planned> {
-    let (n, total) = (day.periods(), day.total() as usize);
-    let mut before = vec![INFINITE; total + 1];
+    let n = day.periods();
+    let whole = day.whole()? as usize;
+    let mut before = vec![INFINITE; whole + 1];
     before[0] = 0;
     let mut chosen = Vec::new();
     for i in 1..=n {
-        let needed = day.demand_to(i) as usize;
-        let mut costs = vec![INFINITE; total + 1];
-        let mut amounts = vec![0u16; total + 1];
-        for made in needed..=total {
+        let mut costs = vec![INFINITE; whole + 1];
+        let mut amounts = vec![0u16; whole + 1];
+        for made in day.least_by(i) as usize..=whole {
             for x in 0..=(day.capacity[i - 1] as usize).min(made) {
                 if before[made - x] == INFINITE {
                     continue;
@@ -193,23 +219,23 @@ pub fn recursion(day: &Day) -> Option<Planned> {
                 }
             }
             if costs[made] != INFINITE {
-                costs[made] += day.holding[i - 1] as u64 * (made - needed) as u64;
+                costs[made] += holding(day, i - 1, made as u64);
             }
         }
         before = costs;
         chosen.push(amounts);
     }
-    if before[total] == INFINITE {
+    if before[whole] == INFINITE {
         return None;
     }
     let mut plan = vec![0u16; n];
-    let mut made = total;
+    let mut made = whole;
     for i in (0..n).rev() {
         plan[i] = chosen[i][made];
         made -= plan[i] as usize;
     }
     let totals = totals(day, &plan);
-    assert_eq!(totals.cost, before[total], "recursion (5) and sum (1) differ");
+    assert_eq!(totals.cost, before[whole], "recursion (5) and sum (1) differ");
     Some(Planned { plan, totals })
 }
 
@@ -222,7 +248,7 @@ pub fn plan(day: &Day) -> Option<Planned> {
     }
 }
 
-// Document 01's conditions, each by itself; where tables differ in length, entries past an end count as 0.
+// The papers' conditions, each by itself; where tables differ in length, entries past an end count as 0.
 
 fn refused(number: u64, condition: bool) -> Option<Refusal> {
     condition.then_some(Refusal { number, period: 0 })
@@ -253,21 +279,36 @@ pub fn bad_value(day: &Day) -> Option<Refusal> {
 }
 
 pub fn bad_total(day: &Day) -> Option<Refusal> {
-    refused(4, day.total() > MAX_TOTAL)
+    refused(4, day.asked() > MAX_TOTAL)
+}
+
+pub fn bad_opening(day: &Day) -> Option<Refusal> {
+    refused(14, day.opening as u64 > day.asked())
 }
 
 pub fn shortage(day: &Day) -> Option<Refusal> {
-    refused_at(7, day.periods(), |i| day.demand_to(i) > day.capacity_to(i))
+    let n = day.periods();
+    refused_at(7, n, |i| {
+        let supply = day.opening as u64 + day.capacity_to(i);
+        day.demand_to(i) > supply || i == n && day.asked() > supply
+    })
 }
 
 pub fn unequal(day: &Day) -> Option<Refusal> {
     refused(8, day.capacity.windows(2).any(|two| two[0] != two[1]))
 }
 
+/// What a plan can still have to make in period i, counted from 1: T less the larger of 0 and (R before the period - A).
+/// Below 0 where the day begins with more than it asks for.
+pub fn rest(day: &Day, i: usize) -> i64 {
+    let whole = day.asked() as i64 - day.opening as i64;
+    whole - (day.demand_to(i - 1) as i64 - day.opening as i64).max(0)
+}
+
 pub fn binding(day: &Day) -> Option<Refusal> {
     refused_at(9, day.periods(), |i| {
-        let capacity = day.capacity.get(i - 1).copied().unwrap_or(0) as u64;
-        capacity < day.total() - day.demand_to(i - 1)
+        let capacity = day.capacity.get(i - 1).copied().unwrap_or(0) as i64;
+        capacity < rest(day, i)
     })
 }
 
@@ -275,14 +316,19 @@ pub fn too_few(cells: usize, needed: usize) -> Option<Refusal> {
     refused(6, cells < needed)
 }
 
-/// The cells that a path needs: cost area, choice area.
+/// The cells that a path needs: cost area, choice area. A day of refusal 14 counts as one with nothing to make.
 pub fn cells(path: Path, day: &Day) -> (usize, usize) {
-    let (n, total) = (day.periods(), day.total() as usize);
+    let (n, whole) = (day.periods(), day.whole().unwrap_or(0) as usize);
     match path {
-        Path::Full => (2 * (total + 1), n * (total + 1)),
+        Path::Full => (2 * (whole + 1), n * (whole + 1)),
         Path::Uncapped => (n + 1, n + 1),
         Path::Equal => (6 * (n + 1), 4 * (n + 1) * (n + 1)),
     }
+}
+
+/// What every call with a day to plan or to weigh refuses first, in order.
+fn day_refusals(day: &Day) -> Vec<Refusal> {
+    [bad_count(day.periods()), bad_lengths(day), bad_value(day), bad_total(day), bad_opening(day)].into_iter().flatten().collect()
 }
 
 /// What a path refuses, in order.
@@ -294,66 +340,92 @@ pub fn path_refusals(path: Path, day: &Day, costs: usize, choices: usize, slots:
         Path::Equal => unequal(day),
     };
     let areas = refused(5, costs < needed.0 || choices < needed.1);
-    [bad_count(day.periods()), bad_lengths(day), bad_value(day), bad_total(day), areas, too_few(slots, day.periods()), shortage(day), own]
-        .into_iter()
-        .flatten()
-        .collect()
+    let mut refusals = day_refusals(day);
+    refusals.extend([areas, too_few(slots, day.periods()), shortage(day), own].into_iter().flatten());
+    refusals
 }
 
 /// What the weigher refuses, in order, for one plan or two.
 pub fn weigh_refusals(day: &Day, plans: &[&[u16]]) -> Vec<Refusal> {
     let shortest = plans.iter().map(|plan| plan.len()).min().unwrap();
-    [bad_count(day.periods()), bad_lengths(day), bad_value(day), bad_total(day), too_few(shortest, day.periods())]
-        .into_iter()
-        .flatten()
-        .collect()
+    let mut refusals = day_refusals(day);
+    refusals.extend(too_few(shortest, day.periods()));
+    refusals
 }
 
 // The day file.
 
-/// What the walk says of a file, front to back: the number of its periods, or its first fault.
-pub fn walk(file: &[u8]) -> Result<usize, Refusal> {
-    let fault = |number| Err(Refusal { number, period: 0 });
-    let mut rest = file;
-    let mut periods = 0;
-    loop {
-        match rest.first() {
-            None => return fault(11),
-            Some(&PERIOD) if rest.len() > PERIOD_BODY => {
-                periods += 1;
-                rest = &rest[1 + PERIOD_BODY..];
-            }
-            Some(&END) if rest.len() > END_BODY => {
-                let count = u16::from_be_bytes([rest[1], rest[2]]) as usize;
-                if count != periods || rest.len() > 1 + END_BODY {
-                    return fault(12);
-                }
-                return Ok(periods);
-            }
-            Some(&PERIOD) | Some(&END) => return fault(11),
-            Some(_) => return fault(10),
-        }
+/// What a file that walks cleanly holds.
+#[derive(Clone, Debug, Default, PartialEq)]
+pub struct Records {
+    pub opening: u16,
+    pub closing: u16,
+    /// where the body of each period record begins in the file
+    pub bodies: Vec<usize>,
+}
+
+impl Records {
+    pub fn periods(&self) -> usize {
+        self.bodies.len()
+    }
+
+    /// Where the body of period i, counted from 1, begins, and how long it is.
+    pub fn place(&self, i: usize) -> [usize; 2] {
+        [self.bodies[i - 1], PERIOD_BODY]
     }
 }
 
-/// Where the body of period i, counted from 1, begins in a file that walks cleanly, and how long it is.
-pub fn place(i: usize) -> [usize; 2] {
-    [(1 + PERIOD_BODY) * (i - 1) + 1, PERIOD_BODY]
+fn two(bytes: &[u8], at: usize) -> u16 {
+    u16::from_be_bytes(bytes[at..at + 2].try_into().unwrap())
+}
+
+fn four(bytes: &[u8], at: usize) -> u32 {
+    u32::from_be_bytes(bytes[at..at + 4].try_into().unwrap())
+}
+
+/// What the walk says of a file, front to back: what it holds, or its first fault.
+pub fn walk(file: &[u8]) -> Result<Records, Refusal> {
+    let fault = |number| Err(Refusal { number, period: 0 });
+    let mut records = Records::default();
+    let mut at = 0;
+    loop {
+        let Some(&kind) = file.get(at) else { return fault(11) };
+        let length = match kind {
+            PERIOD => PERIOD_BODY,
+            END => END_BODY,
+            // only as the first record; elsewhere its kind byte is the fault
+            CHARGE if at == 0 => CHARGE_BODY,
+            CHARGE => return fault(12),
+            _ => return fault(10),
+        };
+        let Some(body) = file.get(at + 1..at + 1 + length) else { return fault(11) };
+        let next = at + 1 + length;
+        match kind {
+            PERIOD => records.bodies.push(at + 1),
+            CHARGE => {
+                (records.opening, records.closing) = (two(body, 0), two(body, 2));
+                if records.opening == 0 && records.closing == 0 {
+                    return fault(12);
+                }
+            }
+            _ if two(body, 0) as usize != records.periods() || next < file.len() => return fault(12),
+            _ => return Ok(records),
+        }
+        at = next;
+    }
 }
 
 /// The body of period i, counted from 1, of a file that walks cleanly.
-pub fn body(file: &[u8], i: usize) -> &[u8] {
-    let [start, length] = place(i);
+pub fn body<'a>(file: &'a [u8], records: &Records, i: usize) -> &'a [u8] {
+    let [start, length] = records.place(i);
     &file[start..start + length]
 }
 
 /// The day of a file that walks cleanly.
-pub fn day_in(file: &[u8], periods: usize) -> Day {
-    let two = |body: &[u8], at: usize| u16::from_be_bytes(body[at..at + 2].try_into().unwrap());
-    let four = |body: &[u8], at: usize| u32::from_be_bytes(body[at..at + 4].try_into().unwrap());
-    let mut day = Day::default();
-    for i in 1..=periods {
-        let body = body(file, i);
+pub fn day_in(file: &[u8], records: &Records) -> Day {
+    let mut day = Day { opening: records.opening, closing: records.closing, ..Day::default() };
+    for i in 1..=records.periods() {
+        let body = body(file, records, i);
         day.demand.push(two(body, 0));
         day.capacity.push(two(body, 2));
         day.setup.push(four(body, 4));
@@ -363,9 +435,20 @@ pub fn day_in(file: &[u8], periods: usize) -> Day {
     day
 }
 
+/// The record of the charge at both ends of a day.
+pub fn charge_record(opening: u16, closing: u16) -> Vec<u8> {
+    let mut record = vec![CHARGE];
+    record.extend(opening.to_be_bytes());
+    record.extend(closing.to_be_bytes());
+    record
+}
+
 /// The file of a day whose tables are as long as the first.
 pub fn file_of(day: &Day) -> Vec<u8> {
     let mut file = Vec::new();
+    if day.opening > 0 || day.closing > 0 {
+        file.extend(charge_record(day.opening, day.closing));
+    }
     for i in 0..day.periods() {
         file.push(PERIOD);
         file.extend(day.demand[i].to_be_bytes());
@@ -379,15 +462,19 @@ pub fn file_of(day: &Day) -> Vec<u8> {
     file
 }
 
-pub fn file_length(periods: usize) -> usize {
-    (1 + PERIOD_BODY) * periods + 1 + END_BODY
+pub fn file_length(day: &Day) -> usize {
+    let first = if day.opening > 0 || day.closing > 0 { 1 + CHARGE_BODY } else { 0 };
+    first + (1 + PERIOD_BODY) * day.periods() + 1 + END_BODY
 }
 
 /// What the reader refuses, in order; `shortest` is the length of the shortest of the lent tables.
 pub fn read_refusals(file: &[u8], shortest: usize) -> Vec<Refusal> {
     match walk(file) {
         Err(fault) => vec![fault],
-        Ok(n) => [bad_count(n), too_few(shortest, n), bad_value(&day_in(file, n))].into_iter().flatten().collect(),
+        Ok(records) => {
+            let n = records.periods();
+            [bad_count(n), too_few(shortest, n), bad_value(&day_in(file, &records))].into_iter().flatten().collect()
+        }
     }
 }
 
@@ -395,11 +482,14 @@ pub fn read_refusals(file: &[u8], shortest: usize) -> Vec<Refusal> {
 pub fn lookup_refusals(file: &[u8], period: usize) -> Vec<Refusal> {
     match walk(file) {
         Err(fault) => vec![fault],
-        Ok(n) => [bad_count(n), refused(13, period == 0 || period > n)].into_iter().flatten().collect(),
+        Ok(records) => {
+            let n = records.periods();
+            [bad_count(n), refused(13, period == 0 || period > n)].into_iter().flatten().collect()
+        }
     }
 }
 
 /// What the writer refuses, in order.
 pub fn write_refusals(day: &Day, out: usize) -> Vec<Refusal> {
-    [bad_count(day.periods()), bad_lengths(day), bad_value(day), too_few(out, file_length(day.periods()))].into_iter().flatten().collect()
+    [bad_count(day.periods()), bad_lengths(day), bad_value(day), too_few(out, file_length(day))].into_iter().flatten().collect()
 }

@@ -45,6 +45,8 @@ pub fn inputs() -> Vec<Input> {
                 setup: setup.into(),
                 unit: vec![0; 12],
                 holding: vec![holding; 12],
+                opening: 0,
+                closing: 0,
             };
             let setups = plan.iter().filter(|&&x| x > 0).count() as u64;
             assert_eq!(plain::recursion(&day), Some(Planned { plan: plan.into(), totals: Totals { cost, setups } }));

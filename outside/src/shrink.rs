@@ -1,5 +1,6 @@
 //! Makes a failing input smaller as long as it still fails, and prints it.
 use crate::input::{Call, Input};
+use crate::plain::{self, Day};
 use std::time::{Duration, Instant};
 
 /// Smaller numbers to try in place of one.
@@ -48,10 +49,36 @@ fn steps(input: &Input) -> Vec<Input> {
         next.plans = input.plans.iter().map(|plan| without(plan, i)).collect();
         tries.push(next);
     }
-    for at in (0..input.file.len()).step_by(17) {
-        let mut next = input.clone();
-        next.file.drain(at..(at + 17).min(input.file.len()));
-        tries.push(next);
+    // a period of a file that is whole, and of its end's count
+    if let Ok(records) = plain::walk(&input.file) {
+        let count = (records.periods() as u16).wrapping_sub(1).to_be_bytes();
+        for &body in &records.bodies {
+            let mut file = input.file.clone();
+            file.drain(body - 1..body + plain::PERIOD_BODY);
+            let end = file.len() - plain::END_BODY;
+            file[end..].copy_from_slice(&count);
+            tries.push(Input { file, ..input.clone() });
+        }
+    }
+    // records of any file: the first may have 5 bytes
+    for (first, length) in [(0, 5), (0, 17), (5, 17)] {
+        for at in (first..input.file.len()).step_by(length) {
+            let mut next = input.clone();
+            next.file.drain(at..(at + length).min(input.file.len()));
+            tries.push(next);
+        }
+    }
+    // the charge at both ends, together and alone
+    let both = day.opening.min(day.closing) as u64;
+    for less in smaller(both).into_iter().map(|v| (both - v) as u16) {
+        let ends = Day { opening: day.opening - less, closing: day.closing - less, ..day.clone() };
+        tries.push(Input { day: ends, ..input.clone() });
+    }
+    for opening in smaller(day.opening as u64) {
+        tries.push(Input { day: Day { opening: opening as u16, ..day.clone() }, ..input.clone() });
+    }
+    for closing in smaller(day.closing as u64) {
+        tries.push(Input { day: Day { closing: closing as u16, ..day.clone() }, ..input.clone() });
     }
     values(input, |x| &mut x.day.demand, |v| v as u16, &mut tries);
     values(input, |x| &mut x.day.capacity, |v| v as u16, &mut tries);
@@ -107,12 +134,14 @@ pub fn show(input: &Input) -> String {
     let mut lines = vec![format!("call {:?}", input.call)];
     if !matches!(input.call, Call::Read | Call::Lookup) {
         lines.push(format!(
-            "needs {}; capacities {}; b {}; p {}; h {}",
+            "needs {}; capacities {}; b {}; p {}; h {}; A {}; Z {}",
             words16(&day.demand),
             words16(&day.capacity),
             words32(&day.setup),
             words32(&day.unit),
-            words32(&day.holding)
+            words32(&day.holding),
+            day.opening,
+            day.closing
         ));
     }
     for plan in plans {

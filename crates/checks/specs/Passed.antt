@@ -1,31 +1,32 @@
--- What a caller of the tests learns. Main statements, in document 01's order of the tests:
---     tables-passed, day-passed             1, 2, 3: what `Limits` says of the tables; 4
---     shortage-passed, shortage-refused     7: R ≤ C throughout; the first period in which it is not
+-- What a caller of the tests learns. Main statements, in the documents' order of the tests:
+--     tables-passed, day-passed             1, 2, 3: what `Limits` says of the tables; 4, 14
+--     shortage-passed, shortage-refused     7: what must have been made is at most C throughout; the first period in which it is not
 --     equal-passed                          8
 --     binding-passed                        9
 --     admitted                              all tests of a path: what its work relies on
 -- Assumes nothing.
 use mathlib.Core.Path.{_≡_, refl, sym, ap, _∙_}
-use mathlib.Core.Bool.{Bool, false, not, _||_}
+use mathlib.Core.Bool.{Bool, false, not, _||_, or-false}
 use mathlib.Core.List.{List, [], _∷_}
 use mathlib.Core.Option.{Option, none, some, Option·none-ne-some, Option·some-ne-none, Option·some-injective}
 use Prim.Native.Nat.{ℕ, zero, suc, _+_, _-_, _≤_, _<_}
+use native.Mathlib.Decide.{decLt}
 use native.Mathlib.Omega.{arith}
 use lib.Dec.{ltb, eqb}
 use lib.ListN.{length}
-use borrow.Author.Tests.{ltb-true, ltb-false, le-ltb, eqb-true, eqb-false, eq-eqb, ne-eqb, not-false}
+use borrow.Author.Tests.{ltb-true, ltb-false, lt-ltb, le-ltb, eqb-true, eqb-false, eq-eqb, ne-eqb, not-false}
 use Rattle.day.specs.declared.Refusal.{Refusal}
-use Rattle.day.specs.declared.Refusal.the-variants.{PeriodCount, TableLength, AboveLimit, TotalDemand, ShortArea, FewSlots}
+use Rattle.day.specs.declared.Refusal.the-variants.{PeriodCount, TableLength, AboveLimit, TotalDemand, ShortArea, FewSlots, SurplusInventory}
 use Rattle.day.specs.declared.Refusal.the-variants.{Shortage, UnequalCapacities, BindingCapacity}
 use Rattle.day.specs.Sums.{at}
 use Rattle.day.specs.Find.{find, none-found, nothing-found, some-found}
 use Rattle.day.specs.Day.{Day, periods, maxPeriods, maxDemand, maxCapacity, maxSetup, maxRate, maxTotal}
-use Rattle.day.specs.Day.{demandTo, capacityTo, total}
-use Rattle.day.specs.Refusals.{numberOf, periodOf, refuseAt, anywhere, first, badCount, badLengths, aboveLimit, badValue, tableTests, badTotal, dayTests}
+use Rattle.day.specs.Day.{demandTo, capacityTo, required, total, netTo, net-before, net-end}
+use Rattle.day.specs.Refusals.{numberOf, periodOf, refuseAt, anywhere, first, badCount, badLengths, aboveLimit, badValue, tableTests}
+use Rattle.day.specs.Refusals.{badTotal, badOpening, totalTests, dayTests}
 use Rattle.day.specs.Refusals.{badAreas, badSlots, short, shortage, differs, unequal, binds, binding}
 use Rattle.day.specs.Tests.{first-split, first-passed, first-one, not-refused, nowhere, neither}
 use Rattle.day.specs.Outcome.{Path, Sizes, Roomy, memoryTests, pathTests, refusal}
-use Rattle.checks.specs.declared.Needed.{Needed}
 
 -- every table is as long as the demand table
 pub record SameLengths (d : Day) : Type 0 where
@@ -54,19 +55,14 @@ pub record Limits (d : Day) : Type 0 where
   pub lengths : SameLengths d
   pub within : (k : ℕ) → k < periods d → Within d k
 
--- what test 7 refuses, by document 01's numbers: the first period k + 1 with R above C
+-- what test 7 refuses, by number and period: the first period k + 1 by whose end more must have been made than C
 pub record FirstShort (d : Day) (r : Refusal) : Type 0 where
   pub k : ℕ
   pub number : numberOf r ≡ 7
   pub period : periodOf r ≡ suc k
   pub inside : k < periods d
-  pub above : capacityTo d (suc k) < demandTo d (suc k)
-  pub earlier : (j : ℕ) → j < k → demandTo d (suc j) ≤ capacityTo d (suc j)
-
--- what a path needs for n periods and R over the day
-pub record NeededBy (P : Path) (n R : ℕ) (r : Needed) : Type 0 where
-  pub costs : r .costs ≡ P .costCells n R
-  pub choices : r .choices ≡ P .choiceCells n R
+  pub above : capacityTo d (suc k) < netTo d (suc k)
+  pub earlier : (j : ℕ) → j < k → netTo d (suc j) ≤ capacityTo d (suc j)
 
 -- 1
 pub count-passed : (n : ℕ) → badCount n ≡ none → (1 ≤ n) × (n ≤ maxPeriods)
@@ -132,37 +128,60 @@ tables-passed d e =
       within = λ k l. values-within d k (none-found (aboveLimit d) (periods d) value k l);
     }
 
--- what tests 1 to 4 leave
+-- what tests 1 to 4 and 14 leave
 pub record DayLimits (d : Day) : Type 0 where
   pub limits : Limits d
-  pub total : total d ≤ maxTotal
+  pub small : required d ≤ maxTotal
+  pub used : d .opening ≤ required d
 
 pub day-passed : (d : Day) → first (dayTests d) ≡ none → DayLimits d
 day-passed d e =
-    let t = first-split (tableTests d) (badTotal d ∷ []) e in
+    let t = first-split (tableTests d) (totalTests d) e in
+    let s = first-split (badTotal d ∷ []) (badOpening d ∷ []) (t .1) in
     record {
       limits = tables-passed d (t .0);
-      total = ltb-false _ _ (not-refused (ltb maxTotal (total d)) TotalDemand (rw first-one at (t .1)));
+      small = ltb-false _ _ (not-refused (ltb maxTotal (required d)) TotalDemand (rw first-one at (s .0)));
+      used = ltb-false _ _ (not-refused (ltb (required d) (d .opening)) SurplusInventory (rw first-one at (s .1)));
     }
 
 -- 5, 6
 memory-passed : (P : Path) (d : Day) (s : Sizes) → first (memoryTests P d s) ≡ none → Roomy P d s
 memory-passed P d s e =
     let n = periods d in
-    let R = total d in
-    let areas = badAreas (s .costs) (P .costCells n R) (s .choices) (P .choiceCells n R) in
+    let T = total d in
+    let areas = badAreas (s .costs) (P .costCells n T) (s .choices) (P .choiceCells n T) in
     let t = first-split (areas ∷ []) (badSlots (s .slots) n ∷ []) e in
-    let short = ltb (s .costs) (P .costCells n R) || ltb (s .choices) (P .choiceCells n R) in
-    let a = neither (ltb (s .costs) (P .costCells n R)) (ltb (s .choices) (P .choiceCells n R)) (not-refused short ShortArea (rw first-one at (t .0))) in
+    let short = ltb (s .costs) (P .costCells n T) || ltb (s .choices) (P .choiceCells n T) in
+    let a = neither (ltb (s .costs) (P .costCells n T)) (ltb (s .choices) (P .choiceCells n T)) (not-refused short ShortArea (rw first-one at (t .0))) in
     record {
       costs = ltb-false _ _ (a .0);
       choices = ltb-false _ _ (a .1);
       slots = ltb-false _ _ (not-refused (ltb (s .slots) n) FewSlots (rw first-one at (t .1)));
     }
 
--- 7: R_i ≤ C_i throughout
-pub shortage-passed : (d : Day) → shortage d ≡ none → (k : ℕ) → k < periods d → demandTo d (suc k) ≤ capacityTo d (suc k)
-shortage-passed d e k l = ltb-false _ _ (none-found (short d) (periods d) (nowhere Shortage _ e) k l)
+-- of two bounds the larger decides
+larger-decides : (c a b : ℕ) → a ≤ b → (ltb c a || ltb c b) ≡ ltb c b
+larger-decides c a b l = go (decLt c a)
+  where
+    go : Dec (c < a) → (ltb c a || ltb c b) ≡ ltb c b
+    go (yes h) = rw (lt-ltb c a h, lt-ltb c b (omega arith)) refl
+    go (no h) = rw (le-ltb c a (omega arith)) refl
+
+-- 7: by the end of the period more must have been made than C
+pub short-is : (d : Day) (k : ℕ) → k < periods d → short d k ≡ ltb (capacityTo d (suc k)) (netTo d (suc k))
+short-is d k l = go (decLt (suc k) (periods d))
+  where
+    go : Dec (suc k < periods d) → short d k ≡ ltb (capacityTo d (suc k)) (netTo d (suc k))
+    go (yes h) = rw (net-before d (suc k) h, ne-eqb (suc k) (periods d) (λ e. omega arith)) (or-false _)
+    go (no h) =
+        let e : suc k ≡ periods d = omega arith in
+        let net : netTo d (suc k) ≡ total d = ap (netTo d) e ∙ net-end d in
+        rw (net, eq-eqb (suc k) (periods d) e)
+        (larger-decides (capacityTo d (suc k)) (demandTo d (suc k) - d .opening) (total d) (omega (arith, ap (demandTo d) e)))
+
+-- never more must have been made than C
+pub shortage-passed : (d : Day) → shortage d ≡ none → (k : ℕ) → k < periods d → netTo d (suc k) ≤ capacityTo d (suc k)
+shortage-passed d e k l = ltb-false _ _ (sym (short-is d k l) ∙ none-found (short d) (periods d) (nowhere Shortage _ e) k l)
 
 pub shortage-refused : (d : Day) (r : Refusal) → shortage d ≡ some r → FirstShort d r
 shortage-refused d r e = go (find (short d) (periods d)) refl e
@@ -176,8 +195,8 @@ shortage-refused d r e = go (find (short d) (periods d)) refl e
           number = sym (ap numberOf (Option·some-injective _ _ s));
           period = sym (ap periodOf (Option·some-injective _ _ s));
           inside = f .inside;
-          above = ltb-true _ _ (f .passes);
-          earlier = λ j l. ltb-false _ _ (f .first j l);
+          above = ltb-true _ _ (sym (short-is d k (f .inside)) ∙ f .passes);
+          earlier = λ j l. ltb-false _ _ (sym (short-is d j (omega (arith, f .inside))) ∙ f .first j l);
         }
 
 -- 8: one capacity throughout
@@ -188,17 +207,17 @@ equal-passed d e k l = eqb-true _ _ (not-false _ (none-found (differs d) (period
     go none s = refl
     go (some j) s = absurd (Option·some-ne-none _ s)
 
--- 9: no capacity is below what is still to be supplied
-pub binding-passed : (d : Day) → binding d ≡ none → (k : ℕ) → k < periods d → total d ≤ demandTo d k + at (d .capacity) k
+-- 9: no capacity is below what is still to be made
+pub binding-passed : (d : Day) → binding d ≡ none → (k : ℕ) → k < periods d → total d ≤ netTo d k + at (d .capacity) k
 binding-passed d e k l =
     let free = none-found (binds d) (periods d) (nowhere BindingCapacity _ e) k l in
-    omega (arith, ltb-false (at (d .capacity) k) (total d - demandTo d k) free)
+    omega (arith, net-before d k l, ltb-false (at (d .capacity) k) (total d - (demandTo d k - d .opening)) free)
 
 -- what a path relies on that refuses nothing
 pub record Admitted (P : Path) (d : Day) (s : Sizes) : Type 0 where
   pub day : DayLimits d
   pub room : Roomy P d s
-  pub supplied : (k : ℕ) → k < periods d → demandTo d (suc k) ≤ capacityTo d (suc k)
+  pub supplied : (k : ℕ) → k < periods d → netTo d (suc k) ≤ capacityTo d (suc k)
   pub own : first (P .own d) ≡ none
 
 pub admitted : (P : Path) (d : Day) (s : Sizes) → refusal P d s ≡ none → Admitted P d s
@@ -213,7 +232,7 @@ admitted P d s e =
       own = three .1;
     }
 
--- and the other way round: a day within the limits passes tests 1 to 3, and 4
+-- and the other way round: a day within the limits passes tests 1 to 3, and 4 and 14
 pub lengths-pass : (d : Day) → SameLengths d → badLengths d ≡ none
 lengths-pass d s = simp (eq-eqb _ _ (s .capacity), eq-eqb _ _ (s .setup), eq-eqb _ _ (s .unit), eq-eqb _ _ (s .holding))
 
@@ -232,4 +251,4 @@ tables-pass d l = rw (count, lengths-pass d (l .lengths), value) refl
 
 pub day-passes : (d : Day) → DayLimits d → first (dayTests d) ≡ none
 day-passes d g =
-    first-passed (tableTests d) (badTotal d ∷ []) (tables-pass d (g .limits)) ∙ rw (le-ltb _ _ (g .total)) refl
+    first-passed (tableTests d) (totalTests d) (tables-pass d (g .limits)) ∙ rw (le-ltb _ _ (g .small), le-ltb _ _ (g .used)) refl

@@ -1,6 +1,6 @@
--- An answer in document 01's figures: the number and the period of what it refuses, and the values that it gives.
+-- An answer in the documents' figures: the number and the period of what it refuses, and the values that it gives.
 -- Each answer's figures are defined in its own crate; those of a path's answer here, and the promise of a call that answers with its tests.
--- Main definitions: `Figures`, `answerFigures`, `Checks`; main statements: `first-value`, `second-value`, `checks-is`, `is-checks`. Assumes nothing.
+-- Main definitions: `Figures`, `answerFigures`, `Checks`; main statements: `same-values`, `checks-is`, `is-checks`. Assumes nothing.
 use mathlib.Core.Path.{_≡_, refl, sym, ap, subst}
 use mathlib.Core.List.{List, [], _∷_}
 use mathlib.Core.Option.{Option, none, some}
@@ -30,13 +30,16 @@ abbrev pub answerFigures : Answer → Figures ℕ
 answerFigures (answer.Refused r) = refusedWith r
 answerFigures (answer.Planned t) = acceptedWith (t .cost ∷ t .setups ∷ [])
 
--- accepted answers with the same figures give the same values, one by one
+-- accepted answers with the same figures give the same values
+pub same-values : {A : Type 0} {l m : List A} → acceptedWith l ≡ acceptedWith m → l ≡ m
+same-values {A} {l} {m} e = let same : some l ≡ some m = ap (λ (f : Figures A). f .values) e in cc
+
+-- one by one
 pub first-value : {A : Type 0} {a b : A} {l m : List A} → acceptedWith (a ∷ l) ≡ acceptedWith (b ∷ m) → a ≡ b
-first-value {A} {a} {b} {l} {m} e = let same : some (a ∷ l) ≡ some (b ∷ m) = ap (λ (f : Figures A). f .values) e in cc
+first-value e = let same = same-values e in cc
 
 pub second-value : {A : Type 0} {a b x y : A} {l m : List A} → acceptedWith (x ∷ a ∷ l) ≡ acceptedWith (y ∷ b ∷ m) → a ≡ b
-second-value {A} {a} {b} {x} {y} {l} {m} e =
-    let same : some (x ∷ a ∷ l) ≡ some (y ∷ b ∷ m) = ap (λ (f : Figures A). f .values) e in cc
+second-value e = let same = same-values e in cc
 
 -- the promise of a call that answers with its tests alone: its first refusal, by number and period, or that there is none
 abbrev pub Checks : Option Refusal → Check → Type 0

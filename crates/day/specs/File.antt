@@ -1,5 +1,9 @@
--- The day file (document 01, "Day file"): its layout, the day that it holds, the one file of a day, and conditions 10 to 13.
--- A record is one byte of kind and a body whose length the kind fixes; numbers are unsigned, most significant byte first.
+-- The day file (document 01, "Day file"; document 02, 2.1): its layout, the day that it holds, the one file of a day, and conditions 10 to 13.
+-- A record is one byte of kind and a body whose length the kind fixes; numbers are unsigned, most significant byte first:
+--     kind 1  a period (16 bytes)
+--     kind 2  the end (2 bytes)
+--     kind 3  opening and closing charge (4 bytes)
+-- The head is kind 3, where it is there; the periods follow, then the end.
 -- Main definitions: `Layout`, what a file is; `dayIn`, the day that it holds; `fileOf`, the file of a day. Assumes nothing.
 use mathlib.Core.Path.{_≡_}
 use mathlib.Core.Bool.{Bool, not, _&&_, _||_, cond}
@@ -15,19 +19,22 @@ use Rattle.day.specs.Find.{find}
 use Rattle.day.specs.Day.{Day, periods}
 use Rattle.day.specs.Refusals.{refuse, first}
 
--- the kinds: a period, the end
+-- the kinds
 abbrev pub periodKind : ℕ
 periodKind = 1
 
 abbrev pub endKind : ℕ
 endKind = 2
 
+abbrev pub chargeKind : ℕ
+chargeKind = 3
+
 abbrev pub isKind : ℕ → Bool
-isKind kind = eqb kind periodKind || eqb kind endKind
+isKind kind = eqb kind periodKind || eqb kind endKind || eqb kind chargeKind
 
 -- how long a body the kind fixes; an unknown kind has none
 abbrev pub bodyLength : ℕ → ℕ
-bodyLength kind = cond (eqb kind periodKind) 16 (cond (eqb kind endKind) 2 0)
+bodyLength kind = cond (eqb kind periodKind) 16 (cond (eqb kind endKind) 2 (cond (eqb kind chargeKind) 4 0))
 
 -- the record that begins at byte p: its body, and where the record after it begins
 abbrev pub body : List ℕ → ℕ → List ℕ
@@ -36,11 +43,6 @@ body s p = take (bodyLength (at s p)) (drop (p + 1) s)
 abbrev pub next : List ℕ → ℕ → ℕ
 next s p = p + 1 + bodyLength (at s p)
 
--- where record i begins, counted from 0
-abbrev pub recordAt : List ℕ → ℕ → ℕ
-recordAt s zero = 0
-recordAt s (suc i) = next s (recordAt s i)
-
 -- the numbers of 2 and 4 bytes that stand at a place of a body
 abbrev pub number2 : List ℕ → ℕ → ℕ
 number2 b p = at b p * 256 + at b (p + 1)
@@ -48,18 +50,38 @@ number2 b p = at b p * 256 + at b (p + 1)
 abbrev pub number4 : List ℕ → ℕ → ℕ
 number4 b p = number2 b p * 65536 + number2 b (p + 2)
 
--- a file of n periods: n period records, then one end record, which holds n, and no byte more
+-- a whole record of a kind begins at byte p
+abbrev pub isRecord : ℕ → List ℕ → ℕ → Bool
+isRecord kind s p = eqb (at s p) kind && leb (next s p) (length s)
+
+abbrev pub isPeriod : List ℕ → ℕ → Bool
+isPeriod s p = isRecord periodKind s p
+
+-- A and Z are both 0: then no record holds them
+abbrev pub bothZero : (opening closing : ℕ) → Bool
+bothZero opening closing = eqb opening 0 && eqb closing 0
+
+-- a whole record of charges, not both 0
+abbrev pub isCharges : List ℕ → ℕ → Bool
+isCharges s p = isRecord chargeKind s p && not (bothZero (number2 (body s p) 0) (number2 (body s p) 2))
+
+-- where the head ends: past the charges, where they stand first
+abbrev pub headEnd : List ℕ → ℕ
+headEnd s = cond (isCharges s 0) (next s 0) 0
+
+-- where record i after the head begins, counted from 0
+abbrev pub recordAt : List ℕ → ℕ → ℕ
+recordAt s zero = headEnd s
+recordAt s (suc i) = next s (recordAt s i)
+
+-- a file of n periods: the head, n period records, then one end record, which holds n, and no byte more
 pub record Layout (s : List ℕ) (n : ℕ) : Type 0 where
   pub periods : (i : ℕ) → i < n → at s (recordAt s i) ≡ periodKind
   pub ends : at s (recordAt s n) ≡ endKind
   pub count : number2 (body s (recordAt s n)) 0 ≡ n
   pub size : length s ≡ recordAt s (suc n)
 
--- a whole period record begins at byte p
-abbrev pub isPeriod : List ℕ → ℕ → Bool
-isPeriod s p = eqb (at s p) periodKind && leb (next s p) (length s)
-
--- how many of these a file begins with: where the first record stands that is none. There is one among so many, since each has a byte
+-- how many period records follow the head: where the first record stands that is none. There is one among so many, since each has a byte
 abbrev pub orZero : Option ℕ → ℕ
 orZero none = 0
 orZero (some k) = k
@@ -67,23 +89,28 @@ orZero (some k) = k
 abbrev pub periodsIn : List ℕ → ℕ
 periodsIn s = orZero (find (λ i. not (isPeriod s (recordAt s i))) (suc (length s)))
 
--- The tests of the record at byte p, after n period records.
--- 10: its kind is not 1 or 2
+-- The tests of the record at byte p, where the walk stops, after n period records.
+-- 10: its kind is none of these
 abbrev pub unknownKind : List ℕ → ℕ → Option Refusal
 unknownKind s p = refuse (ltb p (length s) && not (isKind (at s p))) UnknownKind
+
+-- 12, at its kind byte: charges that don't stand first
+abbrev pub misplaced : List ℕ → ℕ → Option Refusal
+misplaced s p = refuse (eqb (at s p) chargeKind && not (eqb p 0)) WrongEnd
 
 -- 11: the file ends inside the record, or before it
 abbrev pub truncated : List ℕ → ℕ → Option Refusal
 truncated s p = refuse (ltb (length s) (next s p)) TruncatedFile
 
--- 12: bytes follow it, or the count that it holds is not n
+-- 12, after its body: it is no end record (charges that are both 0), bytes follow it, or the count that it holds is not n
 abbrev pub wrongEnd : List ℕ → (p n : ℕ) → Option Refusal
-wrongEnd s p n = refuse (not (eqb (length s) (next s p)) || not (eqb (number2 (body s p) 0) n)) WrongEnd
+wrongEnd s p n =
+    refuse (not (eqb (at s p) endKind) || not (eqb (length s) (next s p)) || not (eqb (number2 (body s p) 0) n)) WrongEnd
 
 abbrev pub badEnd : List ℕ → (p n : ℕ) → Option Refusal
-badEnd s p n = first (unknownKind s p ∷ truncated s p ∷ wrongEnd s p n ∷ [])
+badEnd s p n = first (unknownKind s p ∷ misplaced s p ∷ truncated s p ∷ wrongEnd s p n ∷ [])
 
--- the walk from front to back: past the period records, to what is to be the end record
+-- the walk from front to back: past the head and the period records, to what is to be the end record
 abbrev pub walk : List ℕ → Option Refusal
 walk s = badEnd s (recordAt s (periodsIn s)) (periodsIn s)
 
@@ -91,7 +118,10 @@ walk s = badEnd s (recordAt s (periodsIn s)) (periodsIn s)
 abbrev pub noSuchPeriod : (n i : ℕ) → Option Refusal
 noSuchPeriod n i = refuse (eqb i 0 || ltb n i) NoSuchPeriod
 
--- the day that a file holds: r, c, b, p, h at their places in the bodies
+-- the day that a file holds: A and Z in the head, both 0 where it has none; r, c, b, p, h at their places in the bodies
+abbrev pub chargeIn : ℕ → List ℕ → ℕ
+chargeIn offset s = cond (isCharges s 0) (number2 (body s 0) offset) 0
+
 abbrev pub field : (List ℕ → ℕ → ℕ) → ℕ → List ℕ → ℕ → ℕ
 field number offset s k = number (body s (recordAt s k)) offset
 
@@ -102,14 +132,19 @@ dayIn s = record {
   setup = listOf (field number4 4 s) (periodsIn s);
   unit = listOf (field number4 8 s) (periodsIn s);
   holding = listOf (field number4 12 s) (periodsIn s);
+  opening = chargeIn 0 s;
+  closing = chargeIn 2 s;
 }
 
--- the bytes of numbers; a period's body and record; the file of a day
+-- the bytes of numbers; the head; a period's body and record; the file of a day: the head, the period records, the end record
 abbrev pub bytes2 : ℕ → List ℕ
 bytes2 v = v / 256 ∷ v % 256 ∷ []
 
 abbrev pub bytes4 : ℕ → List ℕ
 bytes4 v = bytes2 (v / 65536) ++ bytes2 (v % 65536)
+
+abbrev pub headOf : (opening closing : ℕ) → List ℕ
+headOf opening closing = cond (bothZero opening closing) [] (chargeKind ∷ bytes2 opening ++ bytes2 closing)
 
 abbrev pub fieldsOf : (demand capacity setup unit holding : ℕ) → List ℕ
 fieldsOf demand capacity setup unit holding = bytes2 demand ++ bytes2 capacity ++ bytes4 setup ++ bytes4 unit ++ bytes4 holding
@@ -117,9 +152,10 @@ fieldsOf demand capacity setup unit holding = bytes2 demand ++ bytes2 capacity +
 abbrev pub recordOf : Day → ℕ → List ℕ
 recordOf d k = periodKind ∷ fieldsOf (at (d .demand) k) (at (d .capacity) k) (at (d .setup) k) (at (d .unit) k) (at (d .holding) k)
 
+-- the first k period records
 abbrev pub recordsOf : Day → ℕ → List ℕ
 recordsOf d zero = []
 recordsOf d (suc k) = recordsOf d k ++ recordOf d k
 
 abbrev pub fileOf : Day → List ℕ
-fileOf d = recordsOf d (periods d) ++ endKind ∷ bytes2 (periods d)
+fileOf d = headOf (d .opening) (d .closing) ++ (recordsOf d (periods d) ++ endKind ∷ bytes2 (periods d))

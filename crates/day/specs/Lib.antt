@@ -2,7 +2,7 @@
 -- Tables: entries, sums, the first period that passes a test.
 pub mod Sums
 pub mod Find
--- The problem: a day, its plans, what they cost, which one is wanted (report, section 2; document 01).
+-- The problem: a day, its plans, what they cost, which one is wanted (report, section 2; documents 01 and 02).
 pub mod Day
 pub mod Plan
 -- What is refused, and when; the day file's layout.

@@ -9,7 +9,7 @@ use native.Mathlib.Decide.{decLe, decLt, ℕ-discrete}
 use lib.ListN.{length, replicate}
 use Rattle.day.specs.declared.Refusal.{Refusal}
 use Rattle.day.specs.Sums.{at}
-use Rattle.day.specs.Day.{Day, periods, demandTo, capacityTo}
+use Rattle.day.specs.Day.{Day, tablesOf, periods, capacityTo, netTo}
 use Rattle.day.specs.Plan.{Feasible, Optimal, cost, setups}
 use Rattle.day.specs.Refusals.{numberOf, periodOf, first}
 use Rattle.day.specs.Outcome.{Sizes, Path, Roomy, refusal, dayRefusal, roomy-refusal}
@@ -52,13 +52,9 @@ marked =
 
 -- the day of a row
 abbrev pub dayOfRow : MarkedRow → Day
-dayOfRow r = record {
-  demand = r .demand;
-  capacity = r .capacity;
-  setup = replicate (length (r .demand)) (r .setup);
-  unit = replicate (length (r .demand)) (r .unit);
-  holding = replicate (length (r .demand)) (r .holding);
-}
+dayOfRow r =
+    let all = replicate (length (r .demand)) in
+    tablesOf (r .demand) (r .capacity) (all (r .setup)) (all (r .unit)) (all (r .holding))
 
 -- a plan of the day, and what it costs
 pub record Costs (d : Day) (x : List ℕ) (c : ℕ) : Type 0 where
@@ -77,7 +73,7 @@ pub record PlannedAs (d : Day) (x : List ℕ) (c s : ℕ) : Type 0 where
   pub cost : cost d (at x) ≡ c
   pub setups : setups (periods d) (at x) ≡ s
 
--- there is no plan, and period i, counted from 1, is the first whose summed demand is above the summed capacity: every path gives 7 with it
+-- there is no plan, and period i, counted from 1, is the first by whose end more must be made than can be: every path gives 7 with it
 pub record RefusedAt (d : Day) (i : ℕ) : Type 0 where
   pub refusal : Refusal
   pub given : Given d (some refusal)
@@ -85,8 +81,8 @@ pub record RefusedAt (d : Day) (i : ℕ) : Type 0 where
   pub period : periodOf refusal ≡ i
   pub none : (y : ℕ → ℕ) → Feasible d y → ⊥
   pub inside : i ≤ periods d
-  pub short : capacityTo d i < demandTo d i
-  pub before : (j : ℕ) → j < i → demandTo d j ≤ capacityTo d j
+  pub short : capacityTo d i < netTo d i
+  pub before : (j : ℕ) → j < i → netTo d j ≤ capacityTo d j
 
 abbrev pub ClaimHolds : Day → Claim → Type 0
 ClaimHolds d (planned x c s) = PlannedAs d x c s
@@ -142,7 +138,7 @@ right? d (refused i) =
     (both (brought? i (dayRefusal d))
     (both (none? d)
     (both (sure (decLe i (periods d)))
-    (both (sure (decLt (capacityTo d i) (demandTo d i))) (sure (below? (λ j. decLe (demandTo d j) (capacityTo d j)) i))))))
+    (both (sure (decLt (capacityTo d i) (netTo d i))) (sure (below? (λ j. decLe (netTo d j) (capacityTo d j)) i))))))
 
 -- Every row's claims hold of the written meaning.
 pub marked-right : All (λ r. All (ClaimHolds (dayOfRow r)) (r .claims)) marked

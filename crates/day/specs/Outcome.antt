@@ -37,10 +37,10 @@ sizes costs choices slots = record { costs = costs; choices = choices; slots = s
 abbrev pub sizesOf : Memory → Sizes
 sizesOf m = sizes (length (m .costs)) (length (m .choices)) (length (m .slots))
 
--- what a path needs in cost cells and choice cells, for n periods and R over the day, and the tests that it alone applies, last
+-- what a path needs in cost cells and choice cells, for n periods in which T is made, and the tests that it alone applies, last
 pub record Path : Type 0 where
-  pub costCells : (n R : ℕ) → ℕ
-  pub choiceCells : (n R : ℕ) → ℕ
+  pub costCells : (n T : ℕ) → ℕ
+  pub choiceCells : (n T : ℕ) → ℕ
   pub own : Day → List (Option Refusal)
 
 -- what is lent is long enough
@@ -60,11 +60,11 @@ memoryTests P d s =
 abbrev pub pathTests : Path → Day → Sizes → List (Option Refusal)
 pathTests P d s = memoryTests P d s ++ (shortage d ∷ P .own d)
 
--- a path's first refusal: 1 to 7 in order, then its own
+-- a path's first refusal: 1 to 4, 14, 5 to 7 in order, then its own
 abbrev pub refusal : Path → Day → Sizes → Option Refusal
 refusal P d s = first (dayTests d ++ pathTests P d s)
 
--- what the day brings by itself: 1 to 4, 7
+-- what the day brings by itself: 1 to 4, 14, 7
 abbrev pub dayRefusal : Day → Option Refusal
 dayRefusal d = first (dayTests d ++ (shortage d ∷ []))
 

@@ -9,15 +9,15 @@ use Rattle.day.specs.Outcome.{Path}
 
 -- recursion (5), for any day
 abbrev pub full : Path
-full = record { costCells = λ n R. 2 * (R + 1); choiceCells = λ n R. n * (R + 1); own = λ d. [] }
+full = record { costCells = λ n T. 2 * (T + 1); choiceCells = λ n T. n * (T + 1); own = λ d. [] }
 
 -- Wagner and Whitin, for days whose capacities can't bind
 abbrev pub uncapped : Path
-uncapped = record { costCells = λ n R. n + 1; choiceCells = λ n R. n + 1; own = λ d. binding d ∷ [] }
+uncapped = record { costCells = λ n T. n + 1; choiceCells = λ n T. n + 1; own = λ d. binding d ∷ [] }
 
 -- Florian and Klein, for days with one capacity throughout
 abbrev pub equal : Path
-equal = record { costCells = λ n R. 6 * (n + 1); choiceCells = λ n R. 4 * ((n + 1) * (n + 1)); own = λ d. unequal d ∷ [] }
+equal = record { costCells = λ n T. 6 * (n + 1); choiceCells = λ n T. 4 * ((n + 1) * (n + 1)); own = λ d. unequal d ∷ [] }
 
 abbrev pub pathOf : PathKind → Path
 pathOf Full = full

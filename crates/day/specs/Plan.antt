@@ -1,14 +1,16 @@
 -- Plans of a day: the conditions that they keep, what they cost, how two of equal cost are told apart, and the plan wanted.
--- After the report, section 2. A plan is a function from periods to amounts; only its values in the day's periods count.
+-- After the report, section 2, with the charge at both ends of document 02, 2.1.
+-- A plan is a function from periods to amounts; only its values in the day's periods count.
 -- Main definition: `Optimal`. Assumes nothing.
 use mathlib.Core.Path.{_≡_}
+use mathlib.Core.Logic.{_⊎_}
 use Prim.Native.Nat.{ℕ, zero, suc, _+_, _-_, _*_, _≤_, _<_}
 use Rattle.day.specs.Sums.{at, sumTo}
-use Rattle.day.specs.Day.{Day, periods, demandTo}
+use Rattle.day.specs.Day.{Day, periods, demandTo, required}
 
--- I_i = X_i − R_i, the charge left after i periods; cut off at 0, which condition (2) rules out
+-- I_i = A + X_i − R_i, the charge left after i periods; cut off at 0, which condition (2) rules out
 abbrev pub inventory : Day → (ℕ → ℕ) → ℕ → ℕ
-inventory d x i = sumTo x i - demandTo d i
+inventory d x i = d .opening + sumTo x i - demandTo d i
 
 -- the cost of making an amount at setup cost b and unit cost p: nothing for 0, else b + p × x
 abbrev pub making : (b p x : ℕ) → ℕ
@@ -31,12 +33,12 @@ costTo d x i = sumTo (costAt d x) i
 abbrev pub cost : Day → (ℕ → ℕ) → ℕ
 cost d x = costTo d x (periods d)
 
--- conditions (2) to (4) of the report
+-- conditions (2) to (4) of the report, of a day with ends
 pub record Feasible (d : Day) (x : ℕ → ℕ) : Type 0 where
-  -- (2): demand is met on time, R_i ≤ X_i
-  pub served : (k : ℕ) → k < periods d → demandTo d (suc k) ≤ sumTo x (suc k)
-  -- (3): nothing is left at the end, X_n = R_n
-  pub emptied : sumTo x (periods d) ≡ demandTo d (periods d)
+  -- (2): demand is met on time, R_i ≤ A + X_i
+  pub served : (k : ℕ) → k < periods d → demandTo d (suc k) ≤ d .opening + sumTo x (suc k)
+  -- (3): Z is left at the end, A + X_n = R_n + Z
+  pub ends : d .opening + sumTo x (periods d) ≡ required d
   -- (4): no amount is above its period's capacity
   pub within : (k : ℕ) → k < periods d → x k ≤ at (d .capacity) k
 
@@ -64,12 +66,13 @@ pub record Optimal (d : Day) (x : ℕ → ℕ) : Type 0 where
   pub feasible : Feasible d x
   pub first : (y : ℕ → ℕ) → Feasible d y → Precedes (cost d) (periods d) x y
 
--- a run (report: regeneration interval): the periods a + 1 to b lie between two moments with empty store, the charge being above 0 in between
+-- a run (the report's regeneration interval, where A and Z are 0): the periods a + 1 to b lie between two moments with empty store, the charge
+-- being above 0 in between; it also begins and ends with the day
 pub record Run (d : Day) (x : ℕ → ℕ) (a b : ℕ) : Type 0 where
   pub ahead : a < b
   pub inside : b ≤ periods d
-  pub empty : inventory d x a ≡ 0
-  pub emptied : inventory d x b ≡ 0
+  pub begins : (a ≡ 0) ⊎ (inventory d x a ≡ 0)
+  pub ends : (b ≡ periods d) ⊎ (inventory d x b ≡ 0)
   pub above : (i : ℕ) → a < i → i < b → 0 < inventory d x i
 
 -- a part-loaded period makes something, and less than its capacity

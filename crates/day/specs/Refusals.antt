@@ -1,24 +1,25 @@
--- What is refused, and when: document 01's conditions 1 to 9, each as a definition, and the number and period of each refusal.
+-- What is refused, and when: document 01's conditions 1 to 9 and document 02's 14, each as a definition, and the number and period of each refusal.
 -- A call's first refusal in order is `first` of a list of these; laws of such lists are in `Tests`. Conditions 10 to 13 are in `File`.
 -- Assumes nothing.
 use mathlib.Core.Path.{_≡_}
-use mathlib.Core.Bool.{Bool, true, false, not, _||_}
+use mathlib.Core.Bool.{Bool, true, false, not, _&&_, _||_}
 use mathlib.Core.List.{List, [], _∷_, _++_}
 use mathlib.Core.Option.{Option, none, some}
-use Prim.Native.Nat.{ℕ, suc, _+_, _-_}
+use Prim.Native.Nat.{ℕ, suc, _-_}
 use lib.Dec.{eqb, ltb}
 use lib.ListN.{length}
 use Rattle.day.specs.declared.Refusal.{Refusal}
 use Rattle.day.specs.declared.Refusal.the-variants.{PeriodCount, TableLength, AboveLimit, TotalDemand, ShortArea, FewSlots, Shortage}
-use Rattle.day.specs.declared.Refusal.the-variants.{UnequalCapacities, BindingCapacity, UnknownKind, TruncatedFile, WrongEnd, NoSuchPeriod}
+use Rattle.day.specs.declared.Refusal.the-variants.{UnequalCapacities, BindingCapacity}
+use Rattle.day.specs.declared.Refusal.the-variants.{UnknownKind, TruncatedFile, WrongEnd, NoSuchPeriod, SurplusInventory}
 use Rattle.day.specs.declared.Check.{Check}
 use Rattle.day.specs.declared.Check.the-variants.{Passed, Refused}
 use Rattle.day.specs.Sums.{at}
 use Rattle.day.specs.Find.{find}
 use Rattle.day.specs.Day.{Day, periods, maxPeriods, maxDemand, maxCapacity, maxSetup, maxRate, maxTotal}
-use Rattle.day.specs.Day.{demandTo, capacityTo, total}
+use Rattle.day.specs.Day.{demandTo, capacityTo, required, total}
 
--- document 01's number of a refusal
+-- the documents' number of a refusal
 abbrev pub numberOf : Refusal → ℕ
 numberOf PeriodCount = 1
 numberOf TableLength = 2
@@ -33,6 +34,7 @@ numberOf UnknownKind = 10
 numberOf TruncatedFile = 11
 numberOf WrongEnd = 12
 numberOf NoSuchPeriod = 13
+numberOf SurplusInventory = 14
 
 -- the period that it names, counted from 1; 0 where it names none
 abbrev pub periodOf : Refusal → ℕ
@@ -49,6 +51,7 @@ periodOf UnknownKind = 0
 periodOf TruncatedFile = 0
 periodOf WrongEnd = 0
 periodOf NoSuchPeriod = 0
+periodOf SurplusInventory = 0
 
 -- the refusal, where its condition holds
 abbrev pub refuse : Bool → Refusal → Option Refusal
@@ -69,7 +72,7 @@ abbrev pub first : List (Option Refusal) → Option Refusal
 first [] = none
 first (o ∷ rest) = orNext o (first rest)
 
--- r is given where o is a call's first refusal in order: it has document 01's number and period of that one, which fix it (`gives-is`)
+-- r is given where o is a call's first refusal in order: it has the documents' number and period of that one, which fix it (`gives-is`)
 pub record Gives (o : Option Refusal) (r : Refusal) : Type 0 where
   pub first : Refusal
   pub is : o ≡ some first
@@ -107,9 +110,13 @@ aboveLimit d k =
 abbrev pub badValue : Day → Option Refusal
 badValue d = refuseAt AboveLimit (find (aboveLimit d) (periods d))
 
--- 4: R over the day above 4,096
+-- 4: R + Z above 4,096
 abbrev pub badTotal : Day → Option Refusal
-badTotal d = refuse (ltb maxTotal (total d)) TotalDemand
+badTotal d = refuse (ltb maxTotal (required d)) TotalDemand
+
+-- 14: A above R + Z
+abbrev pub badOpening : Day → Option Refusal
+badOpening d = refuse (ltb (required d) (d .opening)) SurplusInventory
 
 -- 5: a work area shorter than the path needs: cost cells, choice cells
 abbrev pub badAreas : (costs needed choices needed′ : ℕ) → Option Refusal
@@ -119,9 +126,11 @@ badAreas costs needed choices needed′ = refuse (ltb costs needed || ltb choice
 abbrev pub badSlots : (slots needed : ℕ) → Option Refusal
 badSlots slots needed = refuse (ltb slots needed) FewSlots
 
--- 7: R above C at some period
+-- 7: R − A above C at some period, or T above C in period n
 abbrev pub short : Day → ℕ → Bool
-short d k = ltb (capacityTo d (suc k)) (demandTo d (suc k))
+short d k =
+    ltb (capacityTo d (suc k)) (demandTo d (suc k) - d .opening)
+    || (eqb (suc k) (periods d) && ltb (capacityTo d (suc k)) (total d))
 
 abbrev pub shortage : Day → Option Refusal
 shortage d = refuseAt Shortage (find (short d) (periods d))
@@ -137,9 +146,9 @@ anywhere (some k) r = some r
 abbrev pub unequal : Day → Option Refusal
 unequal d = anywhere (find (differs d) (periods d)) UnequalCapacities
 
--- 9: a capacity may bind: it is below R over the day less R before its period
+-- 9: a capacity may bind: it is below T less the larger of 0 and (R before its period − A)
 abbrev pub binds : Day → ℕ → Bool
-binds d k = ltb (at (d .capacity) k) (total d - demandTo d k)
+binds d k = ltb (at (d .capacity) k) (total d - (demandTo d k - d .opening))
 
 abbrev pub binding : Day → Option Refusal
 binding d = refuseAt BindingCapacity (find (binds d) (periods d))
@@ -148,6 +157,10 @@ binding d = refuseAt BindingCapacity (find (binds d) (periods d))
 abbrev pub tableTests : Day → List (Option Refusal)
 tableTests d = badCount (periods d) ∷ badLengths d ∷ badValue d ∷ []
 
--- and those of a call on a day: 1, 2, 3, 4
+-- those on what the day needs over all: 4, and 14 right after it
+abbrev pub totalTests : Day → List (Option Refusal)
+totalTests d = badTotal d ∷ badOpening d ∷ []
+
+-- and those of a call on a day: 1, 2, 3, 4, 14
 abbrev pub dayTests : Day → List (Option Refusal)
-dayTests d = tableTests d ++ (badTotal d ∷ [])
+dayTests d = tableTests d ++ totalTests d

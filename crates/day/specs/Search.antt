@@ -4,12 +4,12 @@ use mathlib.Core.Path.{_≡_, refl, sym, _∙_}
 use mathlib.Core.List.{List, [], _∷_}
 use mathlib.Core.Logic.{⊎-elim, Dec·and}
 use mathlib.Core.Option.{Option, none, some, Option·map, IsSome}
-use Prim.Native.Nat.{ℕ, zero, suc, _≤_, _<_}
+use Prim.Native.Nat.{ℕ, zero, suc, _+_, _≤_, _<_}
 use native.Mathlib.Nat.{eq-or-lt-of-le, le-of-suc-le-suc}
 use native.Mathlib.Decide.{decLe, decLt, ℕ-discrete}
 use native.Mathlib.Omega.{arith}
 use Rattle.day.specs.Sums.{at, sumTo, below, sum-ext, listOf, at-listOf}
-use Rattle.day.specs.Day.{Day, periods, demandTo}
+use Rattle.day.specs.Day.{Day, periods, demandTo, required}
 use Rattle.day.specs.Plan.{costAt, cost, Feasible, Smaller, Precedes, Optimal}
 
 -- a test that passed gives its proof
@@ -72,10 +72,10 @@ below? p? (suc n) = both-below n (below? p? n) (p? n)
 unfoldable pub feasible? : (d : Day) (x : ℕ → ℕ) → Dec (Feasible d x)
 feasible? d x =
     iff?
-    (λ p. record { served = p .0; emptied = p .1 .0; within = p .1 .1 })
-    (λ f. (f .served, (f .emptied, f .within)))
-    (Dec·and (below? (λ k. decLe (demandTo d (suc k)) (sumTo x (suc k))) (periods d))
-    (Dec·and (ℕ-discrete (sumTo x (periods d)) (demandTo d (periods d))) (below? (λ k. decLe (x k) (at (d .capacity) k)) (periods d))))
+    (λ p. record { served = p .0; ends = p .1 .0; within = p .1 .1 })
+    (λ f. (f .served, (f .ends, f .within)))
+    (Dec·and (below? (λ k. decLe (demandTo d (suc k)) (d .opening + sumTo x (suc k))) (periods d))
+    (Dec·and (ℕ-discrete (d .opening + sumTo x (periods d)) (required d)) (below? (λ k. decLe (x k) (at (d .capacity) k)) (periods d))))
 
 unfoldable pub smaller? : (n : ℕ) (x y : ℕ → ℕ) → Dec (Smaller n x y)
 smaller? n x y =
@@ -102,7 +102,7 @@ module _ (d : Day) (x y : ℕ → ℕ) (same : (k : ℕ) → k < periods d → x
   feasible-alike f =
       record {
         served = λ k l. omega (arith, f .served k l, sums-alike k l);
-        emptied = omega (arith, f .emptied, sum-ext x y (periods d) same);
+        ends = omega (arith, f .ends, sum-ext x y (periods d) same);
         within = λ k l. omega (arith, f .within k l, same k l);
       }
 
@@ -110,7 +110,8 @@ module _ (d : Day) (x y : ℕ → ℕ) (same : (k : ℕ) → k < periods d → x
   cost-alike = sum-ext (costAt d x) (costAt d y) (periods d) (λ k l. let e = same k l in let s = sums-alike k l in rw (s, e) refl)
 
 -- of a fact about every feasible plan
-abbrev pub everyFeasible : (d : Day) {P : (ℕ → ℕ) → Type 0} → ((y : ℕ → ℕ) → Option (P y)) → Option ((y : ℕ → ℕ) → Feasible d y → P (at (listOf y (periods d))))
+abbrev pub everyFeasible : (d : Day) {P : (ℕ → ℕ) → Type 0} → ((y : ℕ → ℕ) → Option (P y))
+    → Option ((y : ℕ → ℕ) → Feasible d y → P (at (listOf y (periods d))))
 everyFeasible d p =
     Option·map
     (λ all y f. all y (f .within) (feasible-alike d y (at (listOf y (periods d))) (λ k l. sym (at-listOf y (periods d) k l)) f))

@@ -9,7 +9,8 @@ use native.Mathlib.Omega.{arith}
 use lib.ListN.{getD}
 use Rattle.day.specs.declared.Refusal.{Refusal}
 use Rattle.day.specs.declared.Refusal.the-variants.{PeriodCount, TableLength, AboveLimit, TotalDemand, ShortArea, FewSlots, Shortage}
-use Rattle.day.specs.declared.Refusal.the-variants.{UnequalCapacities, BindingCapacity, UnknownKind, TruncatedFile, WrongEnd, NoSuchPeriod}
+use Rattle.day.specs.declared.Refusal.the-variants.{UnequalCapacities, BindingCapacity}
+use Rattle.day.specs.declared.Refusal.the-variants.{UnknownKind, TruncatedFile, WrongEnd, NoSuchPeriod, SurplusInventory}
 use Rattle.day.specs.declared.Check.{Check}
 use Rattle.day.specs.declared.Check.the-variants.{Passed, Refused}
 use Rattle.day.specs.Refusals.{numberOf, periodOf, Gives, refuse, refuseAt, first, checked}
@@ -43,9 +44,10 @@ withNumber number i =
     ∷ UnknownKind
     ∷ TruncatedFile
     ∷ WrongEnd
+    ∷ NoSuchPeriod
     ∷ [])
     number
-    NoSuchPeriod
+    SurplusInventory
 
 number-fixes : (r : Refusal) → withNumber (numberOf r) (periodOf r) ≡ r
 unfolding withNumber
@@ -62,6 +64,7 @@ number-fixes UnknownKind = refl
 number-fixes TruncatedFile = refl
 number-fixes WrongEnd = refl
 number-fixes NoSuchPeriod = refl
+number-fixes SurplusInventory = refl
 
 -- number and period fix a refusal: what is given is the first in order, and the other way round
 pub gives-is : {o : Option Refusal} {r : Refusal} → Gives o r → o ≡ some r

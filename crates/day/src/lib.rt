@@ -3,7 +3,7 @@ ghost use mathlib.Core.Path.{_≡_};
 ghost use Rattle.day.specs.Refusals.{numberOf, periodOf};
 
 // Why a call is refused, with the period that it names, where it names one.
-// `numberOf` and `periodOf` give document 01's number and period.
+// `numberOf` and `periodOf` give the documents' number and period.
 pub enum Refusal {
     PeriodCount,
     TableLength,
@@ -18,6 +18,7 @@ pub enum Refusal {
     TruncatedFile,
     WrongEnd,
     NoSuchPeriod,
+    SurplusInventory,
 }
 
 impl Refusal {
@@ -38,6 +39,7 @@ impl Refusal {
             Refusal::TruncatedFile => 11,
             Refusal::WrongEnd => 12,
             Refusal::NoSuchPeriod => 13,
+            Refusal::SurplusInventory => 14,
         }
     }
 
@@ -58,6 +60,7 @@ impl Refusal {
             Refusal::TruncatedFile => 0,
             Refusal::WrongEnd => 0,
             Refusal::NoSuchPeriod => 0,
+            Refusal::SurplusInventory => 0,
         }
     }
 }
@@ -73,6 +76,12 @@ pub enum PathKind {
     Full,
     Uncapped,
     Equal,
+}
+
+// The inventory at both ends of a day (document 02: opening charge A, closing charge Z).
+pub struct Ends {
+    pub opening: u16,
+    pub closing: u16,
 }
 
 // A plan's cost and its setups (document 01: starts).

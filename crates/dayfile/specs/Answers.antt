@@ -1,4 +1,4 @@
--- What the calls on day files answer, and what they leave in lent memory; document 01's order of their tests.
+-- What the calls on day files answer, and what they leave in lent memory; the documents' order of their tests.
 -- Main definitions: `Lookup`, `Reading` and `Writing`, the contracts of the calls; `lookupFigures`, `readFigures`, `writeFigures`. Assumes nothing.
 use mathlib.Core.Path.{_≡_}
 use mathlib.Core.Option.{Option, none, some}
@@ -7,8 +7,9 @@ use Prim.Native.Nat.{ℕ, _+_, _-_, _≤_, min}
 use lib.ListN.{length, take, drop}
 use denote.Ref.{RefT, now}
 use Rattle.day.specs.Sums.{listOf}
-use Rattle.day.specs.Day.{Day, dayOf, periods}
-use Rattle.day.specs.File.{body, recordAt, number2, number4, periodsIn, walk, noSuchPeriod, field, dayIn, fileOf}
+use Rattle.day.specs.declared.Ends.{Ends}
+use Rattle.day.specs.Day.{Day, dayOf, tablesOf, periods}
+use Rattle.day.specs.File.{body, recordAt, number2, number4, periodsIn, walk, noSuchPeriod, chargeIn, field, dayIn, fileOf}
 use Rattle.day.specs.Refusals.{Gives, first, badCount, badSlots, badValue, tableTests}
 use Rattle.day.specs.declared.Refusal.{Refusal}
 use Rattle.day.specs.Figures.{Figures, acceptedWith, refusedWith}
@@ -72,7 +73,7 @@ withFirst f k l = listOf f k ++ drop k l
 -- tables whose first k cells take the numbers of the file's first k periods
 abbrev pub withPeriods : List ℕ → ℕ → Day → Day
 withPeriods s k tables =
-    dayOf
+    tablesOf
     (withFirst (field number2 0 s) k (tables .demand))
     (withFirst (field number2 2 s) k (tables .capacity))
     (withFirst (field number4 4 s) k (tables .setup))
@@ -83,31 +84,34 @@ withPeriods s k tables =
 abbrev pub withDay : List ℕ → Day → Day
 withDay s tables = withPeriods s (periodsIn s) tables
 
--- a day at the tables' front, whose later cells stay; and the tables' first n cells as a day
+-- a day's tables at the front of the lent ones, whose later cells stay; and the tables' first n cells as a day, with its ends
 abbrev pub withTables : Day → Day → Day
 withTables d tables =
     let n = periods d in
-    dayOf
+    tablesOf
     (d .demand ++ drop n (tables .demand))
     (d .capacity ++ drop n (tables .capacity))
     (d .setup ++ drop n (tables .setup))
     (d .unit ++ drop n (tables .unit))
     (d .holding ++ drop n (tables .holding))
 
-abbrev pub firstOf : ℕ → Day → Day
-firstOf n tables =
-    dayOf (take n (tables .demand)) (take n (tables .capacity)) (take n (tables .setup)) (take n (tables .unit)) (take n (tables .holding))
+abbrev pub firstOf : ℕ → Day → Ends → Day
+firstOf n tables ends =
+    dayOf (take n (tables .demand)) (take n (tables .capacity)) (take n (tables .setup)) (take n (tables .unit)) (take n (tables .holding)) ends
 
--- a reading's answer in figures: the count of periods
+-- a reading's answer in figures: the count of periods, A, Z
 abbrev pub readFigures : ReadAnswer → Figures ℕ
 readFigures (Refused r) = refusedWith r
-readFigures (Periods n) = acceptedWith (n ∷ [])
+readFigures (Periods n ends) = acceptedWith (n ∷ ends .opening ∷ ends .closing ∷ [])
 
--- refused, by number and period, no cell changes; accepted, the count of periods is given and their numbers fill the tables' first cells
+-- refused, by number and period, no cell changes; accepted, the count of periods is given, with A and Z, and the periods' numbers fill
+-- the tables' first cells
 abbrev pub Reading : List ℕ → Day → ReadAnswer → Day → Type 0
 Reading s before (Refused r) after = Gives (badRead s (shortest before)) r × (after ≡ before)
-Reading s before (Periods n) after =
-    (badRead s (shortest before) ≡ none) × (readFigures (Periods n) ≡ acceptedWith (periodsIn s ∷ [])) × (after ≡ withDay s before)
+Reading s before (Periods n ends) after =
+    (badRead s (shortest before) ≡ none)
+    × (readFigures (Periods n ends) ≡ acceptedWith (periodsIn s ∷ chargeIn 0 s ∷ chargeIn 2 s ∷ []))
+    × (after ≡ withDay s before)
 
 -- a writing: 1, 2, 3, and 6 where the slice is shorter than the file
 abbrev pub badWrite : Day → ℕ → Option Refusal

@@ -1,11 +1,12 @@
 -- Laws of the layout.
---     period-at, end-found            the records that `periodsIn` counts are whole periods, and the one after them is not
+--     whole-record, whole-charges     what the tests of a record say of it
+--     period-at                       the records that `periodsIn` counts are whole periods
 --     walked-none, -more, -end        a walk over the period records, record by record
 --     day-in-front, with-day          the tables that a reading filled begin with the file's day
---     laid-out; counted, walk-clean   the walk meets no fault exactly if the file is laid out as document 01 says
+--     laid-out; counted, walk-clean   the walk meets no fault exactly if the file is laid out as `Layout` says
 -- Assumes nothing.
-use mathlib.Core.Path.{_≡_, refl, _∙_}
-use mathlib.Core.Bool.{Bool, true, false, not, _&&_, _||_, cond}
+use mathlib.Core.Path.{_≡_, refl, ap, _∙_}
+use mathlib.Core.Bool.{Bool, true, false, not, _&&_, cond}
 use mathlib.Core.List.{List, [], _∷_}
 use mathlib.Core.Option.{Option, none, some}
 use Prim.Native.Nat.{ℕ, zero, suc, _+_, _-_, _≤_, _<_}
@@ -13,39 +14,46 @@ use native.Mathlib.Omega.{arith}
 use native.Mathlib.Nat.{eq-or-lt-of-le, le-of-suc-le-suc, add-sub-cancel-left}
 use mathlib.Core.Logic.{⊎-elim}
 use lib.Arith.{le-zero}
-use lib.Dec.{eqb, leb, ltb}
+use lib.Dec.{eqb, leb}
 use lib.ListN.{length, take, drop, length-take, length-drop}
-use borrow.Author.Tests.{eqb-true, leb-true, leb-false, ltb-false, lt-ltb, le-ltb, le-leb, eq-eqb, not-true, not-false}
+use borrow.Author.Tests.{eqb-true, leb-true, lt-ltb, le-ltb, le-leb, eq-eqb, not-true, not-false}
 use lib.Seq.{take-at}
 use Rattle.day.specs.Sums.{at, listOf, length-listOf}
-use Rattle.day.specs.Day.{Day, maxPeriods}
-use Rattle.day.specs.Find.{find, find-none, find-here, none-found, nothing-found, some-found}
+use Rattle.day.specs.declared.Ends.{Ends}
+use Rattle.day.specs.Day.{Day, endsOf, maxPeriods}
+use Rattle.day.specs.Find.{find, find-none, find-here, nothing-found, some-found}
 use Rattle.day.specs.Tests.{not-refused, neither}
-use Rattle.day.specs.File.{periodKind, endKind, isKind, bodyLength, body, number2, next, recordAt, Layout}
-use Rattle.day.specs.File.{isPeriod, periodsIn, orZero, unknownKind, truncated, wrongEnd, walk, field, dayIn}
+use Rattle.day.specs.File.{periodKind, chargeKind, bodyLength, body, next, number2, isRecord, isPeriod, bothZero, isCharges, headEnd, recordAt}
+use Rattle.day.specs.File.{Layout, orZero, periodsIn, unknownKind, misplaced, truncated, wrongEnd, walk, field, dayIn}
 use Rattle.checks.specs.Passed.{SameLengths, Readable}
 use Rattle.dayfile.specs.Answers.{withFirst, withDay, withTables, firstOf}
 use Rattle.dayfile.specs.Passed.{each-passed}
 
--- a body of a known kind has 2 bytes at least
-pub kind-length : (kind : ℕ) → isKind kind ≡ true → 2 ≤ bodyLength kind
-kind-length kind = go (eqb kind periodKind) (eqb kind endKind)
-  where
-    go : (a b : Bool) → (a || b) ≡ true → 2 ≤ cond a 16 (cond b 2 0)
-    go true b e = omega arith
-    go false true e = omega arith
-    go false false e = let z : _≡_ {A = ℕ} 0 1 = cc in absurd (omega arith)
-
--- a whole period record: its kind, and that the file reaches to its end
-pub record WholePeriod (s : List ℕ) (p : ℕ) : Type 0 where
-  pub kind : at s p ≡ periodKind
+-- a whole record of kind x: the file reaches to its end
+pub record WholeRecord (x : ℕ) (s : List ℕ) (p : ℕ) : Type 0 where
+  pub kind : at s p ≡ x
   pub whole : next s p ≤ length s
 
-pub period : (s : List ℕ) (p : ℕ) → isPeriod s p ≡ true → WholePeriod s p
-period s p e = go (eqb (at s p) periodKind) refl e
+pub whole-record : (x : ℕ) (s : List ℕ) (p : ℕ) → isRecord x s p ≡ true → WholeRecord x s p
+whole-record x s p e = go (eqb (at s p) x) refl e
   where
-    go : (b : Bool) → eqb (at s p) periodKind ≡ b → (b && leb (next s p) (length s)) ≡ true → WholePeriod s p
+    go : (b : Bool) → eqb (at s p) x ≡ b → (b && leb (next s p) (length s)) ≡ true → WholeRecord x s p
     go true q w = record { kind = eqb-true _ _ q; whole = leb-true _ _ w }
+    go false q w = let z : _≡_ {A = ℕ} 0 1 = cc in absurd (omega arith)
+
+pub record-whole : (x : ℕ) (s : List ℕ) (p : ℕ) → WholeRecord x s p → isRecord x s p ≡ true
+record-whole x s p w = rw (eq-eqb (at s p) x (w .kind), le-leb (next s p) (length s) (w .whole)) refl
+
+-- a whole record of charges, not both 0
+pub record WholeCharges (s : List ℕ) (p : ℕ) : Type 0 where
+  pub here : WholeRecord chargeKind s p
+  pub nonzero : bothZero (number2 (body s p) 0) (number2 (body s p) 2) ≡ false
+
+pub whole-charges : (s : List ℕ) (p : ℕ) → isCharges s p ≡ true → WholeCharges s p
+whole-charges s p e = go (isRecord chargeKind s p) refl e
+  where
+    go : (b : Bool) → isRecord chargeKind s p ≡ b → (b && not (bothZero (number2 (body s p) 0) (number2 (body s p) 2))) ≡ true → WholeCharges s p
+    go true q w = record { here = whole-record chargeKind s p q; nonzero = not-true _ w }
     go false q w = let z : _≡_ {A = ℕ} 0 1 = cc in absurd (omega arith)
 
 -- a body is what stands from the byte after the kind to the next record
@@ -53,11 +61,19 @@ pub body-part : (s : List ℕ) (p : ℕ) {end : ℕ} → end ≡ next s p → ta
 body-part s p e = rw (e, add-sub-cancel-left) refl
 
 -- a whole body is as long as its kind says
-pub body-length : (s : List ℕ) (p : ℕ) → next s p ≤ length s → length (body s p) ≡ bodyLength (at s p)
-body-length s p l = simp (length-take, length-drop) (omega arith)
+pub whole-body : (x : ℕ) (s : List ℕ) (p : ℕ) → WholeRecord x s p → length (body s p) ≡ bodyLength x
+whole-body x s p w = long (w .whole) ∙ ap bodyLength (w .kind)
+  where
+    long : next s p ≤ length s → length (body s p) ≡ bodyLength (at s p)
+    long l = simp (length-take, length-drop) (omega arith)
 
-pub period-body : (s : List ℕ) (p : ℕ) → WholePeriod s p → length (body s p) ≡ 16
-period-body s p w = body-length s p (w .whole) ∙ rw (w .kind) refl
+-- the head ends inside the file
+head-inside : (s : List ℕ) → headEnd s ≤ length s
+head-inside s = go (isCharges s 0) refl
+  where
+    go : (b : Bool) → isCharges s 0 ≡ b → cond b (next s 0) 0 ≤ length s
+    go true q = whole-charges s 0 q .here .whole
+    go false q = omega arith
 
 -- record i is no whole period
 abbrev stops : List ℕ → ℕ → Bool
@@ -69,22 +85,12 @@ record-far s zero = omega arith
 record-far s (suc i) = omega (arith, record-far s i)
 
 -- the records that are counted are whole periods
-pub period-at : (s : List ℕ) (i : ℕ) → i < periodsIn s → WholePeriod s (recordAt s i)
+pub period-at : (s : List ℕ) (i : ℕ) → i < periodsIn s → WholeRecord periodKind s (recordAt s i)
 period-at s i = go (find (stops s) (suc (length s))) refl
   where
-    go : (o : Option ℕ) → find (stops s) (suc (length s)) ≡ o → i < orZero o → WholePeriod s (recordAt s i)
+    go : (o : Option ℕ) → find (stops s) (suc (length s)) ≡ o → i < orZero o → WholeRecord periodKind s (recordAt s i)
     go none e l = absurd (omega arith)
-    go (some k) e l = period s (recordAt s i) (not-false _ (some-found (stops s) (suc (length s)) k e .first i l))
-
--- and the one after them is not
-pub end-found : (s : List ℕ) → isPeriod s (recordAt s (periodsIn s)) ≡ false
-end-found s = go (find (stops s) (suc (length s))) refl
-  where
-    go : (o : Option ℕ) → find (stops s) (suc (length s)) ≡ o → isPeriod s (recordAt s (orZero o)) ≡ false
-    go none e =
-        let all = none-found (stops s) (suc (length s)) e (length s) (omega arith) in
-        absurd (omega (arith, record-far s (length s), period s (recordAt s (length s)) (not-false _ all)))
-    go (some k) e = not-true _ (some-found (stops s) (suc (length s)) k e .passes)
+    go (some k) e l = whole-record periodKind s (recordAt s i) (not-false _ (some-found (stops s) (suc (length s)) k e .first i l))
 
 -- a walk that has passed n whole periods stands at byte p
 pub record Walked (s : List ℕ) (n p : ℕ) : Type 0 where
@@ -93,47 +99,34 @@ pub record Walked (s : List ℕ) (n p : ℕ) : Type 0 where
   pub far : n ≤ p
   pub inside : p ≤ length s
 
-pub walked-none : (s : List ℕ) → Walked s 0 0
-walked-none s = record { here = refl; passed = refl; far = omega arith; inside = omega arith }
+pub walked-none : (s : List ℕ) → Walked s 0 (headEnd s)
+walked-none s = record { here = refl; passed = refl; far = omega arith; inside = head-inside s }
 
 pub walked-more : (s : List ℕ) (n p : ℕ) → Walked s n p → isPeriod s p ≡ true → Walked s (suc n) (next s p)
 walked-more s n p w t = record {
   here = rw (w .here) refl;
   passed = find-none (stops s) n (w .passed) (rw (← w .here, t) refl);
   far = omega (arith, w .far);
-  inside = period s p t .whole;
+  inside = whole-record periodKind s p t .whole;
 }
 
 pub walked-end : (s : List ℕ) (n p : ℕ) → Walked s n p → isPeriod s p ≡ false → periodsIn s ≡ n
 walked-end s n p w f =
     rw (find-here (stops s) n (suc (length s)) (w .passed) (rw (← w .here, f) refl) (omega (arith, w .far, w .inside))) refl
 
--- a record of a known kind that is no whole period, and to whose end the file reaches, is an end record
-end-kind : (s : List ℕ) (p : ℕ) → isPeriod s p ≡ false → next s p ≤ length s
-    → (ltb p (length s) && not (isKind (at s p))) ≡ false
-    → at s p ≡ endKind
-end-kind s p f l e =
-    go (eqb (at s p) periodKind) (eqb (at s p) endKind) refl f
-    (rw (lt-ltb p (length s) (omega arith)) at e)
-  where
-    go : (a b : Bool) → eqb (at s p) endKind ≡ b → (a && leb (next s p) (length s)) ≡ false → not (a || b) ≡ false → at s p ≡ endKind
-    go true b q f e = absurd (omega (arith, leb-false (next s p) (length s) f))
-    go false true q f e = eqb-true _ _ q
-    go false false q f e = let z : _≡_ {A = ℕ} 0 1 = cc in absurd (omega arith)
-
--- a file whose walk meets no fault is laid out as document 01 says
+-- a file whose walk meets no fault is laid out as the documents say
 pub laid-out : (s : List ℕ) → walk s ≡ none → Layout s (periodsIn s)
 laid-out s e =
     let n = periodsIn s in
     let p = recordAt s n in
-    let each = each-passed (unknownKind s p ∷ truncated s p ∷ wrongEnd s p n ∷ []) e in
-    let l = ltb-false _ _ (not-refused _ _ (each .1 .0)) in
-    let right = neither _ _ (not-refused _ _ (each .1 .1 .0)) in
+    let each = each-passed (unknownKind s p ∷ misplaced s p ∷ truncated s p ∷ wrongEnd s p n ∷ []) e in
+    let tail = neither _ _ (not-refused _ _ (each .1 .1 .1 .0)) in
+    let right = neither _ _ (tail .0) in
     record {
       periods = λ i l. period-at s i l .kind;
-      ends = end-kind s p (end-found s) l (not-refused _ _ (each .0));
-      count = eqb-true _ _ (not-false _ (right .1));
-      size = eqb-true _ _ (not-false _ (right .0));
+      ends = eqb-true _ _ (not-false _ (right .0));
+      count = eqb-true _ _ (not-false _ (tail .1));
+      size = eqb-true _ _ (not-false _ (right .1));
     }
 
 record-grows : (s : List ℕ) (i n : ℕ) → i ≤ n → recordAt s i ≤ recordAt s n
@@ -154,7 +147,7 @@ counted s n w =
     passed : (i : ℕ) → i < n → stops s i ≡ false
     passed i l =
         let far = record-grows s (suc i) n l in
-        rw (le-leb (next s (recordAt s i)) (length s) (omega (arith, w .size)), w .periods i l) refl
+        rw (record-whole periodKind s (recordAt s i) (record { kind = w .periods i l; whole = omega (arith, w .size) })) refl
 
 pub walk-clean : (s : List ℕ) (n : ℕ) → Layout s n → walk s ≡ none
 walk-clean s n w =
@@ -181,8 +174,10 @@ day-readable s l = record { few = rw length-listOf l; lengths = day-lengths s }
 with-front : (f : ℕ → ℕ) (n : ℕ) (l : List ℕ) → take n (withFirst f n l) ≡ listOf f n
 with-front f n l = take-at (listOf f n) (drop n l) n (length-listOf f n)
 
-pub day-in-front : (s : List ℕ) (n : ℕ) (before after : Day) → n ≡ periodsIn s → after ≡ withDay s before → firstOf n after ≡ dayIn s
-day-in-front s n before after e w = rw (e, w) (simp with-front)
+pub day-in-front : (s : List ℕ) (n : ℕ) (ends : Ends) (before after : Day)
+    → n ≡ periodsIn s → ends ≡ endsOf (dayIn s) → after ≡ withDay s before
+    → firstOf n after ends ≡ dayIn s
+day-in-front s n ends before after e q w = rw (e, q, w) (simp with-front)
 
 pub with-day : (s : List ℕ) (before : Day) → withDay s before ≡ withTables (dayIn s) before
 with-day s before = rw (length-listOf (field number2 0 s) (periodsIn s)) refl

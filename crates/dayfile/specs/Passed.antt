@@ -1,4 +1,5 @@
--- What the passed tests of these calls tell a caller. Main statements: `each-passed`, `file-passed`, `lookup-passed`, `write-passed`. Assumes nothing.
+-- What the passed tests of these calls, and what they gave, tell a caller.
+-- Main statements: `each-passed`, `file-passed`, `lookup-passed`, `read-given`, `write-passed`. Assumes nothing.
 use mathlib.Core.Path.{_≡_, refl}
 use mathlib.Core.List.{List, [], _∷_, _++_}
 use mathlib.Core.Option.{Option, none, some, Option·some-ne-none}
@@ -7,14 +8,17 @@ use native.Mathlib.Omega.{arith}
 use lib.Dec.{eqb, ltb}
 use lib.ListN.{length}
 use borrow.Author.Tests.{eqb-false, ltb-false}
-use Rattle.day.specs.Day.{Day, maxPeriods}
+use Rattle.day.specs.declared.Ends.{Ends}
+use Rattle.day.specs.Day.{Day, endsOf, maxPeriods}
 use Rattle.day.specs.declared.Refusal.{Refusal}
 use Rattle.day.specs.declared.Refusal.the-variants.{FewSlots, NoSuchPeriod}
 use Rattle.day.specs.Refusals.{first, badSlots, tableTests}
 use Rattle.day.specs.Tests.{not-refused, neither}
-use Rattle.day.specs.File.{periodsIn, noSuchPeriod, fileOf}
+use Rattle.day.specs.File.{periodsIn, noSuchPeriod, chargeIn, dayIn, fileOf}
+use Rattle.day.specs.Figures.{acceptedWith, same-values, first-value}
 use Rattle.checks.specs.Passed.{count-passed}
-use Rattle.dayfile.specs.Answers.{fileTests, badLookup, badWrite}
+use Rattle.dayfile.specs.declared.ReadAnswer.the-variants.{Periods}
+use Rattle.dayfile.specs.Answers.{fileTests, badLookup, readFigures, badWrite}
 
 -- in a list without refusals every test has passed
 abbrev pub EachPassed : List (Option Refusal) → Type 0
@@ -38,6 +42,16 @@ lookup-passed s i e =
     let t = neither (eqb i 0) (ltb n i) (not-refused _ NoSuchPeriod asked) in
     let nonzero = eqb-false i 0 (t .0) in
     (omega arith, ltb-false n i (t .1))
+
+-- what an accepted reading gave: the count of the file's periods, and its day's ends
+pub read-given : (s : List ℕ) (n : ℕ) (ends : Ends)
+    → readFigures (Periods n ends) ≡ acceptedWith (periodsIn s ∷ chargeIn 0 s ∷ chargeIn 2 s ∷ [])
+    → (n ≡ periodsIn s) × (ends ≡ endsOf (dayIn s))
+read-given s n ends e =
+    let same = same-values e in
+    let opening : ends .opening ≡ chargeIn 0 s = cc in
+    let closing : ends .closing ≡ chargeIn 2 s = cc in
+    (first-value e, λ i. record { opening = opening i; closing = closing i })
 
 -- a writing that is not refused has room for the file
 pub write-passed : (d : Day) (room : ℕ) → badWrite d room ≡ none → length (fileOf d) ≤ room

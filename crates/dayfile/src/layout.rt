@@ -1,10 +1,13 @@
 // Records by kind and length, the walk from the file's front to its end record, and the tests that open every call on a file.
 ghost use mathlib.Core.Path.{_≡_};
+ghost use mathlib.Core.Bool.{not, _&&_};
 ghost use Prim.Native.Nat.{_+_, _≤_, _<_};
+ghost use lib.Dec.{eqb};
 ghost use lib.ListN.{length};
 ghost use Rattle.day.specs.Sums.{Term};
 ghost use Rattle.day.specs.Refusals.{checked, first};
-ghost use Rattle.day.specs.File.{isKind, bodyLength, next, recordAt, number2, number4, isPeriod, periodsIn, badEnd};
+ghost use Rattle.day.specs.File.{chargeKind, isKind, bodyLength, next, number2, number4, isRecord, isPeriod, isCharges, headEnd, recordAt};
+ghost use Rattle.day.specs.File.{periodsIn, badEnd};
 ghost use Rattle.dayfile.specs.Answers.{BodyAt, fileTests};
 use day::Check;
 use day::Refusal;
@@ -12,6 +15,8 @@ use day::Refusal;
 const PERIOD: u8 = 1;
 
 const END: u8 = 2;
+
+const CHARGES: u8 = 3;
 
 fn wide(x: u8) -> u32
     ensures { λ r. ⌜ Term x 255 r ⌝ }
@@ -37,7 +42,10 @@ pub fn number4(body: &[u8], at: usize) -> u32
 fn is_kind(kind: u8) -> bool
     ensures { λ r. ⌜ r ≡ isKind kind ⌝ }
 {
-    kind == PERIOD || kind == END
+    if kind == PERIOD {
+        return true;
+    }
+    kind == END || kind == CHARGES
 }
 
 // How long a body the kind fixes.
@@ -49,6 +57,9 @@ fn body_length(kind: u8) -> usize
     }
     if kind == END {
         return 2;
+    }
+    if kind == CHARGES {
+        return 4;
     }
     0
 }
@@ -72,24 +83,55 @@ pub fn body(file: &[u8], at: usize) -> &[u8]
     &file[start..end]
 }
 
-// Whether a whole period record begins at `at`.
-fn is_period(file: &[u8], at: usize) -> bool
-    ensures { λ r. ⌜ r ≡ isPeriod (now (file .entry)) at ⌝ }
+// Whether a whole record of a kind begins at `at`.
+fn is_record(file: &[u8], at: usize, kind: u8) -> bool
+    requires { ⌜ 0 < kind ⌝ }
+    ensures { λ r. ⌜ r ≡ isRecord kind (now (file .entry)) at ⌝ }
 {
     if file.len() <= at {
         return false;
     }
-    if file[at] != PERIOD {
+    if file[at] != kind {
         return false;
     }
     next(file, at) <= file.len()
 }
 
-// How many period records the file begins with.
+fn is_period(file: &[u8], at: usize) -> bool
+    ensures { λ r. ⌜ r ≡ isPeriod (now (file .entry)) at ⌝ }
+{
+    is_record(file, at, PERIOD)
+}
+
+// Whether a whole record of charges begins at `at`, not both of them 0.
+pub fn is_charges(file: &[u8], at: usize) -> bool
+    ensures { λ r. ⌜ r ≡ isCharges (now (file .entry)) at ⌝ }
+{
+    if !is_record(file, at, CHARGES) {
+        return false;
+    }
+    let charges = body(file, at);
+    if number2(charges, 0) != 0 {
+        return true;
+    }
+    number2(charges, 2) != 0
+}
+
+// Where the head ends, and the period records begin.
+pub fn head_end(file: &[u8]) -> usize
+    ensures { λ r. ⌜ r ≡ headEnd (now (file .entry)) ⌝ }
+{
+    if is_charges(file, 0) {
+        return next(file, 0);
+    }
+    0
+}
+
+// How many period records follow the head.
 pub fn periods(file: &[u8]) -> usize
     ensures { λ r. ⌜ r ≡ periodsIn (now (file .entry)) ⌝ }
 {
-    let mut at = 0;
+    let mut at = head_end(file);
     let mut n = 0;
     while is_period(file, at) {
         at = next(file, at);
@@ -98,18 +140,25 @@ pub fn periods(file: &[u8]) -> usize
     n
 }
 
-// Where record `i` begins, counted from 0.
+// Where record `i` after the head begins, counted from 0.
 pub fn record_at(file: &[u8], i: usize) -> usize
     requires { ⌜ i ≤ periodsIn (now file) ⌝ }
     ensures { λ r. ⌜ r ≡ recordAt (now (file .entry)) i ⌝ }
 {
-    let mut at = 0;
+    let mut at = head_end(file);
     let mut k = 0;
     while k < i {
         at = next(file, at);
         k += 1;
     }
     at
+}
+
+// Whether the record of `kind` at `at` is one of charges that doesn't stand first.
+fn is_misplaced(kind: u8, at: usize) -> bool
+    ensures { λ r. ⌜ r ≡ (eqb kind chargeKind && not (eqb at 0)) ⌝ }
+{
+    kind == CHARGES && at != 0
 }
 
 // 10, 11, 12, at the record after `n` period records, which is to be the end record.
@@ -122,9 +171,15 @@ fn end_record(file: &[u8], at: usize, n: usize) -> Check
     if !is_kind(file[at]) {
         return Check::Refused(Refusal::UnknownKind);
     }
+    if is_misplaced(file[at], at) {
+        return Check::Refused(Refusal::WrongEnd);
+    }
     let end = next(file, at);
     if file.len() < end {
         return Check::Refused(Refusal::TruncatedFile);
+    }
+    if file[at] != END {
+        return Check::Refused(Refusal::WrongEnd);
     }
     if file.len() != end {
         return Check::Refused(Refusal::WrongEnd);

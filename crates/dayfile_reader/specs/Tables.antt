@@ -9,15 +9,15 @@ use native.Mathlib.Numerals.{add-one}
 use native.Mathlib.Omega.{arith}
 use borrow.Author.Tests.{ltb-false}
 use lib.ListN.{length, set}
-use Rattle.day.specs.Day.{Day, dayOf, maxPeriods}
+use Rattle.day.specs.Day.{Day, tablesOf, maxPeriods}
 use Rattle.day.specs.declared.Refusal.the-variants.{FewSlots}
 use Rattle.day.specs.Refusals.{badSlots, badValue}
 use Rattle.day.specs.Tests.{not-refused}
-use Rattle.day.specs.File.{recordAt, next, body, number2, number4, periodsIn, walk, field, dayIn}
+use Rattle.day.specs.File.{periodKind, recordAt, next, body, number2, number4, periodsIn, walk, field, dayIn}
 use Rattle.dayfile.specs.Answers.{Cells, fileTests, shortest, badRead, withFirst, withPeriods}
 use Rattle.checks.specs.Passed.{count-passed}
 use Rattle.dayfile.specs.Passed.{each-passed}
-use Rattle.dayfile.specs.Layout.{WholePeriod, period-at}
+use Rattle.dayfile.specs.Layout.{WholeRecord, period-at}
 use Rattle.dayfile_reader.specs.declared.Numbers.{Numbers}
 use Rattle.dayfile_reader.specs.Numbers.{numbersIn}
 
@@ -41,7 +41,7 @@ read-passed s tables e =
 -- cell k of each table takes a period's number
 abbrev pub stored : ℕ → Numbers → Day → Day
 stored k p tables =
-    dayOf
+    tablesOf
     (set (tables .demand) k (p .demand))
     (set (tables .capacity) k (p .capacity))
     (set (tables .setup) k (p .setup))
@@ -110,7 +110,7 @@ pub record PeriodsRead (s : List ℕ) (n : ℕ) (before : Day) (k p : ℕ) (afte
 
 -- a whole period stands there
 pub period-here : (s : List ℕ) (n : ℕ) (before : Day) (k p : ℕ) (after : Day) → PeriodsRead s n before k p after → n ≡ periodsIn s → k < n
-    → WholePeriod s p
+    → WholeRecord periodKind s p
 period-here s n before k p after w e l = rw (w .here) (period-at s k (omega arith))
 
 -- a turn of it: the next period's numbers go to cell k

@@ -1,15 +1,16 @@
-//! The reader (document 01, "Day file"): the periods of a file into five lent tables. What it does is `Reading` of the crate dayfile.
+//! The reader (document 01, "Day file"; document 02, 2.1): the periods of a file into five lent tables. What it does is `Reading` of the crate dayfile.
 ghost use mathlib.Core.Path.{_≡_};
 ghost use Prim.Native.Nat.{_+_, _≤_, min};
 ghost use lib.ListN.{length};
-ghost use Rattle.day.specs.Day.{dayOf, maxPeriods};
+ghost use Rattle.day.specs.Day.{tablesOf, endsOf, maxPeriods};
 ghost use Rattle.day.specs.Refusals.{checked, badValue};
 ghost use Rattle.day.specs.File.{periodsIn, dayIn};
-ghost use Rattle.day.specs.Lent.{dayBefore, dayAfter};
+ghost use Rattle.day.specs.Lent.{tablesBefore, tablesAfter};
 ghost use Rattle.dayfile.specs.Answers.{Cells, withDay, badRead, Reading};
 ghost use Rattle.dayfile_reader.specs.Numbers.{numbersIn};
 ghost use Rattle.dayfile_reader.specs.Tables.{stored};
 use day::Check;
+use day::Ends;
 use day::Refusal;
 use dayfile::ReadAnswer;
 use dayfile::layout;
@@ -37,6 +38,23 @@ fn decode(body: &[u8]) -> Numbers
     }
 }
 
+// A and Z, which the head holds; both 0 where there is none.
+fn ends(file: &[u8]) -> Ends
+    ensures { λ r. ⌜ r ≡ endsOf (dayIn (now (file .entry))) ⌝ }
+{
+    if !layout::is_charges(file, 0) {
+        return Ends {
+            opening: 0,
+            closing: 0,
+        };
+    }
+    let charges = layout::body(file, 0);
+    Ends {
+        opening: layout::number2(charges, 0) as u16,
+        closing: layout::number2(charges, 2) as u16,
+    }
+}
+
 // One cell of each table takes a period's number.
 fn put(
     k: usize,
@@ -47,8 +65,8 @@ fn put(
     unit: &mut [u32],
     holding: &mut [u32],
 )
-    requires { ⌜ Cells (k + 1) (dayOf (now demand) (now capacity) (now setup) (now unit) (now holding)) ⌝ }
-    ensures { λ _. ⌜ dayAfter demand capacity setup unit holding ≡ stored k numbers (dayBefore demand capacity setup unit holding) ⌝ }
+    requires { ⌜ Cells (k + 1) (tablesOf (now demand) (now capacity) (now setup) (now unit) (now holding)) ⌝ }
+    ensures { λ _. ⌜ tablesAfter demand capacity setup unit holding ≡ stored k numbers (tablesBefore demand capacity setup unit holding) ⌝ }
 {
     demand[k] = numbers.demand;
     capacity[k] = numbers.capacity;
@@ -68,10 +86,10 @@ fn fill(
     holding: &mut [u32],
 )
     requires { ⌜ n ≡ periodsIn (now file) ⌝ }
-    requires { ⌜ Cells n (dayOf (now demand) (now capacity) (now setup) (now unit) (now holding)) ⌝ }
-    ensures { λ _. ⌜ dayAfter demand capacity setup unit holding ≡ withDay (now (file .entry)) (dayBefore demand capacity setup unit holding) ⌝ }
+    requires { ⌜ Cells n (tablesOf (now demand) (now capacity) (now setup) (now unit) (now holding)) ⌝ }
+    ensures { λ _. ⌜ tablesAfter demand capacity setup unit holding ≡ withDay (now (file .entry)) (tablesBefore demand capacity setup unit holding) ⌝ }
 {
-    let mut at = 0;
+    let mut at = layout::head_end(file);
     let mut k = 0;
     while k < n {
         let start = at + 1;
@@ -145,7 +163,8 @@ fn shortest(demand: usize, capacity: usize, setup: usize, unit: usize, holding: 
     least(demand, least(capacity, least(setup, least(unit, holding))))
 }
 
-// Reads a file: 10, 11, 12, then 1, 6, 3. Accepted, the tables' first cells take the numbers of its periods, whose count is given.
+// Reads a file: 10, 11, 12, then 1, 6, 3. Accepted, the tables' first cells take the numbers of its periods, whose count is given,
+// with the day's ends.
 pub fn read(
     file: &[u8],
     demand: &mut [u16],
@@ -155,7 +174,7 @@ pub fn read(
     holding: &mut [u32],
 ) -> ReadAnswer
     ensures { λ r. ⌜
-        Reading (now (file .entry)) (dayBefore demand capacity setup unit holding) r (dayAfter demand capacity setup unit holding)
+        Reading (now (file .entry)) (tablesBefore demand capacity setup unit holding) r (tablesAfter demand capacity setup unit holding)
         ⌝ }
 {
     let n = layout::periods(file);
@@ -170,5 +189,5 @@ pub fn read(
         return ReadAnswer::Refused(r);
     }
     fill(file, n, demand, capacity, setup, unit, holding);
-    ReadAnswer::Periods(n)
+    ReadAnswer::Periods(n, ends(file))
 }

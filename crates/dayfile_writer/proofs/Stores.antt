@@ -1,12 +1,13 @@
 -- Laws of `sets l i vs`, the list l with vs stored from index i on, and of the stores that make a file. Assumes nothing.
-use mathlib.Core.Path.{_≡_, refl, _∙_}
+use mathlib.Core.Path.{_≡_, refl, ap, _∙_}
+use mathlib.Core.Bool.{Bool, true, false, cond}
 use mathlib.Core.List.{List, [], _∷_, _++_}
-use Prim.Native.Nat.{ℕ, suc, _+_, _*_, _≤_, _<_}
+use Prim.Native.Nat.{ℕ, zero, suc, _+_, _*_, _≤_, _<_}
 use native.Mathlib.Omega.{arith}
 use lib.ListN.{length, take, drop, set, getD}
 use lib.Seq.{sets, sets-eq, take-suc, length-take-le}
-use Rattle.day.specs.Day.{Day, periods}
-use Rattle.day.specs.File.{endKind, bytes2, recordsOf, fileOf}
+use Rattle.day.specs.Day.{Day, tablesOf, periods}
+use Rattle.day.specs.File.{endKind, chargeKind, bothZero, bytes2, headOf, recordOf, recordsOf, fileOf}
 use Rattle.dayfile.specs.Answers.{withFile}
 use Rattle.dayfile_writer.specs.RoundTrip.{records-length, file-length}
 
@@ -24,11 +25,44 @@ sets-more vs l i k h =
 sets-front : (vs l : List ℕ) → length vs ≤ length l → sets l 0 vs ≡ vs ++ drop (length vs) l
 sets-front vs l h = let e : 0 + length vs ≡ length vs = omega arith in rw e at (sets-eq vs l 0 (omega arith))
 
--- the period records, and then the end record, make the file
-pub file-stored : (d : Day) (out mid after : List ℕ) {end : List ℕ} → 17 * periods d + 3 ≤ length out
-    → mid ≡ sets out 0 (recordsOf d (periods d)) → end ≡ endKind ∷ bytes2 (periods d) → after ≡ sets mid (17 * periods d) end
-    → after ≡ withFile d out
-file-stored d out mid after room first last e =
-    let n = periods d in
-    e ∙ rw (first, last) (sets-then (recordsOf d n) _ out 0 (17 * n) (omega (arith, records-length d n)))
-    ∙ sets-front (fileOf d) out (omega (arith, file-length d))
+-- a run of no bytes changes none
+pub sets-none : (vs l : List ℕ) (i : ℕ) → length vs ≡ 0 → l ≡ sets l i vs
+sets-none [] l i e = refl
+sets-none (x ∷ vs) l i e = absurd (omega arith)
+
+-- a head that is there is a record of charges
+pub head-record : (o c : ℕ) → (length (headOf o c) ≡ 0 → ⊥) → headOf o c ≡ chargeKind ∷ bytes2 o ++ bytes2 c
+head-record o c = go (bothZero o c)
+  where
+    go : (b : Bool) → (length (cond b [] (chargeKind ∷ bytes2 o ++ bytes2 c)) ≡ 0 → ⊥)
+        → cond b [] (chargeKind ∷ bytes2 o ++ bytes2 c) ≡ chargeKind ∷ bytes2 o ++ bytes2 c
+    go true h = absurd (h refl)
+    go false h = refl
+
+-- the period records hold nothing of the ends
+abbrev tables : Day → Day
+tables d = tablesOf (d .demand) (d .capacity) (d .setup) (d .unit) (d .holding)
+
+records-alike : (d : Day) (k : ℕ) → recordsOf (tables d) k ≡ recordsOf d k
+records-alike d zero = refl
+records-alike d (suc k) = ap (λ (r : List ℕ). r ++ recordOf d k) (records-alike d k)
+
+-- the head, the period records, and then the end record, make the file
+module _ (d : Day) (out : List ℕ) where
+  abbrev head : List ℕ
+  head = headOf (d .opening) (d .closing)
+
+  pub file-stored : (first mid after : List ℕ) {place : ℕ} {end : List ℕ}
+      → length head + 17 * periods d + 3 ≤ length out → place ≡ length head
+      → first ≡ sets out 0 head → mid ≡ sets first place (recordsOf (tables d) (periods d))
+      → end ≡ endKind ∷ bytes2 (periods d) → after ≡ sets mid (place + 17 * periods d) end
+      → after ≡ withFile d out
+  file-stored first mid after room here h r l e =
+      let n = periods d in
+      let records : mid ≡ sets first (length head) (recordsOf d n) = r ∙ rw (here, records-alike d n) refl in
+      let end-at : after ≡ sets mid (length head + 17 * n) (endKind ∷ bytes2 n) = e ∙ rw (here, l) refl in
+      let body = sets-then (recordsOf d n) (endKind ∷ bytes2 n) first (length head) (length head + 17 * n) (omega (arith, records-length d n)) in
+      let whole = sets-then head (recordsOf d n ++ endKind ∷ bytes2 n) out 0 (length head) (omega arith) in
+      let from-head : after ≡ sets first (length head) (recordsOf d n ++ endKind ∷ bytes2 n) = end-at ∙ rw records body in
+      let from-front : after ≡ sets out 0 (fileOf d) = from-head ∙ rw h whole in
+      from-front ∙ sets-front (fileOf d) out (omega (arith, file-length d))

@@ -1,20 +1,23 @@
--- The layout both ways: the file of a day is laid out as document 01 says and holds that day (`file-layout`, `reads-back`),
+-- The layout both ways: the file of a day is laid out as the documents say and holds that day (`file-layout`, `reads-back`),
 -- and a file of bytes that is laid out so is the file of the day that it holds (`only-file`). Assumes nothing.
-use mathlib.Core.Path.{_≡_, refl, _∙_}
-use mathlib.Core.List.{List, [], _∷_, _++_, append-assoc}
+use mathlib.Core.Path.{_≡_, refl, sym, ap, ap₂, _∙_}
+use mathlib.Core.Bool.{Bool, true, false, _&&_, cond}
+use mathlib.Core.List.{List, [], _∷_, _++_, append-assoc, append-nil}
 use Prim.Native.Nat.{ℕ, zero, suc, _+_, _*_, _/_, _%_, _≤_, _<_}
 use native.Mathlib.Nat.{div-add-mod', eq-or-lt-of-le, le-of-suc-le-suc}
 use native.Mathlib.Numerals.{add-one}
 use native.Mathlib.Omega.{arith}
 use mathlib.Core.Logic.{⊎-elim}
+use lib.Dec.{eqb}
+use borrow.Author.Tests.{eqb-true, ne-eqb}
 use lib.ListN.{length, take, drop, length-append, length-take, length-drop}
-use lib.Seq.{take-add, take-all, drop-cons, drop-append-add, getD-append-seam, getD-take, getD-drop}
+use lib.Seq.{take-add, take-all, take-at, drop-cons, drop-append-add, getD-append-seam, getD-take, getD-drop}
 use Rattle.day.specs.Sums.{at, listOf, at-listOf, length-listOf, listOf-at}
 use Rattle.day.specs.Day.{Day, periods}
 use Rattle.checks.specs.Passed.{SameLengths}
-use Rattle.dayfile.specs.Layout.{WholePeriod, period-at, body-length, period-body, counted}
-use Rattle.day.specs.File.{periodKind, endKind, bodyLength, body, next, recordAt, number2, number4, Layout, field, dayIn}
-use Rattle.day.specs.File.{bytes2, bytes4, fieldsOf, recordOf, recordsOf, fileOf, periodsIn}
+use Rattle.dayfile.specs.Layout.{WholeRecord, record-whole, whole-charges, whole-body, period-at, counted}
+use Rattle.day.specs.File.{periodKind, endKind, chargeKind, bodyLength, body, next, number2, number4, bothZero, isCharges, headEnd, recordAt, Layout}
+use Rattle.day.specs.File.{periodsIn, chargeIn, field, dayIn, bytes2, bytes4, headOf, fieldsOf, recordOf, recordsOf, fileOf}
 
 -- every entry is a byte
 abbrev pub Bytes : List ℕ → Type 0
@@ -65,8 +68,25 @@ body-bytes b h e =
       upto2 b h 0 (omega arith),
     )
 
-record-bytes : (s : List ℕ) → Bytes s → (p : ℕ) → WholePeriod s p → at s p ∷ body s p ≡ periodKind ∷ numbersIn (body s p)
-record-bytes s h p w = cc (w .kind, body-bytes (body s p) (bytes-body s h p) (period-body s p w))
+-- and a body of two numbers of 2 bytes so too
+two-bytes : (b : List ℕ) → Bytes b → length b ≡ 4 → b ≡ bytes2 (number2 b 0) ++ bytes2 (number2 b 2)
+two-bytes b h e = cc (take-all 4 b (omega arith), upto2 b h 2 (omega arith), upto2 b h 0 (omega arith))
+
+record-bytes : (s : List ℕ) → Bytes s → (p : ℕ) → WholeRecord periodKind s p → at s p ∷ body s p ≡ periodKind ∷ numbersIn (body s p)
+record-bytes s h p w = cc (w .kind, body-bytes (body s p) (bytes-body s h p) (whole-body periodKind s p w))
+
+-- the head is made of the charges that it holds
+head-bytes : (s : List ℕ) → Bytes s → take (headEnd s) s ≡ headOf (chargeIn 0 s) (chargeIn 2 s)
+head-bytes s h = go (isCharges s 0) refl
+  where
+    go : (b : Bool) → isCharges s 0 ≡ b
+        → take (cond b (next s 0) 0) s ≡ headOf (cond b (number2 (body s 0) 0) 0) (cond b (number2 (body s 0) 2) 0)
+    go true q =
+        let w = whole-charges s 0 q in
+        let two = two-bytes (body s 0) (bytes-body s h 0) (whole-body chargeKind s 0 (w .here)) in
+        let split = record-split s 0 (omega (arith, w .here .whole)) in
+        rw (w .nonzero) (split ∙ ap₂ _∷_ (w .here .kind) two)
+    go false q = refl
 
 -- and so is record k of the day that a file holds
 listed : (s : List ℕ) (k : ℕ) → k < periodsIn s → recordOf (dayIn s) k ≡ periodKind ∷ numbersIn (body s (recordAt s k))
@@ -80,35 +100,85 @@ listed s k l =
     )
     refl
 
--- up to record k a file is what the periods before it give
-prefix : (s : List ℕ) → Bytes s → (k : ℕ) → k ≤ periodsIn s → take (recordAt s k) s ≡ recordsOf (dayIn s) k
-prefix s h zero l = refl
+-- the head and the first k period records of the file of a day
+abbrev upTo : Day → ℕ → List ℕ
+upTo d k = headOf (d .opening) (d .closing) ++ recordsOf d k
+
+-- up to record k a file is what its day gives
+prefix : (s : List ℕ) → Bytes s → (k : ℕ) → k ≤ periodsIn s → take (recordAt s k) s ≡ upTo (dayIn s) k
+prefix s h zero l = rw append-nil (head-bytes s h)
 prefix s h (suc k) l =
     let p = recordAt s k in
     let w = period-at s k l in
-    cc (record-split s p (omega (arith, w .whole)), prefix s h k (omega arith), record-bytes s h p w, listed s k l)
+    let more : take (next s p) s ≡ upTo (dayIn s) k ++ recordOf (dayIn s) k =
+    cc (record-split s p (omega (arith, w .whole)), prefix s h k (omega arith), record-bytes s h p w, listed s k l) in
+    more ∙ append-assoc (headOf (chargeIn 0 s) (chargeIn 2 s)) (recordsOf (dayIn s) k) (recordOf (dayIn s) k)
 
--- a file that is laid out as document 01 says is the file of the day that it holds
+-- a file that is laid out as the documents say is the file of the day that it holds
 pub only-file : (s : List ℕ) → Bytes s → Layout s (periodsIn s) → s ≡ fileOf (dayIn s)
 only-file s h w =
     let n = periodsIn s in
     let p = recordAt s n in
     let size : next s p ≤ length s = omega (arith, w .size) in
-    let b : length (body s p) ≡ 2 = body-length s p size ∙ rw (w .ends) refl in
+    let b : length (body s p) ≡ 2 = whole-body endKind s p (record { kind = w .ends; whole = size }) in
     let all = take-all (next s p) s (omega (arith, w .size)) in
     let end = take-all 2 (body s p) (omega arith) in
     let count = upto2 (body s p) (bytes-body s h p) 0 (omega arith) in
-    cc (all, record-split s p (omega arith), prefix s h n (omega arith), w .ends, w .count, end, count, length-listOf (field number2 0 s) n)
+    let made : s ≡ upTo (dayIn s) (periods (dayIn s)) ++ endKind ∷ bytes2 (periods (dayIn s)) =
+    cc (all, record-split s p (omega arith), prefix s h n (omega arith), w .ends, w .count, end, count, length-listOf (field number2 0 s) n) in
+    made ∙ append-assoc (headOf (chargeIn 0 s) (chargeIn 2 s)) (recordsOf (dayIn s) (periods (dayIn s))) (endKind ∷ bytes2 (periods (dayIn s)))
 
 -- The other way: the file of a day.
 
--- a record that stands after `a`: its kind, its body, where it ends
-module _ (a : List ℕ) (x : ℕ) (b : List ℕ) where
-  kind-here : at (a ++ x ∷ b) (length a) ≡ x
-  kind-here = getD-append-seam a x b 0
+-- a record of kind x with body b stands at byte p
+record Stands (s : List ℕ) (p x : ℕ) (b : List ℕ) : Type 0 where
+  kind : at s p ≡ x
+  holds : body s p ≡ b
+  whole : next s p ≤ length s
 
-  body-here : body (a ++ x ∷ b) (length a) ≡ take (bodyLength x) b
-  body-here = rw (kind-here, drop-append-add) refl
+-- as where it is written after `a`
+stands : (a : List ℕ) (x : ℕ) (b rest : List ℕ) → length b ≡ bodyLength x → Stands (a ++ (x ∷ (b ++ rest))) (length a) x b
+stands a x b rest e =
+    let k = getD-append-seam a x (b ++ rest) 0 in
+    record {
+      kind = k;
+      holds = rw (k, drop-append-add) (take-at b rest (bodyLength x) e);
+      whole = rw (k, length-append) (omega (arith, length-append b rest));
+    }
+
+-- what is found of the charges o and c at a file's front
+record HeadFound (s : List ℕ) (o c : ℕ) : Type 0 where
+  place : headEnd s ≡ length (headOf o c)
+  opening : chargeIn 0 s ≡ o
+  closing : chargeIn 2 s ≡ c
+
+head-absent : (s : List ℕ) → (at s 0 ≡ chargeKind → ⊥) → HeadFound s 0 0
+head-absent s h =
+    let t : isCharges s 0 ≡ false = rw (ne-eqb (at s 0) chargeKind h) refl in
+    record { place = rw t refl; opening = rw t refl; closing = rw t refl }
+
+head-there : (s : List ℕ) (o c : ℕ) → Stands s 0 chargeKind (bytes2 o ++ bytes2 c) → bothZero o c ≡ false → HeadFound s o c
+head-there s o c w e =
+    let first : number2 (body s 0) 0 ≡ o = rw (w .holds) (div-add-mod' o 256) in
+    let second : number2 (body s 0) 2 ≡ c = rw (w .holds) (div-add-mod' c 256) in
+    let whole = record-whole chargeKind s 0 (record { kind = w .kind; whole = w .whole }) in
+    let t : isCharges s 0 ≡ true = rw (whole, first, second, e) refl in
+    record { place = rw (t, e, w .kind) refl; opening = rw t first; closing = rw t second }
+
+both-zero : (o c : ℕ) → bothZero o c ≡ true → (o ≡ 0) × (c ≡ 0)
+both-zero o c e = go (eqb o 0) refl e
+  where
+    go : (t : Bool) → eqb o 0 ≡ t → (t && eqb c 0) ≡ true → (o ≡ 0) × (c ≡ 0)
+    go true q w = (eqb-true _ _ q, eqb-true _ _ w)
+    go false q w = let z : _≡_ {A = ℕ} 0 1 = cc in absurd (omega arith)
+
+-- a head that is written is found, or that there is none, where no charges follow
+head-found : (o c x : ℕ) (t : List ℕ) → (x ≡ chargeKind → ⊥) → HeadFound (headOf o c ++ (x ∷ t)) o c
+head-found o c x t h = go (bothZero o c) refl
+  where
+    go : (b : Bool) → bothZero o c ≡ b → HeadFound (headOf o c ++ (x ∷ t)) o c
+    go true q = let z = both-zero o c q in rw (z .0, z .1) (head-absent (x ∷ t) h)
+    go false q = rw q (head-there _ o c (stands [] chargeKind (bytes2 o ++ bytes2 c) (x ∷ t) refl) q)
 
 records-rest : (d : Day) (n k : ℕ) → k < n → (rest : List ℕ) × (recordsOf d n ≡ recordsOf d k ++ (recordOf d k ++ rest))
 records-rest d zero k l = absurd (omega arith)
@@ -122,44 +192,59 @@ pub records-length : (d : Day) (k : ℕ) → length (recordsOf d k) ≡ 17 * k
 records-length d zero = refl
 records-length d (suc k) = rw length-append (omega (arith, records-length d k))
 
--- record k of the file of a day
+-- the body of record k
 abbrev periodBody : Day → ℕ → List ℕ
 periodBody d k = fieldsOf (at (d .demand) k) (at (d .capacity) k) (at (d .setup) k) (at (d .unit) k) (at (d .holding) k)
 
-record Placed (d : Day) (k p : ℕ) : Type 0 where
-  kind : at (fileOf d) p ≡ periodKind
-  fields : body (fileOf d) p ≡ periodBody d k
+module _ (d : Day) where
+  upTo-length : (k : ℕ) → length (upTo d k) ≡ length (headOf (d .opening) (d .closing)) + 17 * k
+  upTo-length k = rw (length-append, records-length) refl
 
-placed : (d : Day) (k : ℕ) → k < periods d → Placed d k (length (recordsOf d k))
-placed d k l =
-    let w = records-rest d (periods d) k l in
-    let rest = w .0 ++ (endKind ∷ bytes2 (periods d)) in
-    let e : fileOf d ≡ recordsOf d k ++ (recordOf d k ++ rest) = rw (w .1) (simp append-assoc) in
-    record {
-      kind = rw e (kind-here (recordsOf d k) periodKind (periodBody d k ++ rest));
-      fields = rw e (body-here (recordsOf d k) periodKind (periodBody d k ++ rest));
-    }
+  pub file-length : length (fileOf d) ≡ length (headOf (d .opening) (d .closing)) + 17 * periods d + 3
+  file-length = rw (length-append, length-append, records-length) (omega arith)
 
-record-place : (d : Day) (k : ℕ) → k ≤ periods d → recordAt (fileOf d) k ≡ length (recordsOf d k)
-record-place d zero l = refl
-record-place d (suc k) l =
-    rw (record-place d k (omega arith), placed d k l .kind, length-append) (omega arith)
+  -- what follows k records
+  from : (k : ℕ) → k < periods d → (rest : List ℕ) × (fileOf d ≡ upTo d k ++ (recordOf d k ++ rest))
+  from k l =
+      let w = records-rest d (periods d) k l in
+      (w .0 ++ (endKind ∷ bytes2 (periods d)), rw (w .1) (simp append-assoc))
 
-pub file-length : (d : Day) → length (fileOf d) ≡ 17 * periods d + 3
-file-length d = rw (length-append, records-length) refl
+  placed : (k : ℕ) → k < periods d → Stands (fileOf d) (length (upTo d k)) periodKind (periodBody d k)
+  placed k l = let w = from k l in rw (w .1) (stands (upTo d k) periodKind (periodBody d k) (w .0) refl)
 
--- the file of a day is laid out as document 01 says
-pub file-layout : (d : Day) → Layout (fileOf d) (periods d)
-file-layout d =
-    let n = periods d in
-    let s = fileOf d in
-    let here = record-place d n (omega arith) in
-    record {
-      periods = λ i l. rw (record-place d i (omega arith)) (placed d i l .kind);
-      ends = rw here (kind-here (recordsOf d n) endKind (bytes2 n));
-      count = rw (here, body-here (recordsOf d n) endKind (bytes2 n)) (div-add-mod' n 256);
-      size = rw (here, kind-here (recordsOf d n) endKind (bytes2 n), length-append) (omega arith);
-    }
+  end-placed : Stands (fileOf d) (length (upTo d (periods d))) endKind (bytes2 (periods d))
+  end-placed = rw (← append-assoc) (stands (upTo d (periods d)) endKind (bytes2 (periods d)) [] refl)
+
+  -- after the head a period record or the end record follows
+  after-head : (x : ℕ) × (t : List ℕ) × (fileOf d ≡ headOf (d .opening) (d .closing) ++ (x ∷ t)) × (x ≡ chargeKind → ⊥)
+  after-head =
+      let z : 0 ≤ periods d = omega arith in
+      let head = headOf (d .opening) (d .closing) in
+      let n = periods d in
+      ⊎-elim
+      (λ (e : 0 ≡ n). (endKind, bytes2 n, ap (λ (k : ℕ). head ++ (recordsOf d k ++ endKind ∷ bytes2 n)) (sym e), λ q. omega arith))
+      (λ l. let w = from 0 l in (periodKind, periodBody d 0 ++ w .0, rw append-nil at (w .1), λ q. omega arith))
+      (eq-or-lt-of-le z)
+
+  head-of-file : HeadFound (fileOf d) (d .opening) (d .closing)
+  head-of-file = let w = after-head in rw (w .2) (head-found (d .opening) (d .closing) (w .0) (w .1) (w .3))
+
+  record-place : (k : ℕ) → k ≤ periods d → recordAt (fileOf d) k ≡ length (upTo d k)
+  record-place zero l = rw append-nil (head-of-file .place)
+  record-place (suc k) l =
+      rw (record-place k (omega arith), placed k l .kind) (omega (arith, upTo-length k, upTo-length (suc k)))
+
+  -- the file of a day is laid out as the documents say
+  pub file-layout : Layout (fileOf d) (periods d)
+  file-layout =
+      let n = periods d in
+      let here = record-place n (omega arith) in
+      record {
+        periods = λ i l. rw (record-place i (omega arith)) (placed i l .kind);
+        ends = rw here (end-placed .kind);
+        count = rw (here, end-placed .holds) (div-add-mod' n 256);
+        size = rw (here, end-placed .kind) (omega (arith, file-length, upTo-length n));
+      }
 
 -- four bytes hold their number
 bytes4-back : (v : ℕ) → number4 (bytes4 v) 0 ≡ v
@@ -169,6 +254,8 @@ bytes4-back v = rw (div-add-mod' (v / 65536) 256, div-add-mod' (v % 65536) 256) 
 pub reads-back : (d : Day) → SameLengths d → dayIn (fileOf d) ≡ d
 reads-back d w =
     rw (
+      head-of-file d .opening,
+      head-of-file d .closing,
       table number2 0 (d .demand) refl (λ k. div-add-mod' (at (d .demand) k) 256),
       table number2 2 (d .capacity) (w .capacity) (λ k. div-add-mod' (at (d .capacity) k) 256),
       table number4 4 (d .setup) (w .setup) (λ k. bytes4-back (at (d .setup) k)),
@@ -186,4 +273,4 @@ reads-back d w =
     table number offset l e h =
         rw (counted s (periods d) (file-layout d))
         (listOf-at (periods d) l (field number offset s) e
-        (λ k lt. rw (record-place d k (omega arith), placed d k lt .fields) (h k)))
+        (λ k lt. rw (record-place d k (omega arith), placed d k lt .holds) (h k)))

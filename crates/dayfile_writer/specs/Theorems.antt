@@ -1,9 +1,10 @@
 -- What demand 2 asks of reader and writer, of their contracts `Reading` and `Writing`:
---     written-is-read     what the writer wrote, the reader accepts, and it fills the tables with the very day
---     read-is-written     a file that the reader accepted is, byte for byte, what the writer makes of the tables that it filled
+--     written-is-read     what the writer wrote, the reader accepts: it fills the tables with the very day, and gives its ends
+--     read-is-written     a file that the reader accepted is, byte for byte, what the writer makes of the tables that it filled, with the
+--                         ends that it gave
 --     room-suffices       with room the writer refuses no day within the limits
 -- Assumes nothing.
-use mathlib.Core.Path.{_≡_, refl, sym, ap, subst, _∙_}
+use mathlib.Core.Path.{_≡_, refl, sym, ap, ap₂, subst, _∙_}
 use mathlib.Core.List.{List, [], _∷_, _++_}
 use mathlib.Core.Option.{Option, none, Option·none-ne-some}
 use Prim.Native.Nat.{ℕ, _≤_}
@@ -11,7 +12,8 @@ use borrow.Author.Tests.{le-ltb}
 use lib.ListN.{length, take, drop}
 use lib.Seq.{take-at}
 use Rattle.day.specs.Sums.{length-listOf}
-use Rattle.day.specs.Day.{Day, periods}
+use Rattle.day.specs.declared.Ends.{Ends}
+use Rattle.day.specs.Day.{Day, periods, endsOf}
 use Rattle.day.specs.declared.Refusal.{Refusal}
 use Rattle.day.specs.Refusals.{Gives, badCount, badValue, badSlots, tableTests}
 use Rattle.day.specs.Tests.{first-split, first-passed}
@@ -23,7 +25,7 @@ use Rattle.dayfile.specs.declared.ReadAnswer.the-variants as reader
 use Rattle.dayfile.specs.declared.WriteAnswer.{WriteAnswer}
 use Rattle.dayfile.specs.declared.WriteAnswer.the-variants as writer
 use Rattle.dayfile.specs.Answers.{fileTests, badRead, badWrite, shortest, firstOf, withTables, Reading, Writing}
-use Rattle.dayfile.specs.Passed.{each-passed}
+use Rattle.dayfile.specs.Passed.{each-passed, read-given}
 use Rattle.dayfile.specs.Layout.{laid-out, counted, walk-clean, day-lengths, day-in-front, with-day}
 use Rattle.dayfile_writer.specs.RoundTrip.{Bytes, only-file, file-layout, reads-back}
 
@@ -31,9 +33,10 @@ use Rattle.dayfile_writer.specs.RoundTrip.{Bytes, only-file, file-layout
 not-given : {o : Option Refusal} {r : Refusal} → o ≡ none → Gives o r → ⊥
 not-given e g = Option·none-ne-some _ (sym e ∙ g .is)
 
--- an accepted reading: the count of the day's periods is given, the tables' first cells are the day, and later cells stay
+-- an accepted reading: the count of the day's periods and its ends are given, the tables' first cells are the day's tables, and later
+-- cells stay
 pub record DayRead (d before : Day) (answer : ReadAnswer) (after : Day) : Type 0 where
-  pub count : answer ≡ reader.Periods (periods d)
+  pub given : answer ≡ reader.Periods (periods d) (endsOf d)
   pub tables : after ≡ withTables d before
 
 -- an accepted writing: the count of the file's bytes is given, they stand at the slice's front, and later bytes stay
@@ -55,12 +58,13 @@ room-suffices d before after answer limits room w =
     let fits : last ≡ none = rw (le-ltb (length before) (length (fileOf d)) room) refl in
     accepts d before after answer (first-passed (tableTests d) (last ∷ []) (tables-pass d limits) ∙ rw fits refl) w
 
-pub read-is-written : (s : List ℕ) (n : ℕ) (before after : Day) (out out′ : List ℕ) (answer : WriteAnswer) → Bytes s
-    → Reading s before (reader.Periods n) after → Writing (firstOf n after) out answer out′ → length s ≤ length out
+pub read-is-written : (s : List ℕ) (n : ℕ) (ends : Ends) (before after : Day) (out out′ : List ℕ) (answer : WriteAnswer) → Bytes s
+    → Reading s before (reader.Periods n ends) after → Writing (firstOf n after ends) out answer out′ → length s ≤ length out
     → FileWritten s out answer out′
-read-is-written s n before after out out′ answer h r w room =
+read-is-written s n ends before after out out′ answer h r w room =
     let each = each-passed (fileTests s ++ (badSlots (shortest before) (periodsIn s) ∷ badValue (dayIn s) ∷ [])) (r .0) in
-    let day = day-in-front s n before after (first-value (r .1)) (r .2) in
+    let given = read-given s n ends (r .1) in
+    let day = day-in-front s n ends before after (given .0) (given .1) (r .2) in
     let made = sym (only-file s h (laid-out s (each .0))) in
     let counts : badCount (periods (dayIn s)) ≡ none = ap badCount (length-listOf (field number2 0 s) (periodsIn s)) ∙ each .1 .0 in
     let fits : badSlots (length out) (length (fileOf (dayIn s))) ≡ none = rw (made, le-ltb (length out) (length s) room) refl in
@@ -96,7 +100,7 @@ written-is-read d n out out′ before after answer w r room =
     go : (answer : ReadAnswer) → badRead (fileOf d) (shortest before) ≡ none → dayIn (fileOf d) ≡ d → Reading (fileOf d) before answer after
         → DayRead d before answer after
     go (reader.Refused x) ok back q = absurd (not-given ok (q .0))
-    go (reader.Periods k) ok back q = record {
-      count = ap reader.Periods (first-value (q .1) ∙ counted (fileOf d) (periods d) (file-layout d));
+    go (reader.Periods k ends) ok back q = let given = read-given (fileOf d) k ends (q .1) in record {
+      given = ap₂ reader.Periods (given .0 ∙ counted (fileOf d) (periods d) (file-layout d)) (given .1 ∙ ap endsOf back);
       tables = q .2 ∙ (with-day (fileOf d) before ∙ ap (λ (e : Day). withTables e before) back);
     }

@@ -1,15 +1,17 @@
-//! The writer (document 01, "Day file"): the file of a day at the front of a lent slice. What it does is `Writing` of the crate dayfile.
+//! The writer (document 01, "Day file"; document 02, 2.1): the file of a day at the front of a lent slice. What it does is `Writing` of the crate dayfile.
 ghost use mathlib.Core.Path.{_≡_};
-ghost use mathlib.Core.List.{_∷_};
+ghost use mathlib.Core.List.{_∷_, _++_};
 ghost use Prim.Native.Nat.{_+_, _*_, _≤_};
 ghost use lib.ListN.{length};
 ghost use lib.Seq.{sets};
-ghost use Rattle.day.specs.Day.{dayOf};
-ghost use Rattle.day.specs.File.{periodKind, endKind, bytes2, fieldsOf, recordOf, recordsOf};
+ghost use Rattle.day.specs.Sums.{Term};
+ghost use Rattle.day.specs.Day.{dayOf, tablesOf};
+ghost use Rattle.day.specs.File.{periodKind, endKind, chargeKind, bytes2, headOf, fieldsOf, recordOf, recordsOf};
 ghost use Rattle.checks.specs.Passed.{SameLengths, Readable};
-ghost use Rattle.day.specs.Lent.{dayBefore};
+ghost use Rattle.day.specs.Lent.{dayBefore, tablesBefore};
 ghost use Rattle.dayfile.specs.Answers.{Cells, withFile, Writing};
 use day::Check;
+use day::Ends;
 use day::Refusal;
 use dayfile::WriteAnswer;
 
@@ -46,10 +48,36 @@ fn record_of(
     unit: &[u32],
     holding: &[u32],
 ) -> [u8; 17]
-    requires { ⌜ Cells (k + 1) (dayOf (now demand) (now capacity) (now setup) (now unit) (now holding)) ⌝ }
-    ensures { λ r. ⌜ r ≡ recordOf (dayBefore demand capacity setup unit holding) k ⌝ }
+    requires { ⌜ Cells (k + 1) (tablesOf (now demand) (now capacity) (now setup) (now unit) (now holding)) ⌝ }
+    ensures { λ r. ⌜ r ≡ recordOf (tablesBefore demand capacity setup unit holding) k ⌝ }
 {
     period_record(demand[k], capacity[k], setup[k], unit[k], holding[k])
+}
+
+// The record of charges.
+fn charge_record(opening: u16, closing: u16) -> [u8; 5]
+    ensures { λ r. ⌜ r ≡ chargeKind ∷ bytes2 opening ++ bytes2 closing ⌝ }
+{
+    [
+        3,
+        (opening / 256) as u8,
+        (opening % 256) as u8,
+        (closing / 256) as u8,
+        (closing % 256) as u8,
+    ]
+}
+
+// How long the head is: it is written exactly if A or Z is above 0.
+fn head_size(ends: Ends) -> usize
+    ensures { λ r. ⌜ Term (length (headOf (ends .opening) (ends .closing))) 5 r ⌝ }
+{
+    if ends.opening != 0 {
+        return 5;
+    }
+    if ends.closing != 0 {
+        return 5;
+    }
+    0
 }
 
 // The end record.
@@ -71,7 +99,19 @@ fn copy(bytes: &[u8], out: &mut [u8], at: usize)
     }
 }
 
-// The records of all periods, from the slice's front on.
+// The head, at the slice's front.
+fn put_head(out: &mut [u8], ends: Ends)
+    requires { ⌜ length (headOf (ends .opening) (ends .closing)) ≤ length (now out) ⌝ }
+    ensures { λ _. ⌜ now (out .exit) ≡ sets (now (out .entry)) 0 (headOf (ends .opening) (ends .closing)) ⌝ }
+{
+    if head_size(ends) == 0 {
+        return;
+    }
+    let record = charge_record(ends.opening, ends.closing);
+    copy(&record, out, 0);
+}
+
+// The records of all periods, from byte `first` on.
 fn put_periods(
     demand: &[u16],
     capacity: &[u16],
@@ -79,14 +119,16 @@ fn put_periods(
     unit: &[u32],
     holding: &[u32],
     out: &mut [u8],
+    first: usize,
 )
-    requires { ⌜ SameLengths (dayOf (now demand) (now capacity) (now setup) (now unit) (now holding)) ⌝ }
-    requires { ⌜ 17 * length (now demand) ≤ length (now out) ⌝ }
+    requires { ⌜ SameLengths (tablesOf (now demand) (now capacity) (now setup) (now unit) (now holding)) ⌝ }
+    requires { ⌜ first + 17 * length (now demand) ≤ length (now out) ⌝ }
     ensures { λ _. ⌜
-        now (out .exit) ≡ sets (now (out .entry)) 0 (recordsOf (dayBefore demand capacity setup unit holding) (length (now (demand .entry))))
+        now (out .exit)
+        ≡ sets (now (out .entry)) first (recordsOf (tablesBefore demand capacity setup unit holding) (length (now (demand .entry))))
         ⌝ }
 {
-    let mut at = 0;
+    let mut at = first;
     let mut k = 0;
     while k < demand.len() {
         let record = record_of(k, demand, capacity, setup, unit, holding);
@@ -104,15 +146,18 @@ fn put_file(
     unit: &[u32],
     holding: &[u32],
     out: &mut [u8],
+    ends: Ends,
 )
-    requires { ⌜ Readable (dayOf (now demand) (now capacity) (now setup) (now unit) (now holding)) ⌝ }
-    requires { ⌜ 17 * length (now demand) + 3 ≤ length (now out) ⌝ }
-    ensures { λ _. ⌜ now (out .exit) ≡ withFile (dayBefore demand capacity setup unit holding) (now (out .entry)) ⌝ }
+    requires { ⌜ Readable (dayOf (now demand) (now capacity) (now setup) (now unit) (now holding) ends) ⌝ }
+    requires { ⌜ length (headOf (ends .opening) (ends .closing)) + 17 * length (now demand) + 3 ≤ length (now out) ⌝ }
+    ensures { λ _. ⌜ now (out .exit) ≡ withFile (dayBefore demand capacity setup unit holding ends) (now (out .entry)) ⌝ }
 {
-    put_periods(demand, capacity, setup, unit, holding, out);
+    put_head(out, ends);
+    let first = head_size(ends);
+    put_periods(demand, capacity, setup, unit, holding, out, first);
     let n = demand.len();
     let record = end_record(n as u16);
-    copy(&record, out, 17 * n);
+    copy(&record, out, first + 17 * n);
 }
 
 // Writes the file of a day: 1, 2, 3, then 6. Accepted, the file stands at the slice's front, and its length is given.
@@ -123,16 +168,17 @@ pub fn write(
     unit: &[u32],
     holding: &[u32],
     out: &mut [u8],
+    ends: Ends,
 ) -> WriteAnswer
-    ensures { λ r. ⌜ Writing (dayBefore demand capacity setup unit holding) (now (out .entry)) r (now (out .exit)) ⌝ }
+    ensures { λ r. ⌜ Writing (dayBefore demand capacity setup unit holding ends) (now (out .entry)) r (now (out .exit)) ⌝ }
 {
     if let Check::Refused(r) = checks::tables(demand, capacity, setup, unit, holding) {
         return WriteAnswer::Refused(r);
     }
-    let size = 17 * demand.len() + 3;
+    let size = head_size(ends) + 17 * demand.len() + 3;
     if out.len() < size {
         return WriteAnswer::Refused(Refusal::FewSlots);
     }
-    put_file(demand, capacity, setup, unit, holding, out);
+    put_file(demand, capacity, setup, unit, holding, out, ends);
     WriteAnswer::Bytes(size)
 }

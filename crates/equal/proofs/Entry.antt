@@ -8,17 +8,20 @@ use lib.ListN.{length, drop, replicate, List·getD-append}
 use borrow.Rule.Slice.PartMut.{midOf, putMid, mid-len, same-len-mid, drop-put}
 use Rattle.day.specs.declared.Totals.{Totals}
 use Rattle.day.specs.Sums.{at}
-use Rattle.day.specs.Day.{Day, periods, total}
+use Rattle.day.specs.Day.{Day, periods}
 use Rattle.day.specs.Plan.{Optimal}
 use Rattle.day.specs.Tests.{first-one}
 use Rattle.day.specs.Outcome.{Memory, memoryOf, sizesOf, Cleared, Accepted}
 use Rattle.day.specs.Paths.{equal}
-use Rattle.checks.specs.declared.Needed.{Needed}
-use Rattle.checks.specs.Passed.{Admitted, NeededBy, equal-passed}
+use Rattle.path_checks.specs.declared.Needed.{Needed}
+use Rattle.checks.specs.Passed.{Admitted, equal-passed}
+use Rattle.path_checks.specs.Needed.{NeededBy}
 use Rattle.weigher.specs.Verdict.{totalsOf}
 use Rattle.weigher.specs.Walk.{FeasiblePlan}
-use Rattle.theory.specs.Problem.{modelOf}
-use Rattle.theory.specs.Base.{problemOf, bounded, optimal-iff}
+use Rattle.theory.specs.Problem.{Problem, problemWith, modelOf}
+use Rattle.theory.specs.Problem as Problem
+use Rattle.theory.specs.Net.{netNeeds, problemOf, limits-fit, periods-is, supplied-iff, bounded}
+use Rattle.theory.specs.Base.{optimal-iff}
 use Rattle.theory.specs.Cut.{optimal-ext}
 use Rattle.equal_rows.specs.Rows.{areas}
 use Rattle.equal.specs.Solved.{Solvable, PlanFound}
@@ -48,26 +51,11 @@ module _ (d : Day) (m : Memory) (ok : Admitted equal d (sizesOf m)) (r : Needed)
   abbrev n : ℕ
   n = periods d
 
-  pub costs-inside : r .costs ≤ length (m .costs)
+  costs-inside : r .costs ≤ length (m .costs)
   costs-inside = omega (arith, needed .costs, ok .room .costs)
 
-  pub choices-inside : r .choices ≤ length (m .choices)
+  choices-inside : r .choices ≤ length (m .choices)
   choices-inside = omega (arith, needed .choices, ok .room .choices)
-
-  pub solvable : Solvable (problemOf d) (areas (front (r .costs) (m .costs)) (front (r .choices) (m .choices))) (front n (m .slots))
-  solvable =
-      record {
-        constant = record {
-          bounded = bounded d (ok .day .limits) (ok .day .total);
-          one = equal-passed d (rw first-one at (ok .own));
-          supplied = ok .supplied;
-        };
-        sized = record {
-          costs = front-length (r .costs) (m .costs) costs-inside ∙ needed .costs;
-          choices = front-length (r .choices) (m .choices) choices-inside ∙ needed .choices;
-        };
-        each = front-length n (m .slots) (ok .room .slots);
-      }
 
   -- what the work left in the front parts fits what is to be cleared
   pub costs-back : (costs : List ℕ) → length costs ≡ length (front (r .costs) (m .costs)) → r .costs ≤ length (back (r .costs) (m .costs) costs)
@@ -77,41 +65,69 @@ module _ (d : Day) (m : Memory) (ok : Admitted equal d (sizesOf m)) (r : Needed)
       → r .choices ≤ length (back (r .choices) (m .choices) choices)
   choices-back choices e = omega (arith, choices-inside, back-length (r .choices) (m .choices) choices e)
 
-  module _ (slots : List ℕ) (size : length slots ≡ length (front n (m .slots))) (found : PlanFound (problemOf d) slots) where
-    abbrev slots′ : List ℕ
-    slots′ = back n (m .slots) slots
+  -- The net needs as they were filled in.
+  module _ (net : List ℕ) (is-net : net ≡ netNeeds d) where
+    abbrev p : Problem
+    p = problemWith net (d .capacity) (d .setup) (d .unit) (d .holding)
 
-    same : (k : ℕ) → k < n → at slots k ≡ at slots′ k
-    same k h = sym (List·getD-append slots _ 0 k (omega (arith, size, front-length n (m .slots) (ok .room .slots))))
-
-    slots-optimal : Optimal d (at slots′)
-    slots-optimal = optimal-iff d (at slots′) .1 (optimal-ext (modelOf (problemOf d)) n (total d) (at slots) (at slots′) same found)
-
-    pub slots-feasible : FeasiblePlan d slots′
-    slots-feasible =
-        record {
-          weighable = record {
-            few = ok .day .limits .few;
-            lengths = ok .day .limits .lengths;
-            amounts = omega (arith, ok .room .slots, back-length n (m .slots) slots size);
+    pub solvable : Solvable p (areas (front (r .costs) (m .costs)) (front (r .choices) (m .choices))) (front n (m .slots))
+    solvable =
+        let size = periods-is d in
+        rw is-net
+        (record {
+          constant = record {
+            bounded = bounded d (ok .day);
+            one = λ k h. equal-passed d (rw first-one at (ok .own)) k (omega arith);
+            supplied = supplied-iff d (ok .day .limits .nonempty) .0 (ok .supplied);
           };
-          feasible = slots-optimal .feasible;
-        }
+          sized = record {
+            costs = front-length (r .costs) (m .costs) costs-inside ∙ needed .costs ∙ ap (λ (k : ℕ). equal .costCells k 0) (sym size);
+            choices = front-length (r .choices) (m .choices) choices-inside ∙ needed .choices ∙ ap (λ (k : ℕ). equal .choiceCells k 0) (sym size);
+          };
+          each = front-length n (m .slots) (ok .room .slots) ∙ sym size;
+        })
 
-    -- The front parts as the work leaves them, and then cleared, are as an accepted call leaves its memory.
-    pub work-accepted : (t : Totals) (costs choices costs′ choices′ : List ℕ)
-        → length costs ≡ length (front (r .costs) (m .costs))
-        → length choices ≡ length (front (r .choices) (m .choices))
-        → Cleared (r .costs) (back (r .costs) (m .costs) costs) costs′
-        → Cleared (r .choices) (back (r .choices) (m .choices) choices) choices′
-        → t ≡ totalsOf d (at slots′)
-        → Accepted equal d t m (memoryOf costs′ choices′ slots′)
-    work-accepted t costs choices costs′ choices′ e f clear clear′ is =
-        record {
-          plan = slots-optimal;
-          counts = rw is refl;
-          size = back-length n (m .slots) slots size;
-          rest = back-rest n (m .slots) slots size (ok .room .slots);
-          costs = rw (needed .costs) at (back-cleared (r .costs) (m .costs) costs e costs-inside costs′ clear);
-          choices = rw (needed .choices) at (back-cleared (r .choices) (m .choices) choices f choices-inside choices′ clear′);
-        }
+    module _ (slots : List ℕ) (size : length slots ≡ length (front n (m .slots))) (found : PlanFound p slots) where
+      abbrev slots′ : List ℕ
+      slots′ = back n (m .slots) slots
+
+      same : (k : ℕ) → k < Problem.periods (problemOf d) → at slots k ≡ at slots′ k
+      same k h = sym (List·getD-append slots _ 0 k (omega (arith, size, front-length n (m .slots) (ok .room .slots), periods-is d)))
+
+      found-net : PlanFound (problemOf d) slots
+      found-net = rw is-net at found
+
+      slots-optimal : Optimal d (at slots′)
+      slots-optimal =
+          let q = problemOf d in
+          optimal-iff d (limits-fit (ok .day)) (at slots′) .1
+          (optimal-ext (modelOf q) (Problem.periods q) (Problem.total q) (at slots) (at slots′) same found-net)
+
+      pub slots-feasible : FeasiblePlan d slots′
+      slots-feasible =
+          record {
+            weighable = record {
+              few = ok .day .limits .few;
+              lengths = ok .day .limits .lengths;
+              amounts = omega (arith, ok .room .slots, back-length n (m .slots) slots size);
+            };
+            feasible = slots-optimal .feasible;
+          }
+
+      -- The front parts as the work leaves them, and then cleared, are as an accepted call leaves its memory.
+      pub work-accepted : (t : Totals) (costs choices costs′ choices′ : List ℕ)
+          → length costs ≡ length (front (r .costs) (m .costs))
+          → length choices ≡ length (front (r .choices) (m .choices))
+          → Cleared (r .costs) (back (r .costs) (m .costs) costs) costs′
+          → Cleared (r .choices) (back (r .choices) (m .choices) choices) choices′
+          → t ≡ totalsOf d (at slots′)
+          → Accepted equal d t m (memoryOf costs′ choices′ slots′)
+      work-accepted t costs choices costs′ choices′ e f clear clear′ is =
+          record {
+            plan = slots-optimal;
+            counts = rw is refl;
+            size = back-length n (m .slots) slots size;
+            rest = back-rest n (m .slots) slots size (ok .room .slots);
+            costs = rw (needed .costs) at (back-cleared (r .costs) (m .costs) costs e costs-inside costs′ clear);
+            choices = rw (needed .choices) at (back-cleared (r .choices) (m .choices) choices f choices-inside choices′ clear′);
+          }

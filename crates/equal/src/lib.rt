@@ -1,6 +1,5 @@
 //! The equal path: Florian and Klein (report, section 3), for days with one capacity throughout.
-//! It tests, finds the plan row by row, hands out the last row, clears its areas, and weighs the plan.
-ghost use Prim.Native.Nat.{ℕ};
+//! It tests, takes the net needs, finds the plan row by row, hands out the last row, clears its areas, and weighs the plan.
 ghost use lib.ListN.{length};
 ghost use Rattle.day.specs.Day.{dayOf};
 ghost use Rattle.day.specs.Lent.{dayBefore, memoryBefore, memoryAfter};
@@ -12,6 +11,7 @@ ghost use Rattle.equal_rows.specs.Rows.{areas};
 ghost use Rattle.equal.specs.Solved.{Solvable, PlanFound};
 use day::Answer;
 use day::Check;
+use day::Ends;
 use day::PathKind;
 use day::Totals;
 
@@ -57,22 +57,26 @@ fn work(
     costs: &mut [u64],
     choices: &mut [u16],
     slots: &mut [u16],
+    ends: Ends,
 ) -> Totals
     requires { ⌜ Admitted equal
-        (dayOf (now demand) (now capacity) (now setup) (now unit) (now holding))
+        (dayOf (now demand) (now capacity) (now setup) (now unit) (now holding) ends)
         (sizes (length (now costs)) (length (now choices)) (length (now slots))) ⌝ }
     ensures { λ r. ⌜ Accepted equal
-        (dayBefore demand capacity setup unit holding)
+        (dayBefore demand capacity setup unit holding ends)
         r
         (memoryBefore costs choices slots)
         (memoryAfter costs choices slots) ⌝ }
 {
     let n = demand.len();
-    let needed = checks::cells(PathKind::Equal, n, 0);
+    let mut table = [0u16; 96];
+    let net = &mut table[0..n];
+    net::fill(demand, net, ends);
+    let needed = path_checks::cells(PathKind::Equal, n, 0);
     let cost_cells = needed.costs;
     let choice_cells = needed.choices;
     solve(
-        demand,
+        net,
         capacity,
         setup,
         unit,
@@ -83,7 +87,7 @@ fn work(
     );
     areas::clear_costs(costs, cost_cells);
     areas::clear_choices(choices, choice_cells);
-    weigher::totals(demand, capacity, setup, unit, holding, slots)
+    weigher::totals(demand, capacity, setup, unit, holding, slots, ends)
 }
 
 // The plan of a day with one capacity throughout, into the first n slots.
@@ -96,14 +100,15 @@ pub fn plan(
     costs: &mut [u64],
     choices: &mut [u16],
     slots: &mut [u16],
+    ends: Ends,
 ) -> Answer
     ensures { λ r. ⌜ Runs equal
-        (dayBefore demand capacity setup unit holding)
+        (dayBefore demand capacity setup unit holding ends)
         (memoryBefore costs choices slots)
         r
         (memoryAfter costs choices slots) ⌝ }
 {
-    if let Check::Refused(r) = checks::path(
+    if let Check::Refused(r) = path_checks::path(
         PathKind::Equal,
         demand,
         capacity,
@@ -113,6 +118,7 @@ pub fn plan(
         costs.len(),
         choices.len(),
         slots.len(),
+        ends,
     ) {
         return Answer::Refused(r);
     }
@@ -125,5 +131,6 @@ pub fn plan(
         costs,
         choices,
         slots,
+        ends,
     ))
 }

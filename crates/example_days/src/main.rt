@@ -1,4 +1,6 @@
-//! Writes the day files of examples/ by the project's own writer: the marked days M1 to M12 (document 01), and a day of 96 periods.
+//! Writes the day files of examples/ by the project's own writer: the marked days M1 to M12 (document 01), a day with charge at both ends
+//! (document 02, 2.1), and a day of 96 periods.
+use day::Ends;
 use dayfile::WriteAnswer;
 use libc::STDOUT_FILENO;
 
@@ -10,9 +12,10 @@ fn save(
     setup: &[u32],
     unit: &[u32],
     holding: &[u32],
+    ends: Ends,
 ) {
-    let mut file = [0u8; 1635];
-    let answer = dayfile_writer::write(demand, capacity, setup, unit, holding, &mut file);
+    let mut file = [0u8; 1640];
+    let answer = dayfile_writer::write(demand, capacity, setup, unit, holding, &mut file, ends);
     let WriteAnswer::Bytes(n) = answer else {
         io::write_all(STDOUT_FILENO, b"refused ");
         io::write_all(STDOUT_FILENO, name);
@@ -33,7 +36,7 @@ fn save(
 }
 
 // A day of one to three periods, with one start cost, unit cost and upkeep throughout.
-fn save_row(name: &[u8], demand: &[u16], capacity: &[u16], b: u32, p: u32, h: u32) {
+fn save_row(name: &[u8], demand: &[u16], capacity: &[u16], b: u32, p: u32, h: u32, ends: Ends) {
     let n = demand.len();
     let setup = [b; 3];
     let unit = [p; 3];
@@ -46,23 +49,42 @@ fn save_row(name: &[u8], demand: &[u16], capacity: &[u16], b: u32, p: u32, h: u3
             &setup[0..n],
             &unit[0..n],
             &holding[0..n],
+            ends,
         );
     }
 }
 
+// No charge before the day and none after it.
+fn no_ends() -> Ends {
+    Ends {
+        opening: 0,
+        closing: 0,
+    }
+}
+
 fn save_marked() {
-    save_row(b"m1.day", &[0], &[0], 5, 1, 1);
-    save_row(b"m2.day", &[1], &[1], 5, 2, 9);
-    save_row(b"m3.day", &[2], &[1], 5, 2, 9);
-    save_row(b"m4.day", &[2, 3], &[5, 5], 10, 1, 1);
-    save_row(b"m5.day", &[2, 3], &[5, 5], 10, 1, 4);
-    save_row(b"m6.day", &[2, 2], &[4, 4], 10, 1, 5);
-    save_row(b"m7.day", &[0, 4], &[3, 3], 10, 1, 1);
-    save_row(b"m8.day", &[1, 5], &[2, 3], 0, 1, 1);
-    save_row(b"m9.day", &[1, 4], &[2, 3], 0, 1, 1);
-    save_row(b"m10.day", &[3, 0], &[2, 9], 0, 1, 1);
-    save_row(b"m11.day", &[2, 2, 3], &[4, 4, 4], 6, 1, 1);
-    save_row(b"m12.day", &[0, 0], &[0, 0], 5, 1, 1);
+    let none = no_ends();
+    save_row(b"m1.day", &[0], &[0], 5, 1, 1, none);
+    save_row(b"m2.day", &[1], &[1], 5, 2, 9, none);
+    save_row(b"m3.day", &[2], &[1], 5, 2, 9, none);
+    save_row(b"m4.day", &[2, 3], &[5, 5], 10, 1, 1, none);
+    save_row(b"m5.day", &[2, 3], &[5, 5], 10, 1, 4, none);
+    save_row(b"m6.day", &[2, 2], &[4, 4], 10, 1, 5, none);
+    save_row(b"m7.day", &[0, 4], &[3, 3], 10, 1, 1, none);
+    save_row(b"m8.day", &[1, 5], &[2, 3], 0, 1, 1, none);
+    save_row(b"m9.day", &[1, 4], &[2, 3], 0, 1, 1, none);
+    save_row(b"m10.day", &[3, 0], &[2, 9], 0, 1, 1, none);
+    save_row(b"m11.day", &[2, 2, 3], &[4, 4, 4], 6, 1, 1, none);
+    save_row(b"m12.day", &[0, 0], &[0, 0], 5, 1, 1, none);
+}
+
+// M11's tables, with charge at both ends: the first period makes nothing, and the last one more than it needs.
+fn save_ends() {
+    let ends = Ends {
+        opening: 3,
+        closing: 2,
+    };
+    save_row(b"ends.day", &[2, 2, 3], &[4, 4, 4], 6, 1, 1, ends);
 }
 
 // The needs of quarter hours: 2 watt-hours each, 5 in a pass of half an hour every three hours.
@@ -94,10 +116,19 @@ fn save_passes() {
     let setup = [4000u32; 96];
     let unit = fuel();
     let holding = [40u32; 96];
-    save(b"passes.day", &demand, &capacity, &setup, &unit, &holding);
+    save(
+        b"passes.day",
+        &demand,
+        &capacity,
+        &setup,
+        &unit,
+        &holding,
+        no_ends(),
+    );
 }
 
 fn main() {
     save_marked();
+    save_ends();
     save_passes();
 }

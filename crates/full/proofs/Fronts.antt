@@ -1,8 +1,7 @@
 -- The work of the full path, in plain variables: the table in the front parts of both areas, the plan in the slots, the areas cleared.
 -- Assumes nothing.
-use mathlib.Core.Path.{_≡_, refl, _∙_}
+use mathlib.Core.Path.{_≡_, refl, sym, _∙_}
 use mathlib.Core.List.{List, _++_}
-use mathlib.Core.Option.{none}
 use Prim.Native.Nat.{ℕ, _-_}
 use native.Mathlib.Omega.{arith}
 use lib.ListN.{length, take, drop, length-append}
@@ -11,14 +10,17 @@ use Rattle.day.specs.declared.Totals.{Totals}
 use Rattle.day.specs.Sums.{at}
 use Rattle.day.specs.Day as Day
 use Rattle.day.specs.Day.{Day}
-use Rattle.day.specs.Outcome.{Memory, memoryOf, sizesOf, refusal, Cleared, Accepted}
+use Rattle.day.specs.Plan.{Optimal}
+use Rattle.day.specs.Outcome.{Memory, memoryOf, sizesOf, Cleared, Accepted}
 use Rattle.day.specs.Paths.{full}
-use Rattle.checks.specs.declared.Needed.{Needed}
-use Rattle.checks.specs.Passed.{NeededBy, admitted}
+use Rattle.path_checks.specs.declared.Needed.{Needed}
+use Rattle.checks.specs.Passed.{Admitted}
+use Rattle.path_checks.specs.Needed.{NeededBy}
 use Rattle.weigher.specs.Verdict.{totalsOf}
 use Rattle.weigher.specs.Walk.{FeasiblePlan}
-use Rattle.theory.specs.Problem.{Problem, periods}
-use Rattle.theory.specs.Base.{problemOf, bounded, optimal-iff}
+use Rattle.theory.specs.Problem.{Problem, problemWith, periods}
+use Rattle.theory.specs.Net.{netNeeds, limits-fit, periods-is, total-is, supplied-iff, bounded}
+use Rattle.theory.specs.Base.{optimal-iff}
 use Rattle.full_table.specs.Table.{cellAt, Fillable, TableFilled, Traceable, planRead}
 use Rattle.full_table.specs.Right.{back-length, filled-longer, filled-traced, filled-optimal}
 use Rattle.full.specs.Work.{Workable, PlanLeft}
@@ -81,41 +83,50 @@ module _ {p : Problem} {T : ℕ} {c : Needed} {m : Memory} (w : Workable p T c m
           choices = drop-front (c .choices) k′ front′ (m .choices) (omega arith) (size′ ∙ lent′);
         })
 
-module _ {d : Day} {m : Memory} (ok : refusal full d (sizesOf m) ≡ none) where
-  pub workable : {T : ℕ} {c : Needed} → T ≡ Day.total d → NeededBy full (Day.periods d) T c → Workable (problemOf d) T c m
-  workable t n =
-      let a = admitted full d (sizesOf m) ok in
-      record {
-        fillable = record {
-          bounded = bounded d (a .day .limits) (a .day .total);
-          supplied = a .supplied;
-          is = t;
-          costCells = omega (arith, a .room .costs);
-          choiceCells = rw t (a .room .choices);
-        };
-        slotCells = a .room .slots;
-        needed = n;
-      }
+-- the problem of a day whose net needs stand in a table
+abbrev pub problemIn : List ℕ → Day → Problem
+problemIn net d = problemWith net (d .capacity) (d .setup) (d .unit) (d .holding)
 
-  module _ {c : Needed} {after : Memory} (left : PlanLeft (problemOf d) c m after) (size : length (after .slots) ≡ length (m .slots)) where
+module _ {d : Day} {m : Memory} {net : List ℕ} (a : Admitted full d (sizesOf m)) (filled : net ≡ netNeeds d) where
+  pub workable : {T : ℕ} {c : Needed} → T ≡ Day.total d → NeededBy full (Day.periods d) T c → Workable (problemIn net d) T c m
+  workable t n =
+      let e = periods-is d in
+      let pos = a .day .limits .nonempty in
+      rw filled
+      (record {
+        fillable = record {
+          bounded = bounded d (a .day);
+          supplied = supplied-iff d pos .0 (a .supplied);
+          is = t ∙ sym (total-is d pos);
+          costCells = rw t (a .room .costs);
+          choiceCells = rw (e, t) (a .room .choices);
+        };
+        slotCells = rw e (a .room .slots);
+        needed = rw e n;
+      })
+
+  module _ {c : Needed} {after : Memory} (left : PlanLeft (problemIn net d) c m after) (size : length (after .slots) ≡ length (m .slots)) where
+    left-optimal : Optimal d (at (after .slots))
+    left-optimal = optimal-iff d (limits-fit (a .day)) (at (after .slots)) .1 ((rw filled at left) .plan)
+
     pub left-feasible : FeasiblePlan d (after .slots)
     left-feasible =
-        let a = admitted full d (sizesOf m) ok in
+        let l = a .day .limits in
         record {
-          weighable = record { few = a .day .limits .few; lengths = a .day .limits .lengths; amounts = omega (arith, a .room .slots) };
-          feasible = optimal-iff d (at (after .slots)) .1 (left .plan) .feasible;
+          weighable = record { few = l .few; lengths = l .lengths; amounts = omega (arith, a .room .slots) };
+          feasible = left-optimal .feasible;
         }
 
     -- after the work both areas are cleared
     pub work-accepted : {T : ℕ} {r : Totals} {costs′ choices′ : List ℕ} → T ≡ Day.total d → NeededBy full (Day.periods d) T c
         → r ≡ totalsOf d (at (after .slots)) → Cleared (c .costs) (after .costs) costs′ → Cleared (c .choices) (after .choices) choices′
         → Accepted full d r m (memoryOf costs′ choices′ (after .slots))
-    work-accepted t n e a b =
+    work-accepted t n e costs choices =
         record {
-          plan = optimal-iff d (at (after .slots)) .1 (left .plan);
+          plan = left-optimal;
           counts = rw e refl;
           size = size;
-          rest = left .slots;
-          costs = rw (n .costs, t) at (rw (left .costs) at a);
-          choices = rw (n .choices, t) at (rw (left .choices) at b);
+          rest = rw (periods-is d) at ((rw filled at left) .slots);
+          costs = rw (n .costs, t) at (rw (left .costs) at costs);
+          choices = rw (n .choices, t) at (rw (left .choices) at choices);
         }

@@ -5,13 +5,13 @@ use lib.ListN.{length, drop}
 use Rattle.day.specs.Sums.{at}
 use Rattle.day.specs.Outcome.{Memory}
 use Rattle.day.specs.Paths.{full}
-use Rattle.checks.specs.declared.Needed.{Needed}
-use Rattle.checks.specs.Passed.{NeededBy}
+use Rattle.path_checks.specs.declared.Needed.{Needed}
+use Rattle.path_checks.specs.Needed.{NeededBy}
 use Rattle.theory.specs.Model.{OptimalTo}
 use Rattle.theory.specs.Problem.{Problem, periods, total, modelOf}
 use Rattle.full_table.specs.Table.{Fillable}
 
--- what tests 1 to 7 leave, where T is N over all periods, and c says how many cells the path needs
+-- what tests 1 to 7 and 14 leave, where T is N over all periods, and c says how many cells the path needs
 pub record Workable (p : Problem) (T : ℕ) (c : Needed) (m : Memory) : Type 0 where
   pub fillable : Fillable p (m .costs) (m .choices) T
   pub slotCells : periods p ≤ length (m .slots)

@@ -1,17 +1,17 @@
 //! The full path (document 01, "Three paths, one plan"): the plan of any day by recursion (5), over lent areas.
-ghost use mathlib.Core.Path.{_≡_};
-ghost use mathlib.Core.Option.{none};
 ghost use Rattle.day.specs.Day.{dayOf};
 ghost use Rattle.day.specs.Lent.{dayBefore, memoryBefore, memoryAfter};
-ghost use Rattle.day.specs.Outcome.{memoryOf, sizesOf, refusal, Accepted, Runs};
+ghost use Rattle.day.specs.Outcome.{memoryOf, sizesOf, Accepted, Runs};
 ghost use Rattle.day.specs.Paths.{full};
+ghost use Rattle.checks.specs.Passed.{Admitted};
 ghost use Rattle.theory.specs.Problem.{problemWith};
 ghost use Rattle.full.specs.Work.{Workable, PlanLeft};
-use checks::Needed;
 use day::Answer;
 use day::Check;
+use day::Ends;
 use day::PathKind;
 use day::Totals;
+use path_checks::Needed;
 
 // The plan into the slots, by the needed cells of both areas.
 fn fill_and_read(
@@ -50,7 +50,7 @@ fn fill_and_read(
     full_table::read_back(choices, slots, demand.len(), total);
 }
 
-// The work, once the tests have passed.
+// The work, once the tests have passed: the loops run on the net needs, the plan is weighed on the day itself.
 fn work(
     demand: &[u16],
     capacity: &[u16],
@@ -60,21 +60,25 @@ fn work(
     costs: &mut [u64],
     choices: &mut [u16],
     slots: &mut [u16],
+    ends: Ends,
 ) -> Totals
-    requires { ⌜
-        refusal full
-        (dayOf (now demand) (now capacity) (now setup) (now unit) (now holding))
-        (sizesOf (memoryOf (now costs) (now choices) (now slots))) ≡ none ⌝ }
+    requires { ⌜ Admitted full
+        (dayOf (now demand) (now capacity) (now setup) (now unit) (now holding) ends)
+        (sizesOf (memoryOf (now costs) (now choices) (now slots))) ⌝ }
     ensures { λ r. ⌜ Accepted full
-        (dayBefore demand capacity setup unit holding)
+        (dayBefore demand capacity setup unit holding ends)
         r
         (memoryBefore costs choices slots)
         (memoryAfter costs choices slots) ⌝ }
 {
-    let total = checks::total(demand) as usize;
-    let needed = checks::cells(PathKind::Full, demand.len(), total);
+    let n = demand.len();
+    let total = checks::total(demand, ends) as usize;
+    let needed = path_checks::cells(PathKind::Full, n, total);
+    let mut table = [0u16; 96];
+    let net = &mut table[0..n];
+    net::fill(demand, net, ends);
     fill_and_read(
-        demand,
+        net,
         capacity,
         setup,
         unit,
@@ -85,7 +89,7 @@ fn work(
         total,
         needed,
     );
-    let totals = weigher::totals(demand, capacity, setup, unit, holding, slots);
+    let totals = weigher::totals(demand, capacity, setup, unit, holding, slots, ends);
     areas::clear_costs(costs, needed.costs);
     areas::clear_choices(choices, needed.choices);
     totals
@@ -101,14 +105,15 @@ pub fn plan(
     costs: &mut [u64],
     choices: &mut [u16],
     slots: &mut [u16],
+    ends: Ends,
 ) -> Answer
     ensures { λ r. ⌜ Runs full
-        (dayBefore demand capacity setup unit holding)
+        (dayBefore demand capacity setup unit holding ends)
         (memoryBefore costs choices slots)
         r
         (memoryAfter costs choices slots) ⌝ }
 {
-    if let Check::Refused(r) = checks::path(
+    if let Check::Refused(r) = path_checks::path(
         PathKind::Full,
         demand,
         capacity,
@@ -118,6 +123,7 @@ pub fn plan(
         costs.len(),
         choices.len(),
         slots.len(),
+        ends,
     ) {
         return Answer::Refused(r);
     }
@@ -130,5 +136,6 @@ pub fn plan(
         costs,
         choices,
         slots,
+        ends,
     ))
 }

@@ -7,6 +7,7 @@ ghost use Rattle.day.specs.Sums.{at};
 ghost use Rattle.day.specs.Day.{dayOf};
 ghost use Rattle.day.specs.Plan.{inventory as left};
 ghost use Rattle.lines.specs.Text.{lineBytes, labelled, lineOf, planLine, amountLine, refusalLine, Put, PutWithin, HavePeriods};
+use day::Ends;
 use day::Refusal;
 
 // Puts text at a place of the line, and answers the place after it.
@@ -78,26 +79,33 @@ pub fn plan_line(n: u64, cost: u64, setups: u64, text: &mut [u8], place: usize) 
 }
 
 // The inventory left after the first i periods.
-fn inventory(demand: &[u16], plan: &[u16], i: usize) -> u64
+fn inventory(demand: &[u16], plan: &[u16], i: usize, ends: Ends) -> u64
     requires { ⌜ HavePeriods (now demand) (now plan) i ⌝ }
-    ensures { λ r. ⌜ r ≡ left (dayOf (now (demand .entry)) [] [] [] []) (at (now (plan .entry))) i ⌝ }
+    ensures { λ r. ⌜ r ≡ left (dayOf (now (demand .entry)) [] [] [] [] ends) (at (now (plan .entry))) i ⌝ }
 {
-    let made = checks::total(&plan[0..i]);
-    let needed = checks::total(&demand[0..i]);
-    if made < needed { 0 } else { made - needed }
+    let there = checks::summed(&plan[0..i]) + (ends.opening as u64);
+    let needed = checks::summed(&demand[0..i]);
+    if there < needed { 0 } else { there - needed }
 }
 
 // The period at index i of a plan: its amount, and the inventory left after it.
-pub fn amount_line(demand: &[u16], plan: &[u16], i: usize, text: &mut [u8], place: usize) -> usize
+pub fn amount_line(
+    demand: &[u16],
+    plan: &[u16],
+    i: usize,
+    text: &mut [u8],
+    place: usize,
+    ends: Ends,
+) -> usize
     requires { ⌜ HavePeriods (now demand) (now plan) (i + 1) ⌝ }
     requires { ⌜ place + lineBytes ≤ length (now text) ⌝ }
     ensures { λ r. ⌜
         PutWithin lineBytes (now (text .entry)) place
-        (amountLine (dayOf (now (demand .entry)) [] [] [] []) (at (now (plan .entry))) i)
+        (amountLine (dayOf (now (demand .entry)) [] [] [] [] ends) (at (now (plan .entry))) i)
         (now (text .exit)) r
         ⌝ }
 {
-    let left = inventory(demand, plan, i + 1);
+    let left = inventory(demand, plan, i + 1, ends);
     three(
         text,
         place,

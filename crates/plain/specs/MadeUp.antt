@@ -4,6 +4,7 @@ use mathlib.Core.Path.{_≡_}
 use mathlib.Core.List.{[], _∷_}
 use Prim.Native.Nat.{ℕ, _+_, _*_, _/_, _%_, _^_, _≤_}
 use lib.ListN.{length}
+use Rattle.day.specs.declared.Ends.{Ends}
 use Rattle.plain.specs.declared.Capacities.{Capacities}
 use Rattle.plain.specs.declared.Capacities.the-variants.{Any, Equal, Unbound}
 use Rattle.plain.specs.declared.Drawn.{Drawn}
@@ -16,11 +17,11 @@ nextOf seed = (1664525 * seed + 1013904223) % 2 ^ 32
 abbrev pub upperOf : ℕ → ℕ
 upperOf seed = seed / 2 ^ 16
 
--- the capacity drawn for the period, the one drawn for the day, or 8, which all the demand of a tiny day does not exceed
+-- the capacity drawn for the period, the one drawn for the day, or 10, which all that a tiny day makes does not exceed
 abbrev pub capacityOf : Capacities → (drawn common : ℕ) → ℕ
 capacityOf Any drawn common = drawn
 capacityOf Equal drawn common = common
-capacityOf Unbound drawn common = 8
+capacityOf Unbound drawn common = 10
 
 -- one period: five draws, for demand, capacity, setup, unit and holding cost in this order
 unfoldable pub drawnOf : ℕ → Capacities → ℕ → Drawn
@@ -39,9 +40,13 @@ drawnOf seed capacities common =
       holding = upperOf e % 3;
     }
 
--- four periods as tables, of which the first n cells count
-abbrev pub tablesOf : ℕ → (a b c d : Drawn) → Tiny
-tablesOf n a b c d =
+-- both ends: a draw each, opening before closing
+abbrev pub endsFrom : (seed most : ℕ) → Ends
+endsFrom seed most = let a = nextOf seed in record { opening = upperOf a % (most + 1); closing = upperOf (nextOf a) % (most + 1) }
+
+-- four periods as tables, of which the first n cells count, with the day's ends; the next day's seed is the one after the periods
+abbrev pub tablesOf : ℕ → (a b c d : Drawn) → Ends → Tiny
+tablesOf n a b c d ends =
     record {
       seed = d .seed;
       n = n;
@@ -50,11 +55,12 @@ tablesOf n a b c d =
       setup = a .setup ∷ b .setup ∷ c .setup ∷ d .setup ∷ [];
       unit = a .unit ∷ b .unit ∷ c .unit ∷ d .unit ∷ [];
       holding = a .holding ∷ b .holding ∷ c .holding ∷ d .holding ∷ [];
+      ends = ends;
     }
 
--- a made-up day: a draw for the number of periods, one for the common capacity, then the periods
-unfoldable pub madeUp : ℕ → Capacities → Tiny
-madeUp seed capacities =
+-- a made-up day: a draw for the number of periods, one for the common capacity, then the periods, then the ends
+unfoldable pub madeUp : ℕ → Capacities → ℕ → Tiny
+madeUp seed capacities most =
     let first = nextOf seed in
     let second = nextOf first in
     let common = upperOf second % 5 in
@@ -62,11 +68,11 @@ madeUp seed capacities =
     let b = drawnOf (a .seed) capacities common in
     let c = drawnOf (b .seed) capacities common in
     let d = drawnOf (c .seed) capacities common in
-    tablesOf (1 + upperOf first % 4) a b c d
+    tablesOf (1 + upperOf first % 4) a b c d (endsFrom (d .seed) most)
 
 -- the day that the seed gives; each of its tables has a cell for every period
-pub record MadeUp (seed : ℕ) (capacities : Capacities) (r : Tiny) : Type 0 where
-  pub is : r ≡ madeUp seed capacities
+pub record MadeUp (seed : ℕ) (capacities : Capacities) (most : ℕ) (r : Tiny) : Type 0 where
+  pub is : r ≡ madeUp seed capacities most
   pub few : r .n ≤ 4
   pub demand : r .n ≤ length (r .demand)
   pub capacity : r .n ≤ length (r .capacity)

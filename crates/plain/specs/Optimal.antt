@@ -20,12 +20,12 @@ use Rattle.weigher.specs.Theorems.{holds-feasible, feasible-holds}
 use Rattle.plain.specs.declared.Best.{Best}
 use Rattle.plain.specs.Search.{planOf, plansOf, totalsIn, HoldsAs, Leads, Chosen}
 
--- a day that the weigher accepts, of one to four periods, and of a demand of at most 8
+-- a day that the weigher accepts, of one to four periods, in which it makes at most 10
 pub record TinyDay (d : Day) : Type 0 where
   pub accepted : weighRefusal d (planOf 0) ≡ none
   pub some : 1 ≤ periods d
   pub few : periods d ≤ 4
-  pub low : total d ≤ 8
+  pub low : total d ≤ 10
 
 -- the plan of the day, with its cost and setups; or there is none
 pub record Answered (d : Day) (best : Best) : Type 0 where
@@ -37,20 +37,20 @@ pub record Searched (d : Day) (best : Best) : Type 0 where
   pub chosen : Chosen d (plansOf (periods d)) best
   pub tiny : TinyDay d → Answered d best
 
--- digit k of a number to base 9
+-- digit k of a number to base 11
 unfoldable digit : ℕ → ℕ → ℕ
-digit m zero = m % 9
-digit m (suc k) = digit (m / 9) k
+digit m zero = m % 11
+digit m (suc k) = digit (m / 11) k
 
 -- how many numbers of n digits there are
 abbrev powers : ℕ → ℕ
 powers zero = 1
-powers (suc n) = 9 * powers n
+powers (suc n) = 11 * powers n
 
 -- the number with given digits
 abbrev numberOf : ℕ → (ℕ → ℕ) → ℕ
 numberOf zero y = 0
-numberOf (suc n) y = y 0 + 9 * numberOf n (λ k. y (suc k))
+numberOf (suc n) y = y 0 + 11 * numberOf n (λ k. y (suc k))
 
 plan-digit : (m k : ℕ) → k < 4 → at (planOf m) k ≡ digit m k
 unfolding digit
@@ -61,19 +61,19 @@ plan-digit m (suc (suc (suc zero))) l = refl
 plan-digit m (suc (suc (suc (suc k)))) l = absurd (omega arith)
 
 -- a number's last digit, and what is before it
-split : (m : ℕ) → (9 * (m / 9) + m % 9 ≡ m) × (m % 9 < 9)
-split m = (div-add-mod m 9, mod-lt m (omega arith))
+split : (m : ℕ) → (11 * (m / 11) + m % 11 ≡ m) × (m % 11 < 11)
+split m = (div-add-mod m 11, mod-lt m (omega arith))
 
-number-below : (n : ℕ) (y : ℕ → ℕ) → ((k : ℕ) → k < n → y k ≤ 8) → numberOf n y < powers n
+number-below : (n : ℕ) (y : ℕ → ℕ) → ((k : ℕ) → k < n → y k ≤ 10) → numberOf n y < powers n
 number-below zero y h = omega arith
 number-below (suc n) y h = omega (arith, h 0 (omega arith), number-below n (λ k. y (suc k)) (λ k l. h (suc k) (omega arith)))
 
-digit-number : (n : ℕ) (y : ℕ → ℕ) → ((k : ℕ) → k < n → y k ≤ 8) → (k : ℕ) → k < n → digit (numberOf n y) k ≡ y k
+digit-number : (n : ℕ) (y : ℕ → ℕ) → ((k : ℕ) → k < n → y k ≤ 10) → (k : ℕ) → k < n → digit (numberOf n y) k ≡ y k
 unfolding digit
 digit-number zero y h k l = absurd (omega arith)
 digit-number (suc n) y h zero l = omega (arith, h 0 (omega arith), split (numberOf (suc n) y))
 digit-number (suc n) y h (suc k) l =
-    let e : numberOf (suc n) y / 9 ≡ numberOf n (λ j. y (suc j)) = omega (arith, h 0 (omega arith), split (numberOf (suc n) y)) in
+    let e : numberOf (suc n) y / 11 ≡ numberOf n (λ j. y (suc j)) = omega (arith, h 0 (omega arith), split (numberOf (suc n) y)) in
     rw e (digit-number n (λ j. y (suc j)) (λ j q. h (suc j) (omega arith)) k (omega arith))
 
 -- numbers with the same digits are equal
@@ -83,7 +83,7 @@ digits-same zero a b p q h = omega arith
 digits-same (suc n) a b p q h =
     let s = split a in
     let t = split b in
-    omega (arith, s, t, h 0 (omega arith), digits-same n (a / 9) (b / 9) (omega (arith, s)) (omega (arith, t)) (λ k l. h (suc k) (omega arith)))
+    omega (arith, s, t, h 0 (omega arith), digits-same n (a / 11) (b / 11) (omega (arith, s)) (omega (arith, t)) (λ k l. h (suc k) (omega arith)))
 
 -- the smaller number has the smaller digit in the last place where they differ
 number-smaller : (n a b : ℕ) → a < powers n → b < powers n → a ≤ b → Smaller n (digit a) (digit b)
@@ -92,11 +92,11 @@ number-smaller zero a b p q h k l alike = absurd (omega arith)
 number-smaller (suc n) a b p q h zero l alike =
     let s = split a in
     let t = split b in
-    omega (arith, s, t, digits-same n (a / 9) (b / 9) (omega (arith, s)) (omega (arith, t)) (λ k l. alike (suc k) (omega arith) (omega arith)))
+    omega (arith, s, t, digits-same n (a / 11) (b / 11) (omega (arith, s)) (omega (arith, t)) (λ k l. alike (suc k) (omega arith) (omega arith)))
 number-smaller (suc n) a b p q h (suc k) l alike =
     let s = split a in
     let t = split b in
-    number-smaller n (a / 9) (b / 9) (omega (arith, s)) (omega (arith, t)) (omega (arith, s, t)) k (omega arith)
+    number-smaller n (a / 11) (b / 11) (omega (arith, s)) (omega (arith, t)) (omega (arith, s, t)) k (omega arith)
     (λ j x y. alike (suc j) (omega arith) (omega arith))
 
 plans-are : (n : ℕ) → 1 ≤ n → n ≤ 4 → plansOf n ≡ powers n
@@ -111,9 +111,9 @@ module _ (d : Day) (tiny : TinyDay d) where
   abbrev n : ℕ
   n = periods d
 
-  -- no plan of the day makes more than 8 in a period
-  amount-low : (y : ℕ → ℕ) → Feasible d y → (k : ℕ) → k < n → y k ≤ 8
-  amount-low y f k l = omega (arith, sum-grows y (suc k) n l, f .emptied, tiny .low)
+  -- no plan of the day makes more than 10 in a period
+  amount-low : (y : ℕ → ℕ) → Feasible d y → (k : ℕ) → k < n → y k ≤ 10
+  amount-low y f k l = omega (arith, sum-grows y (suc k) n l, f .ends, tiny .low)
 
   number-digit : (y : ℕ → ℕ) → Feasible d y → (k : ℕ) → k < n → y k ≡ digit (numberOf n y) k
   number-digit y f k l = sym (digit-number n y (amount-low y f) k l)
@@ -140,7 +140,7 @@ module _ (d : Day) (tiny : TinyDay d) where
       kept =
           let h = rw (tiny .accepted) at (l .holds) in
           let e : verdictOf d (at (planOf b)) ≡ Holds (totalsIn best) = cc in
-          rw (l .plan) (holds-feasible d (at (planOf b)) (totalsIn best) e)
+          rw (l .plan) (holds-feasible d (at (planOf b)) (tiny .some) (totalsIn best) e)
 
       lead-digit : (k : ℕ) → k < n → at (best .plan) k ≡ digit b k
       lead-digit k h = rw (l .plan) (plan-digit b k (omega (arith, tiny .few)))

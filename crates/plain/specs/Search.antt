@@ -16,13 +16,13 @@ use Rattle.weigher.specs.declared.Weighed.the-variants.{Refused, Judged}
 use Rattle.weigher.specs.Answers.{weighedOf}
 use Rattle.plain.specs.declared.Best.{Best}
 
--- plan number m: its amounts are the digits of m to base 9, the last period's the highest
+-- plan number m: its amounts are the digits of m to base 11, the last period's the highest
 abbrev pub planOf : ℕ → List ℕ
-planOf m = m % 9 ∷ m / 9 % 9 ∷ m / 9 / 9 % 9 ∷ m / 9 / 9 / 9 % 9 ∷ []
+planOf m = m % 11 ∷ m / 11 % 11 ∷ m / 11 / 11 % 11 ∷ m / 11 / 11 / 11 % 11 ∷ []
 
 -- how many plans of n periods there are, for one to four
 abbrev pub plansOf : ℕ → ℕ
-plansOf n = cond (eqb n 1) 9 (cond (eqb n 2) 81 (cond (eqb n 3) 729 (cond (eqb n 4) 6561 0)))
+plansOf n = cond (eqb n 1) 11 (cond (eqb n 2) 121 (cond (eqb n 3) 1331 (cond (eqb n 4) 14641 0)))
 
 -- a plan that holds, as found
 abbrev pub foundAs : Totals → List ℕ → Best

@@ -1,12 +1,17 @@
 //! For the programs that try the paths: a plain search over all plans of a tiny day, made-up tiny days, and the comparison of
-//! a path's answer with the search's. A tiny day has one to four periods and a demand of at most 8 in all.
+//! a path's answer with the search's. A tiny day has one to four periods, in which it makes at most 10 in all.
 ghost use mathlib.Core.Path.{_≡_};
+ghost use mathlib.Core.List.{[]};
+ghost use Prim.Native.Nat.{_+_, _%_, _≤_};
+ghost use lib.ListN.{length};
 ghost use Rattle.day.specs.Day.{dayOf};
-ghost use Rattle.plain.specs.MadeUp.{nextOf, upperOf, capacityOf, drawnOf, MadeUp};
-ghost use Rattle.plain.specs.Agreement.{Decides, SamePlan, Agreement};
+ghost use Rattle.day.specs.Lent.{dayBefore};
+ghost use Rattle.plain.specs.MadeUp.{nextOf, upperOf, capacityOf, drawnOf, endsFrom, MadeUp};
+ghost use Rattle.plain.specs.Agreement.{Decides, SamePlan, withoutPlan, Agreement};
 ghost use Rattle.plain.specs.Search.{planOf, plansOf, foundAs, betterOf};
 ghost use Rattle.plain.specs.Optimal.{Searched};
 use day::Answer;
+use day::Ends;
 use day::Totals;
 use weigher::Verdict;
 use weigher::Weighed;
@@ -38,7 +43,7 @@ fn capacity_of(capacities: Capacities, drawn: u16, common: u16) -> u16
     match capacities {
         Capacities::Any => drawn,
         Capacities::Equal => common,
-        Capacities::Unbound => 8,
+        Capacities::Unbound => 10,
     }
 }
 
@@ -70,7 +75,27 @@ fn draw(seed: u32, capacities: Capacities, common: u16) -> Drawn
     }
 }
 
-// A made-up day: the first n cells of its tables; and the seed for the next one.
+// An end of a made-up day, from the number drawn for it.
+fn end_of(drawn: u16, most: u16) -> u16
+    ensures { λ r. ⌜ r ≡ drawn % (most + 1) ⌝ }
+{
+    ((drawn as u32) % ((most as u32) + 1)) as u16
+}
+
+// The ends of a made-up day, each at most so much.
+fn draw_ends(seed: u32, most: u16) -> Ends
+    ensures { λ r. ⌜ r ≡ endsFrom seed most ⌝ }
+{
+    let a = next(seed);
+    let b = next(a);
+    Ends {
+        opening: end_of(upper(a), most),
+        closing: end_of(upper(b), most),
+    }
+}
+
+// A made-up day: the first n cells of its tables, and its ends; and the seed for the next one. The ends are drawn after the periods, and
+// the next day's seed is the one before these two draws: so the same seed gives the same tables, whatever the ends are.
 pub struct Tiny {
     pub seed: u32,
     pub n: usize,
@@ -79,10 +104,12 @@ pub struct Tiny {
     pub setup: [u32; 4],
     pub unit: [u32; 4],
     pub holding: [u32; 4],
+    pub ends: Ends,
 }
 
-pub fn make_up(seed: u32, capacities: Capacities) -> Tiny
-    ensures { λ r. ⌜ MadeUp seed capacities r ⌝ }
+// The day of a seed, with ends of at most so much. Its demand is at most 8, so with ends of at most 2 it is tiny.
+pub fn make_up(seed: u32, capacities: Capacities, most: u16) -> Tiny
+    ensures { λ r. ⌜ MadeUp seed capacities most r ⌝ }
 {
     let first = next(seed);
     let second = next(first);
@@ -91,6 +118,7 @@ pub fn make_up(seed: u32, capacities: Capacities) -> Tiny
     let b = draw(a.seed, capacities, common);
     let c = draw(b.seed, capacities, common);
     let d = draw(c.seed, capacities, common);
+    let ends = draw_ends(d.seed, most);
     Tiny {
         seed: d.seed,
         n: 1 + (upper(first) % 4) as usize,
@@ -99,6 +127,7 @@ pub fn make_up(seed: u32, capacities: Capacities) -> Tiny
         setup: [a.setup, b.setup, c.setup, d.setup],
         unit: [a.unit, b.unit, c.unit, d.unit],
         holding: [a.holding, b.holding, c.holding, d.holding],
+        ends,
     }
 }
 
@@ -110,16 +139,16 @@ pub struct Best {
     pub plan: [u16; 4],
 }
 
-// Plan number m: its amounts are the digits of m to base 9, the last period's the highest. So of two plans the one with the
+// Plan number m: its amounts are the digits of m to base 11, the last period's the highest. So of two plans the one with the
 // smaller amount in the last period where they differ has the smaller number.
 fn plan_of(m: u32) -> [u16; 4]
     ensures { λ r. ⌜ r ≡ planOf m ⌝ }
 {
     [
-        (m % 9) as u16,
-        (m / 9 % 9) as u16,
-        (m / 9 / 9 % 9) as u16,
-        (m / 9 / 9 / 9 % 9) as u16,
+        (m % 11) as u16,
+        (m / 11 % 11) as u16,
+        (m / 11 / 11 % 11) as u16,
+        (m / 11 / 11 / 11 % 11) as u16,
     ]
 }
 
@@ -128,16 +157,16 @@ fn plans(n: usize) -> u32
     ensures { λ r. ⌜ r ≡ plansOf n ⌝ }
 {
     if n == 1 {
-        return 9;
+        return 11;
     }
     if n == 2 {
-        return 81;
+        return 121;
     }
     if n == 3 {
-        return 729;
+        return 1331;
     }
     if n == 4 {
-        return 6561;
+        return 14641;
     }
     0
 }
@@ -172,19 +201,16 @@ fn better(best: Best, plan: [u16; 4], w: Weighed) -> Best
     best
 }
 
-// The plan of a tiny day: every plan with amounts up to 8 is weighed, in the order of their numbers, and the first of the cheapest kept.
+// The plan of a tiny day: every plan with amounts up to 10 is weighed, in the order of their numbers, and the first of the cheapest kept.
 pub fn search(
     demand: &[u16],
     capacity: &[u16],
     setup: &[u32],
     unit: &[u32],
     holding: &[u32],
+    ends: Ends,
 ) -> Best
-    ensures { λ r. ⌜
-        Searched
-        (dayOf (now (demand .entry)) (now (capacity .entry)) (now (setup .entry)) (now (unit .entry)) (now (holding .entry)))
-        r
-        ⌝ }
+    ensures { λ r. ⌜ Searched (dayBefore demand capacity setup unit holding ends) r ⌝ }
 {
     let mut best = Best {
         found: false,
@@ -196,7 +222,7 @@ pub fn search(
     let mut m = 0;
     while m < count {
         let plan = plan_of(m);
-        let w = weigher::weigh(demand, capacity, setup, unit, holding, &plan);
+        let w = weigher::weigh(demand, capacity, setup, unit, holding, &plan, ends);
         best = better(best, plan, w);
         m += 1;
     }
@@ -205,11 +231,9 @@ pub fn search(
 
 // Whether the first n slots hold the plan found.
 fn same_plan(plan: [u16; 4], n: usize, slots: &[u16]) -> bool
+    requires { ⌜ n ≤ 4 ⌝ }
     ensures { λ r. ⌜ Decides (SamePlan n plan (now (slots .entry))) r ⌝ }
 {
-    if 4 < n {
-        return false;
-    }
     if slots.len() < n {
         return false;
     }
@@ -223,17 +247,33 @@ fn same_plan(plan: [u16; 4], n: usize, slots: &[u16]) -> bool
     true
 }
 
-// Whether a path's answer on a day of n periods is what the search found: its plan, cost and setups, or refusal 7 where there is
-// none.
-pub fn agrees(best: Best, n: usize, answer: Answer, slots: &[u16]) -> bool
-    ensures { λ r. ⌜ Decides (Agreement best n answer (now (slots .entry))) r ⌝ }
+// The refusal's number of a day without a plan: 14 where A is above R + Z, else 7.
+fn without_plan(demand: &[u16], ends: Ends) -> u8
+    requires { ⌜ length (now demand) ≤ 4 ⌝ }
+    ensures { λ r. ⌜ r ≡ withoutPlan (dayOf (now (demand .entry)) [] [] [] [] ends) ⌝ }
 {
+    if checks::summed(demand) + (ends.closing as u64) < (ends.opening as u64) {
+        return 14;
+    }
+    7
+}
+
+// Whether a path's answer on a day of at most four periods is what the search found: its plan, cost and setups, or where there is none
+// refusal 14 or 7.
+pub fn agrees(best: Best, demand: &[u16], answer: Answer, slots: &[u16], ends: Ends) -> bool
+    ensures { λ r. ⌜
+        Decides (Agreement (dayOf (now (demand .entry)) [] [] [] [] ends) best answer (now (slots .entry))) r
+        ⌝ }
+{
+    if 4 < demand.len() {
+        return false;
+    }
     match answer {
         Answer::Refused(r) => {
             if best.found {
                 return false;
             }
-            r.number() == 7
+            r.number() == without_plan(demand, ends)
         }
         Answer::Planned(t) => {
             if !best.found {
@@ -246,7 +286,7 @@ pub fn agrees(best: Best, n: usize, answer: Answer, slots: &[u16]) -> bool
                 return false;
             }
             let plan = best.plan;
-            same_plan(plan, n, slots)
+            same_plan(plan, demand.len(), slots)
         }
     }
 }

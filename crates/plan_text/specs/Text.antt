@@ -23,9 +23,9 @@ use Rattle.lines.specs.Text.{planLine, amountLine, refusalLine, Put}
 abbrev pub lent : Sizes
 lent = sizes 1000 24000 96
 
--- 12: more than 1,635 bytes, which are those of 96 periods and the end
+-- 12: more than 1,640 bytes, which are those of both ends, 96 periods and the end
 abbrev pub tooLong : List ℕ → Option Refusal
-tooLong s = refuse (ltb 1635 (length s)) WrongEnd
+tooLong s = refuse (ltb 1640 (length s)) WrongEnd
 
 -- the first refusal of a file: its length, the reader's tests, the full path's
 abbrev pub textRefusal : List ℕ → Option Refusal
@@ -70,7 +70,7 @@ PrintedText s = Printed (textRefusal s) (dayIn s)
 -- the line of the reader's refusal; what an accepted file's answer gives here is free
 abbrev pub PrintedAnswer : ReadAnswer → List ℕ → List ℕ → ℕ → Type 0
 PrintedAnswer (Refused r) before after next = Put before 0 (refusalLine r) after next
-PrintedAnswer (Periods n) before after next = Unit {0}
+PrintedAnswer (Periods n ends) before after next = Unit {0}
 
 -- room for 97 lines
 abbrev pub textBytes : ℕ

@@ -7,43 +7,44 @@ ghost use Rattle.day.specs.Day.{dayOf};
 ghost use Rattle.lines.specs.Text.{planLine, lineBytes, HavePeriods, Put};
 ghost use Rattle.plan_text.specs.Text.{textBytes, amountLines, PrintedAnswer, PrintedDay, PrintedFile, PrintedText};
 use day::Answer;
+use day::Ends;
 use day::Refusal;
 use day::Totals;
 use dayfile::ReadAnswer;
 
 // A line for each period.
-fn amount_lines(demand: &[u16], plan: &[u16], text: &mut [u8], place: usize) -> usize
+fn amount_lines(demand: &[u16], plan: &[u16], text: &mut [u8], place: usize, ends: Ends) -> usize
     requires { ⌜ HavePeriods (now demand) (now plan) (length (now demand)) ⌝ }
     requires { ⌜ place + length (now demand) * lineBytes ≤ length (now text) ⌝ }
     ensures { λ r. ⌜
         Put (now (text .entry)) place
-        (amountLines (dayOf (now (demand .entry)) [] [] [] []) (at (now (plan .entry))) (length (now (demand .entry))))
+        (amountLines (dayOf (now (demand .entry)) [] [] [] [] ends) (at (now (plan .entry))) (length (now (demand .entry))))
         (now (text .exit)) r
         ⌝ }
 {
     let mut next = place;
     let mut i = 0;
     while i < demand.len() {
-        next = lines::amount_line(demand, plan, i, text, next);
+        next = lines::amount_line(demand, plan, i, text, next, ends);
         i += 1;
     }
     next
 }
 
 // The lines of a plan.
-fn plan_lines(demand: &[u16], plan: &[u16], totals: Totals, text: &mut [u8]) -> usize
+fn plan_lines(demand: &[u16], plan: &[u16], totals: Totals, text: &mut [u8], ends: Ends) -> usize
     requires { ⌜ HavePeriods (now demand) (now plan) (length (now demand)) ⌝ }
     requires { ⌜ textBytes ≤ length (now text) ⌝ }
     ensures { λ r. ⌜
         Put (now (text .entry)) 0
         (planLine (length (now (demand .entry))) (totals .cost) (totals .setups)
-        ++ amountLines (dayOf (now (demand .entry)) [] [] [] []) (at (now (plan .entry))) (length (now (demand .entry))))
+        ++ amountLines (dayOf (now (demand .entry)) [] [] [] [] ends) (at (now (plan .entry))) (length (now (demand .entry))))
         (now (text .exit)) r
         ⌝ }
 {
     let n = demand.len() as u64;
     let next = lines::plan_line(n, totals.cost, totals.setups, text, 0);
-    amount_lines(demand, plan, text, next)
+    amount_lines(demand, plan, text, next, ends)
 }
 
 // The text of a day: its plan by the full path, with the areas of document 01, or the refusal.
@@ -54,11 +55,12 @@ fn day_text(
     unit: &[u32],
     holding: &[u32],
     text: &mut [u8],
+    ends: Ends,
 ) -> usize
     requires { ⌜ textBytes ≤ length (now text) ⌝ }
     ensures { λ r. ⌜
         PrintedDay
-        (dayOf (now (demand .entry)) (now (capacity .entry)) (now (setup .entry)) (now (unit .entry)) (now (holding .entry)))
+        (dayOf (now (demand .entry)) (now (capacity .entry)) (now (setup .entry)) (now (unit .entry)) (now (holding .entry)) ends)
         (now (text .entry)) (now (text .exit)) r
         ⌝ }
 {
@@ -74,9 +76,10 @@ fn day_text(
         &mut costs,
         &mut choices,
         &mut slots,
+        ends,
     ) {
         Answer::Refused(r) => lines::refusal_line(r, text, 0),
-        Answer::Planned(totals) => plan_lines(demand, &slots, totals, text),
+        Answer::Planned(totals) => plan_lines(demand, &slots, totals, text, ends),
     }
 }
 
@@ -87,7 +90,7 @@ fn refused_text(answer: ReadAnswer, text: &mut [u8]) -> usize
 {
     match answer {
         ReadAnswer::Refused(r) => lines::refusal_line(r, text, 0),
-        ReadAnswer::Periods(_) => 0,
+        ReadAnswer::Periods(_, _) => 0,
     }
 }
 
@@ -109,7 +112,7 @@ fn file_text(file: &[u8], text: &mut [u8]) -> usize
         &mut unit,
         &mut holding,
     );
-    let ReadAnswer::Periods(n) = answer else {
+    let ReadAnswer::Periods(n, ends) = answer else {
         return refused_text(answer, text);
     };
     day_text(
@@ -119,14 +122,15 @@ fn file_text(file: &[u8], text: &mut [u8]) -> usize
         &unit[0..n],
         &holding[0..n],
         text,
+        ends,
     )
 }
 
-// The text of a file, at the front of a buffer with room for 97 lines. One of more than 1,635 bytes is refused 12 before any other test.
+// The text of a file, at the front of a buffer with room for 97 lines. One of more than 1,640 bytes is refused 12 before any other test.
 pub fn text_of(file: &[u8], text: &mut [u8; 9312]) -> usize
     ensures { λ r. ⌜ PrintedText (now (file .entry)) (now (text .entry)) (now (text .exit)) r ⌝ }
 {
-    if 1635 < file.len() {
+    if 1640 < file.len() {
         return lines::refusal_line(Refusal::WrongEnd, text, 0);
     }
     file_text(file, text)

@@ -9,9 +9,10 @@ use native.Mathlib.Nat.{add-mul-mod-self-left, mod-eq-of-lt, add-mul-div-left, d
 use native.Mathlib.Omega.{arith}
 use denote.Ref.{RefT, now}
 use denote.Triple.Both.{Both}
+use Rattle.day.specs.declared.Ends.{Ends}
 use Rattle.day.specs.Figures.{Figures, answerFigures}
 use Rattle.day.specs.Outcome.{Path, Runs}
-use Rattle.day.specs.Lent.{Lent, dayBefore, dayAfter, memoryBefore, memoryAfter}
+use Rattle.day.specs.Lent.{Lent, dayBefore, tablesBefore, tablesAfter, memoryBefore, memoryAfter}
 use Rattle.dayfile.specs.Answers.{Reading, Writing, lookupFigures, readFigures, writeFigures}
 
 -- the code of a number and a period; 0 is the code of an accepted call, which has neither
@@ -51,26 +52,26 @@ pub record Shows {A B : Type 0} (Given : A → Type 0) (figures : A → Figures 
   pub given : Given answer
   pub shown : seen r (now (out .exit)) ≡ seenOf (now (out .entry)) (figures answer)
 
-abbrev pub PathShows : Path → (demand capacity setup unit holding costs choices slots answer : Lent) → ℕ → Type 0
-PathShows P demand capacity setup unit holding costs choices slots answer r =
+abbrev pub PathShows : Path → (demand capacity setup unit holding : Lent) → Ends → (costs choices slots answer : Lent) → ℕ → Type 0
+PathShows P demand capacity setup unit holding ends costs choices slots answer r =
     Shows
-    (λ a. Runs P (dayBefore demand capacity setup unit holding) (memoryBefore costs choices slots) a (memoryAfter costs choices slots))
+    (λ a. Runs P (dayBefore demand capacity setup unit holding ends) (memoryBefore costs choices slots) a (memoryAfter costs choices slots))
     answerFigures
     answer
     r
 
-abbrev pub ReadShows : (file demand capacity setup unit holding periods : Lent) → ℕ → Type 0
-ReadShows file demand capacity setup unit holding periods r =
+abbrev pub ReadShows : (file demand capacity setup unit holding day : Lent) → ℕ → Type 0
+ReadShows file demand capacity setup unit holding day r =
     Shows
-    (λ a. Reading (now (file .entry)) (dayBefore demand capacity setup unit holding) a (dayAfter demand capacity setup unit holding))
+    (λ a. Reading (now (file .entry)) (tablesBefore demand capacity setup unit holding) a (tablesAfter demand capacity setup unit holding))
     readFigures
-    periods
+    day
     r
 
-abbrev pub WriteShows : (demand capacity setup unit holding out count : Lent) → ℕ → Type 0
-WriteShows demand capacity setup unit holding out count r =
+abbrev pub WriteShows : (demand capacity setup unit holding : Lent) → Ends → (out count : Lent) → ℕ → Type 0
+WriteShows demand capacity setup unit holding ends out count r =
     Shows
-    (λ a. Writing (dayBefore demand capacity setup unit holding) (now (out .entry)) a (now (out .exit)))
+    (λ a. Writing (dayBefore demand capacity setup unit holding ends) (now (out .entry)) a (now (out .exit)))
     writeFigures
     count
     r

@@ -2,6 +2,7 @@
 ghost use mathlib.Core.Path.{_≡_};
 ghost use Rattle.day.specs.Refusals.{numberOf, periodOf};
 ghost use Rattle.day.specs.Paths.{full, uncapped, equal};
+ghost use Rattle.day.specs.Day.{endsWith};
 ghost use Rattle.day.specs.Lent.{dayBefore};
 ghost use Rattle.day.specs.Figures.{answerFigures};
 ghost use Rattle.dayfile.specs.Answers.{readFigures, writeFigures};
@@ -10,6 +11,7 @@ ghost use Rattle.station.specs.Codes.{codeOf, seen, seenOf, Shows};
 ghost use Rattle.station.specs.Codes.{PathShows, ReadShows, LookupShows, WriteShows};
 use day::Answer;
 use day::Check;
+use day::Ends;
 use day::Refusal;
 use dayfile::ReadAnswer;
 use dayfile::WriteAnswer;
@@ -80,14 +82,14 @@ fn compared(c: Compared, difference: &mut [i64; 1]) -> u64
     }
 }
 
-// Of a reading: the count of periods.
-fn read(a: ReadAnswer, periods: &mut [u64; 1]) -> u64
-    ensures { λ r. ⌜ seen r (now (periods .exit)) ≡ seenOf (now (periods .entry)) (readFigures a) ⌝ }
+// Of a reading: the count of periods, and the ends.
+fn read(a: ReadAnswer, day: &mut [u64; 3]) -> u64
+    ensures { λ r. ⌜ seen r (now (day .exit)) ≡ seenOf (now (day .entry)) (readFigures a) ⌝ }
 {
     match a {
         ReadAnswer::Refused(r) => refused(r),
-        ReadAnswer::Periods(n) => {
-            *periods = [n as u64];
+        ReadAnswer::Periods(n, ends) => {
+            *day = [n as u64, ends.opening as u64, ends.closing as u64];
             0
         }
     }
@@ -114,13 +116,16 @@ pub extern "C" fn yakkurem_full(
     setup: &[u32],
     unit: &[u32],
     holding: &[u32],
+    opening: u16,
+    closing: u16,
     costs: &mut [u64],
     choices: &mut [u16],
     slots: &mut [u16],
     answer: &mut [u64; 2],
 ) -> u64
-    ensures { λ r. ⌜ PathShows full demand capacity setup unit holding costs choices slots answer r ⌝ }
+    ensures { λ r. ⌜ PathShows full demand capacity setup unit holding (endsWith opening closing) costs choices slots answer r ⌝ }
 {
+    let ends = Ends { opening, closing };
     let a = full::plan(
         demand,
         capacity,
@@ -130,6 +135,7 @@ pub extern "C" fn yakkurem_full(
         costs,
         choices,
         slots,
+        ends,
     );
     planned(a, answer)
 }
@@ -142,13 +148,16 @@ pub extern "C" fn yakkurem_uncapped(
     setup: &[u32],
     unit: &[u32],
     holding: &[u32],
+    opening: u16,
+    closing: u16,
     costs: &mut [u64],
     choices: &mut [u16],
     slots: &mut [u16],
     answer: &mut [u64; 2],
 ) -> u64
-    ensures { λ r. ⌜ PathShows uncapped demand capacity setup unit holding costs choices slots answer r ⌝ }
+    ensures { λ r. ⌜ PathShows uncapped demand capacity setup unit holding (endsWith opening closing) costs choices slots answer r ⌝ }
 {
+    let ends = Ends { opening, closing };
     let a = uncapped::plan(
         demand,
         capacity,
@@ -158,6 +167,7 @@ pub extern "C" fn yakkurem_uncapped(
         costs,
         choices,
         slots,
+        ends,
     );
     planned(a, answer)
 }
@@ -170,13 +180,16 @@ pub extern "C" fn yakkurem_equal(
     setup: &[u32],
     unit: &[u32],
     holding: &[u32],
+    opening: u16,
+    closing: u16,
     costs: &mut [u64],
     choices: &mut [u16],
     slots: &mut [u16],
     answer: &mut [u64; 2],
 ) -> u64
-    ensures { λ r. ⌜ PathShows equal demand capacity setup unit holding costs choices slots answer r ⌝ }
+    ensures { λ r. ⌜ PathShows equal demand capacity setup unit holding (endsWith opening closing) costs choices slots answer r ⌝ }
 {
+    let ends = Ends { opening, closing };
     let a = equal::plan(
         demand,
         capacity,
@@ -186,6 +199,7 @@ pub extern "C" fn yakkurem_equal(
         costs,
         choices,
         slots,
+        ends,
     );
     planned(a, answer)
 }
@@ -198,12 +212,15 @@ pub extern "C" fn yakkurem_weigh(
     setup: &[u32],
     unit: &[u32],
     holding: &[u32],
+    opening: u16,
+    closing: u16,
     plan: &[u16],
     answer: &mut [u64; 2],
 ) -> u64
-    ensures { λ r. ⌜ Shows (Weighs (dayBefore demand capacity setup unit holding) (now (plan .entry))) weighedFigures answer r ⌝ }
+    ensures { λ r. ⌜ Shows (Weighs (dayBefore demand capacity setup unit holding (endsWith opening closing)) (now (plan .entry))) weighedFigures answer r ⌝ }
 {
-    let w = weigher::weigh(demand, capacity, setup, unit, holding, plan);
+    let ends = Ends { opening, closing };
+    let w = weigher::weigh(demand, capacity, setup, unit, holding, plan, ends);
     weighed(w, answer)
 }
 
@@ -215,19 +232,22 @@ pub extern "C" fn yakkurem_compare(
     setup: &[u32],
     unit: &[u32],
     holding: &[u32],
+    opening: u16,
+    closing: u16,
     first: &[u16],
     second: &[u16],
     difference: &mut [i64; 1],
 ) -> u64
     ensures { λ r. ⌜
-        Shows (Compares (dayBefore demand capacity setup unit holding) (now (first .entry)) (now (second .entry)))
+        Shows (Compares (dayBefore demand capacity setup unit holding (endsWith opening closing)) (now (first .entry)) (now (second .entry)))
         comparedFigures difference r ⌝ }
 {
-    let c = weigher::compare(demand, capacity, setup, unit, holding, first, second);
+    let ends = Ends { opening, closing };
+    let c = weigher::compare(demand, capacity, setup, unit, holding, first, second, ends);
     compared(c, difference)
 }
 
-// Fills tables from a day file; the answer is the count of its periods.
+// Fills tables from a day file; the answer is the count of its periods, and its ends.
 #[no_mangle]
 pub extern "C" fn yakkurem_read(
     file: &[u8],
@@ -236,12 +256,12 @@ pub extern "C" fn yakkurem_read(
     setup: &mut [u32],
     unit: &mut [u32],
     holding: &mut [u32],
-    periods: &mut [u64; 1],
+    day: &mut [u64; 3],
 ) -> u64
-    ensures { λ r. ⌜ ReadShows file demand capacity setup unit holding periods r ⌝ }
+    ensures { λ r. ⌜ ReadShows file demand capacity setup unit holding day r ⌝ }
 {
     let a = dayfile_reader::read(file, demand, capacity, setup, unit, holding);
-    read(a, periods)
+    read(a, day)
 }
 
 // Where the body of a numbered period record lies in the file; the answer is its first byte, counted from 0, and its length.
@@ -269,11 +289,14 @@ pub extern "C" fn yakkurem_write(
     setup: &[u32],
     unit: &[u32],
     holding: &[u32],
+    opening: u16,
+    closing: u16,
     out: &mut [u8],
     count: &mut [u64; 1],
 ) -> u64
-    ensures { λ r. ⌜ WriteShows demand capacity setup unit holding out count r ⌝ }
+    ensures { λ r. ⌜ WriteShows demand capacity setup unit holding (endsWith opening closing) out count r ⌝ }
 {
-    let a = dayfile_writer::write(demand, capacity, setup, unit, holding, out);
+    let ends = Ends { opening, closing };
+    let a = dayfile_writer::write(demand, capacity, setup, unit, holding, out, ends);
     written(a, count)
 }

@@ -13,7 +13,7 @@ use Rattle.day.specs.Plan.{setupAt}
 use Rattle.day.specs.Refusals.{first, unequal, binding}
 use Rattle.day.specs.Tests.{gives-is}
 use Rattle.day.specs.Figures.{first-value, second-value}
-use Rattle.day.specs.Outcome.{Memory, sizesOf, Path, Roomy, refusal, dayRefusal, roomy-refusal, Counts, Runs}
+use Rattle.day.specs.Outcome.{Memory, sizesOf, Path, Roomy, dayRefusal, roomy-refusal, Counts, Runs}
 use Rattle.day.specs.Paths.{full, uncapped, equal}
 use Rattle.day.specs.Search.{cost-alike}
 use Rattle.theory.specs.Demands.{plan-unique}

@@ -1,19 +1,20 @@
 -- Demands 2 and 3 of the paths themselves, over their contracts.
 -- Main statements: `planned-iff`, `refused-first` (demand 2), `cheapest-first` (demand 3), which stand for the full path as `full-planned-iff`,
 -- `full-refused-first`, `full-cheapest-first`; `equal-run-one`, `equal-run-others` (document 01, "Three paths, one plan": runs). Assumes nothing.
-use mathlib.Core.Path.{_≡_, refl, sym, _∙_}
+use mathlib.Core.Path.{_≡_, refl, sym, _∙_, subst}
 use mathlib.Core.List.{[], _∷_}
 use mathlib.Core.Logic.{_⊎_, inl, inr, ⊎-elim, _↔_}
 use mathlib.Core.Option.{none, some, Option·none-ne-some}
-use Prim.Native.Nat.{ℕ, _≤_, _<_}
+use Prim.Native.Nat.{ℕ, suc, _≤_, _<_}
+use native.Mathlib.Decide.{decLe}
 use native.Mathlib.Nat.{eq-or-lt-of-le, eq-zero-or-pos}
 use native.Mathlib.Omega.{arith}
 use Rattle.day.specs.declared.Refusal.{Refusal}
 use Rattle.day.specs.declared.Totals.{Totals}
 use Rattle.day.specs.declared.Answer.{Answer}
 use Rattle.day.specs.declared.Answer.the-variants.{Refused, Planned}
-use Rattle.day.specs.Sums.{at}
-use Rattle.day.specs.Day.{Day, periods, total}
+use Rattle.day.specs.Sums.{at, sumTo, sum-grows}
+use Rattle.day.specs.Day.{Day, periods, netTo, net-before, net-end}
 use Rattle.day.specs.Plan.{Feasible, Run, PartLoaded, cost}
 use Rattle.day.specs.Refusals.{first, dayTests, shortage, unequal}
 use Rattle.day.specs.Tests.{gives-is, first-passed, first-one}
@@ -23,10 +24,11 @@ use Rattle.day.specs.Paths.{full, equal}
 use Rattle.checks.specs.Passed.{FirstShort, DayLimits, day-passes, equal-passed, admitted}
 use Rattle.theory.specs.Model.{Model, OptimalTo}
 use Rattle.theory.specs.Order.{LastSmaller, smaller-means}
-use Rattle.theory.specs.Cut.{floor-below}
-use Rattle.theory.specs.Exchange.{Regeneration, interval-one}
+use Rattle.theory.specs.Cut.{feasible-less}
+use Rattle.theory.specs.Exchange.{Regeneration, interval-one, last-run}
 use Rattle.theory.specs.Problem.{modelOf, model-rising, model-unlimited}
-use Rattle.theory.specs.Base.{problemOf, optimal-iff}
+use Rattle.theory.specs.Net.{problemOf, Fits, limits-fit, floor-is}
+use Rattle.theory.specs.Base.{same-plan}
 use Rattle.theory.specs.Demands.{shortage-iff, shortage-names}
 
 -- the answer is a plan
@@ -34,7 +36,7 @@ abbrev pub IsPlan : Answer → Type 0
 IsPlan (Refused r) = ⊥
 IsPlan (Planned t) = Unit {0}
 
--- A day within the limits (1 to 4) and of the path's kind, with memory that is long enough: only 7 can be refused.
+-- A day within the limits (1 to 4, 14) and of the path's kind, with memory that is long enough: only 7 can be refused.
 module _ (P : Path) (d : Day) (m : Memory) (limits : DayLimits d) (room : Roomy P d (sizesOf m)) (kind : first (P .own d) ≡ none) where
   only-shortage : refusal P d (sizesOf m) ≡ shortage d
   only-shortage = roomy-refusal P d (sizesOf m) room kind ∙ (first-passed (dayTests d) (shortage d ∷ []) (day-passes d limits) ∙ first-one (shortage d))
@@ -42,10 +44,10 @@ module _ (P : Path) (d : Day) (m : Memory) (limits : DayLimits d) (room : Roomy 
   -- Demand 2: the answer is a plan exactly if some amounts keep conditions (2) to (4).
   pub planned-iff : (r : Answer) (after : Memory) → Runs P d m r after → IsPlan r ↔ ((x : ℕ → ℕ) × Feasible d x)
   planned-iff (Refused q) after runs =
-      (λ none. absurd none, λ w. Option·none-ne-some q (sym (shortage-iff d .1 w) ∙ (sym only-shortage ∙ gives-is (runs .0))))
+      (λ none. absurd none, λ w. Option·none-ne-some q (sym (shortage-iff d (limits-fit limits) .1 w) ∙ (sym only-shortage ∙ gives-is (runs .0))))
   planned-iff (Planned t) after runs = (λ _. (at (after .slots), runs .1 .plan .feasible), λ _. tt)
 
-  -- Demand 2: otherwise it is refusal 7 with the first period whose summed need exceeds the summed capacity.
+  -- Demand 2: otherwise it is refusal 7 with the first period by whose end more must have been made than the summed capacity.
   pub refused-first : (q : Refusal) (after : Memory) → Runs P d m (Refused q) after → FirstShort d q
   refused-first q after runs = shortage-names d q (sym only-shortage ∙ gives-is (runs .0))
 
@@ -85,31 +87,55 @@ module _ (d : Day) (m : Memory) (t : Totals) (after : Memory) (runs : Runs equal
   abbrev M : Model
   M = modelOf (problemOf d)
 
-  best : OptimalTo M (periods d) (total d) x
-  best = optimal-iff d x .0 (runs .1 .plan)
+  abbrev n : ℕ
+  n = periods d
 
-  interval : Regeneration M x a b
-  interval =
-      let inside = run .inside in
-      record {
-        ahead = run .ahead;
-        empty = omega (arith, run .empty, floor-below M (model-rising (problemOf d)) (periods d) (total d) x (best .feasible) a (omega (arith, run .ahead)));
-        never = λ i u v. omega (arith, run .above i u v);
-      }
+  inside : b ≤ n
+  inside = run .inside
+
+  fits : Fits d
+  fits = limits-fit (admitted equal d (sizesOf m) (runs .0) .day)
+
+  floor-here : (i : ℕ) → i ≤ n → M .floor i ≡ netTo d i
+  floor-here = floor-is d (fits .nonempty)
+
+  best : OptimalTo M n (M .floor n) x
+  best =
+      subst (λ (X : ℕ). OptimalTo M n X x) (sym (floor-here n (omega arith) ∙ net-end d)) (same-plan d fits x .0 (runs .1 .plan))
+
+  -- the run's last moment at which nothing was made ahead: the model's interval up to the run's end begins there
+  last : (c : ℕ) × Regeneration M x c b
+  last =
+      last-run M (model-rising (problemOf d)) (sumTo x b) x b (omega (arith, run .ahead)) (feasible-less M b n (M .floor n) x inside (best .feasible))
+
+  -- Before it A lasted, and nothing was made in the run.
+  later : (k : ℕ) → a ≤ k → 0 < x k → last .0 ≤ k
+  later k ak makes = go (decLe (last .0) k)
+    where
+      c : ℕ
+      c = last .0
+
+      go : Dec (c ≤ k) → c ≤ k
+      go (yes h) = h
+      go (no h) =
+          let ahead = last .1 .ahead in
+          let floor = floor-here c (omega arith) ∙ net-before d c (omega arith) in
+          absurd (omega (arith, last .1 .empty, run .above c (omega arith) ahead, sum-grows x (suc k) c (omega arith)))
 
   pub equal-run-one : (i j : ℕ) → a ≤ i → i < b → a ≤ j → j < b → PartLoaded d x i → PartLoaded d x j → i ≡ j
   equal-run-one i j ai ib aj jb p q =
-      interval-one M (model-rising (problemOf d)) (model-unlimited (problemOf d)) (periods d) x best a b interval i j ai ib aj jb
-      (record { inside = omega (arith, run .inside); some = p .0; room = p .1 })
-      (record { inside = omega (arith, run .inside); some = q .0; room = q .1 })
+      interval-one M (model-rising (problemOf d)) (model-unlimited (problemOf d)) n x best (last .0) b (last .1) i j
+      (later i ai (p .0)) ib (later j aj (q .0)) jb
+      (record { inside = omega arith; some = p .0; room = p .1 })
+      (record { inside = omega arith; some = q .0; room = q .1 })
 
   pub equal-run-others : (k : ℕ) → a ≤ k → k < b → ¬ PartLoaded d x k → (x k ≡ 0) ⊎ (x k ≡ at (d .capacity) 0)
   equal-run-others k ak kb h =
-      let inside : k < periods d = omega (arith, run .inside) in
+      let here : k < n = omega arith in
       let kind = admitted equal d (sizesOf m) (runs .0) .own in
-      let c = equal-passed d (sym (first-one (unequal d)) ∙ kind) k inside in
+      let c = equal-passed d (sym (first-one (unequal d)) ∙ kind) k here in
       ⊎-elim inl
       (λ (some : 0 < x k).
       ⊎-elim (λ (e : x k ≡ at (d .capacity) k). inr (e ∙ c)) (λ (room : x k < at (d .capacity) k). absurd (h (some, room)))
-      (eq-or-lt-of-le (runs .1 .plan .feasible .within k inside)))
+      (eq-or-lt-of-le (runs .1 .plan .feasible .within k here)))
       (eq-zero-or-pos (x k))

@@ -1,5 +1,5 @@
 -- The exchange of one unit between two periods, and what it says of the optimal plan, for any capacities (report, section 3).
--- A fractional period is document 01's part-loaded one, and a regeneration interval its run.
+-- A fractional period is document 01's part-loaded one, and a regeneration interval its run (of the net needs: finer while A lasts).
 -- Main statements: `exchange`, `interval-one`: in a regeneration interval of the optimal plan at most one period is fractional. Assumes nothing.
 use mathlib.Core.Path.{_≡_, sym, ap}
 use mathlib.Core.Logic.{_≢_, ⊎-elim}

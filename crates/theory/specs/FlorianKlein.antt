@@ -9,7 +9,7 @@ use native.Mathlib.Nat.{eq-or-lt-of-le, eq-zero-or-pos, le-of-suc-le-suc}
 use native.Mathlib.Decide.{ℕ-discrete}
 use native.Mathlib.Omega.{arith}
 use lib.Arith.{digits-mod, le-zero}
-use Rattle.day.specs.Sums.{at, sumTo}
+use Rattle.day.specs.Sums.{sumTo}
 use Rattle.theory.specs.Model.{Model, Rising, Unlimited, costTo, OptimalTo}
 use Rattle.theory.specs.Stages.{Solution, Answers}
 use Rattle.theory.specs.Recursion.{both?}

@@ -23,8 +23,9 @@ pub mod WagnerWhitin
 -- What the equal path computes (Florian and Klein).
 pub mod FlorianKlein
 pub mod Loads
--- What the loops run on; the days of document 01 as such problems; demands 2 and 3; agreement of paths; the demands of the calls.
+-- What the loops run on; the days of documents 01 and 02 as such problems; demands 2 and 3; agreement of paths; the demands of the calls.
 pub mod Problem
+pub mod Net
 pub mod Base
 pub mod Demands
 pub mod Agreement

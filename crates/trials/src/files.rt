@@ -7,6 +7,7 @@ use crate::cells::MARK;
 use crate::print;
 use crate::text;
 use day::Check;
+use day::Ends;
 use dayfile::ReadAnswer;
 use dayfile::WriteAnswer;
 
@@ -88,7 +89,7 @@ fn bytes(s: &[u8], out: &mut [u8]) -> usize
 // The mark, in an output slice.
 const FILL: u8 = 119;
 
-// Whether the tables are written to the very bytes of the file.
+// Whether the day is written to the very bytes of the file.
 fn written_alike(
     file: &[u8],
     demand: &[u16],
@@ -96,12 +97,13 @@ fn written_alike(
     setup: &[u32],
     unit: &[u32],
     holding: &[u32],
+    ends: Ends,
 ) -> bool {
-    let mut out = [0u8; 1635];
-    match dayfile_writer::write(demand, capacity, setup, unit, holding, &mut out) {
+    let mut out = [0u8; 1640];
+    match dayfile_writer::write(demand, capacity, setup, unit, holding, &mut out, ends) {
         WriteAnswer::Refused(_) => false,
         WriteAnswer::Bytes(m) => {
-            let end = text::least(m, 1635);
+            let end = text::least(m, 1640);
             check::same(&out[0..end], file)
         }
     }
@@ -130,8 +132,8 @@ fn fare(file: &[u8]) -> usize
             }
             15
         }
-        ReadAnswer::Periods(_) => {
-            if written_alike(file, &demand, &capacity, &setup, &unit, &holding) {
+        ReadAnswer::Periods(_, ends) => {
+            if written_alike(file, &demand, &capacity, &setup, &unit, &holding, ends) {
                 return 0;
             }
             15
@@ -189,7 +191,10 @@ fn read(file: &[u8], room: usize) {
         &mut holding[0..k],
     ) {
         ReadAnswer::Refused(r) => print::refusal(r),
-        ReadAnswer::Periods(n) => print::number(b" periods ", n as u64),
+        ReadAnswer::Periods(n, ends) => {
+            print::number(b" periods ", n as u64);
+            print::ends(ends);
+        }
     }
 }
 
@@ -240,8 +245,9 @@ fn write_into(
     unit: &[u32],
     holding: &[u32],
     out: &mut [u8],
+    ends: Ends,
 ) {
-    match dayfile_writer::write(demand, capacity, setup, unit, holding, out) {
+    match dayfile_writer::write(demand, capacity, setup, unit, holding, out, ends) {
         WriteAnswer::Refused(r) => {
             print::refusal(r);
             print::unless(cells::bytes_left(out, 0, false));
@@ -264,11 +270,20 @@ pub fn write(
     setup: &[u32],
     unit: &[u32],
     holding: &[u32],
+    ends: Ends,
 ) {
-    let mut out = [FILL; 1640];
-    let end = text::least(room, 1640);
+    let mut out = [FILL; 1645];
+    let end = text::least(room, 1645);
     print::text(text::name(line));
     print::text(b" file");
-    write_into(demand, capacity, setup, unit, holding, &mut out[0..end]);
+    write_into(
+        demand,
+        capacity,
+        setup,
+        unit,
+        holding,
+        &mut out[0..end],
+        ends,
+    );
     print::end();
 }

@@ -8,6 +8,7 @@ mod text;
 mod tiny;
 mod weighing;
 
+use day::Ends;
 use libc::STDIN_FILENO;
 
 // The trials of a day, by the line's kind.
@@ -18,42 +19,45 @@ fn day(
     setup: &[u32],
     unit: &[u32],
     holding: &[u32],
+    ends: Ends,
 ) {
     let kind = text::kind(line);
     if check::same(kind, b"day") {
-        paths::all(line, demand, capacity, setup, unit, holding);
-        tiny::searched(line, demand, capacity, setup, unit, holding);
-        return files::write(line, 1640, demand, capacity, setup, unit, holding);
+        paths::all(line, demand, capacity, setup, unit, holding, ends);
+        tiny::searched(line, demand, capacity, setup, unit, holding, ends);
+        return files::write(line, 1645, demand, capacity, setup, unit, holding, ends);
     }
     if check::same(kind, b"weigh") || check::same(kind, b"compare") {
-        return weighing::plans(line, demand, capacity, setup, unit, holding);
+        return weighing::plans(line, demand, capacity, setup, unit, holding, ends);
     }
     if check::same(kind, b"write") {
         let room = text::size(text::number_in(line, 6));
-        return files::write(line, room, demand, capacity, setup, unit, holding);
+        return files::write(line, room, demand, capacity, setup, unit, holding, ends);
     }
-    paths::lent(line, demand, capacity, setup, unit, holding);
+    paths::lent(line, demand, capacity, setup, unit, holding, ends);
 }
 
-// A line that begins with a day's five tables: demands; capacities; setup, unit and holding costs.
+// A line that begins with a day's five tables: demands; capacities; setup, unit and holding costs. After a '|' it has the day's ends.
 fn tables(line: &[u8]) {
+    let row = text::row(line);
     let mut demand = [0u16; 128];
     let mut capacity = [0u16; 128];
     let mut setup = [0u32; 128];
     let mut unit = [0u32; 128];
     let mut holding = [0u32; 128];
-    let n = text::amounts(text::field(line, 1), &mut demand);
-    let c = text::amounts(text::field(line, 2), &mut capacity);
-    let b = text::rates(text::field(line, 3), n, &mut setup);
-    let p = text::rates(text::field(line, 4), n, &mut unit);
-    let h = text::rates(text::field(line, 5), n, &mut holding);
+    let n = text::amounts(text::field(row, 1), &mut demand);
+    let c = text::amounts(text::field(row, 2), &mut capacity);
+    let b = text::rates(text::field(row, 3), n, &mut setup);
+    let p = text::rates(text::field(row, 4), n, &mut unit);
+    let h = text::rates(text::field(row, 5), n, &mut holding);
     day(
-        line,
+        row,
         &demand[0..n],
         &capacity[0..c],
         &setup[0..b],
         &unit[0..p],
         &holding[0..h],
+        text::ends(line),
     );
 }
 

@@ -5,6 +5,7 @@ use crate::cells::MARK;
 use crate::print;
 use crate::text;
 use day::Answer;
+use day::Ends;
 use day::Totals;
 
 pub enum Path {
@@ -58,7 +59,7 @@ fn cells_of(path: Path, n: usize, total: usize) -> Cells
 }
 
 // The day's whole demand; 4,097 where it is more than 4,096.
-pub fn total(demand: &[u16]) -> usize
+fn summed(demand: &[u16]) -> usize
     ensures { λ r. ⌜ r ≤ 4097 ⌝ }
 {
     let mut sum = 0;
@@ -70,10 +71,22 @@ pub fn total(demand: &[u16]) -> usize
     sum
 }
 
-fn needed(path: Path, demand: &[u16]) -> Cells
+// What the day makes in all; 0 where it begins with more than it needs. R + Z is taken as 4,097 where it is more than 4,096.
+pub fn total(demand: &[u16], ends: Ends) -> usize
+    ensures { λ r. ⌜ r ≤ 4097 ⌝ }
+{
+    let all = text::least(summed(demand) + text::wide(ends.closing), 4097);
+    let opening = text::wide(ends.opening);
+    if all < opening {
+        return 0;
+    }
+    all - opening
+}
+
+fn needed(path: Path, demand: &[u16], ends: Ends) -> Cells
     ensures { λ r. ⌜ (r .costs ≤ 8196) × (r .choices ≤ 16785408) ⌝ }
 {
-    cells_of(path, text::least(demand.len(), 128), total(demand))
+    cells_of(path, text::least(demand.len(), 128), total(demand, ends))
 }
 
 // What a call answered, and whether it left every lent cell as document 01 says.
@@ -92,6 +105,7 @@ fn plan(
     costs: &mut [u64],
     choices: &mut [u16],
     slots: &mut [u16],
+    ends: Ends,
 ) -> Answer {
     match path {
         Path::Full => full::plan(
@@ -103,6 +117,7 @@ fn plan(
             costs,
             choices,
             slots,
+            ends,
         ),
         Path::Uncapped => uncapped::plan(
             demand,
@@ -113,6 +128,7 @@ fn plan(
             costs,
             choices,
             slots,
+            ends,
         ),
         Path::Equal => equal::plan(
             demand,
@@ -123,6 +139,7 @@ fn plan(
             costs,
             choices,
             slots,
+            ends,
         ),
     }
 }
@@ -159,13 +176,13 @@ fn print_answer(line: &[u8], path: Path, answer: Answer, slots: &[u16], n: usize
 }
 
 // The cells that a call clears: none where it refuses.
-fn cleared(path: Path, answer: Answer, demand: &[u16]) -> Cells {
+fn cleared(path: Path, answer: Answer, demand: &[u16], ends: Ends) -> Cells {
     match answer {
         Answer::Refused(_) => Cells {
             costs: 0,
             choices: 0,
         },
-        Answer::Planned(_) => needed(path, demand),
+        Answer::Planned(_) => needed(path, demand, ends),
     }
 }
 
@@ -188,6 +205,7 @@ pub fn run(
     costs: &mut [u64],
     choices: &mut [u16],
     slots: &mut [u16],
+    ends: Ends,
 ) -> Outcome {
     let answer = plan(
         path,
@@ -199,9 +217,16 @@ pub fn run(
         costs,
         choices,
         slots,
+        ends,
     );
     let n = planned(answer, demand.len());
-    let kept = as_left(costs, choices, slots, cleared(path, answer, demand), n);
+    let kept = as_left(
+        costs,
+        choices,
+        slots,
+        cleared(path, answer, demand, ends),
+        n,
+    );
     print_answer(line, path, answer, slots, n, kept);
     Outcome { answer, kept }
 }
@@ -218,6 +243,7 @@ fn within(
     costs: usize,
     choices: usize,
     slots: usize,
+    ends: Ends,
 ) {
     let mut cost_area = [119u64; 8196];
     let mut choice_area = [MARK; 393314];
@@ -236,6 +262,7 @@ fn within(
         &mut cost_area[0..a],
         &mut choice_area[0..b],
         &mut slot_area[0..c],
+        ends,
     );
 }
 
@@ -248,8 +275,9 @@ fn roomy(
     setup: &[u32],
     unit: &[u32],
     holding: &[u32],
+    ends: Ends,
 ) {
-    let need = needed(path, demand);
+    let need = needed(path, demand, ends);
     let slots = text::least(demand.len(), 128) + 1;
     within(
         path,
@@ -262,6 +290,7 @@ fn roomy(
         need.costs + 2,
         need.choices + 2,
         slots,
+        ends,
     );
 }
 
@@ -272,10 +301,38 @@ pub fn all(
     setup: &[u32],
     unit: &[u32],
     holding: &[u32],
+    ends: Ends,
 ) {
-    roomy(Path::Full, line, demand, capacity, setup, unit, holding);
-    roomy(Path::Uncapped, line, demand, capacity, setup, unit, holding);
-    roomy(Path::Equal, line, demand, capacity, setup, unit, holding);
+    roomy(
+        Path::Full,
+        line,
+        demand,
+        capacity,
+        setup,
+        unit,
+        holding,
+        ends,
+    );
+    roomy(
+        Path::Uncapped,
+        line,
+        demand,
+        capacity,
+        setup,
+        unit,
+        holding,
+        ends,
+    );
+    roomy(
+        Path::Equal,
+        line,
+        demand,
+        capacity,
+        setup,
+        unit,
+        holding,
+        ends,
+    );
 }
 
 // One path in as many cost cells, choice cells and slots as fields 6, 7 and 8 say.
@@ -286,6 +343,7 @@ pub fn lent(
     setup: &[u32],
     unit: &[u32],
     holding: &[u32],
+    ends: Ends,
 ) {
     within(
         named(text::kind(line)),
@@ -298,5 +356,6 @@ pub fn lent(
         text::size(text::number_in(line, 6)),
         text::size(text::number_in(line, 7)),
         text::size(text::number_in(line, 8)),
+        ends,
     );
 }

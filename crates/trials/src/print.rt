@@ -1,4 +1,5 @@
 //! What the trials print.
+use day::Ends;
 use day::Refusal;
 use libc::STDOUT_FILENO;
 
@@ -18,6 +19,14 @@ pub fn end() {
 pub fn refusal(r: Refusal) {
     number(b" refused ", r.number() as u64);
     number(b" period ", r.period() as u64);
+}
+
+// The ends of a day that has any.
+pub fn ends(e: Ends) {
+    if 0 < e.opening || 0 < e.closing {
+        number(b" opening ", e.opening as u64);
+        number(b" closing ", e.closing as u64);
+    }
 }
 
 fn amount(x: u16) {

@@ -2,6 +2,7 @@
 ghost use mathlib.Core.Path.{_≡_};
 ghost use Prim.Native.Nat.{_≤_, _<_};
 ghost use lib.ListN.{length};
+use day::Ends;
 
 pub fn wide(x: u16) -> usize
     ensures { λ r. ⌜ r ≤ 65535 ⌝ }
@@ -181,7 +182,7 @@ fn next(s: &[u8], r: Reading) -> Reading {
     }
 }
 
-fn low(v: u32) -> u16 {
+pub fn low(v: u32) -> u16 {
     (v % 65536) as u16
 }
 
@@ -200,6 +201,27 @@ pub fn amounts(s: &[u8], table: &mut [u16]) -> usize
         k += 1;
     }
     k
+}
+
+// The row of a line: what stands before its '|'.
+pub fn row(line: &[u8]) -> &[u8] {
+    let to = find(line, 0, b'|', true);
+    &line[0..to]
+}
+
+// The ends of a day: the two numbers after the line's '|'; both 0 where it has none.
+pub fn ends(line: &[u8]) -> Ends {
+    let mut both = [0u16; 2];
+    let to = line.len();
+    let bar = find(line, 0, b'|', true);
+    if bar < to {
+        let from = bar + 1;
+        amounts(&line[from..to], &mut both);
+    }
+    Ends {
+        opening: both[0],
+        closing: both[1],
+    }
 }
 
 // A number that stands alone stands for all n periods.

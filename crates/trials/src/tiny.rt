@@ -7,6 +7,7 @@ use crate::paths::Path;
 use crate::print;
 use crate::text;
 use day::Answer;
+use day::Ends;
 use plain::Best;
 use plain::Capacities;
 
@@ -30,28 +31,30 @@ pub fn searched(
     setup: &[u32],
     unit: &[u32],
     holding: &[u32],
+    ends: Ends,
 ) {
-    if 4 < demand.len() || 8 < paths::total(demand) {
+    if 4 < demand.len() || 10 < paths::total(demand, ends) {
         return;
     }
     print::text(text::name(line));
     print::text(b" search");
     print_best(
-        plain::search(demand, capacity, setup, unit, holding),
+        plain::search(demand, capacity, setup, unit, holding, ends),
         demand.len(),
     );
     print::end();
 }
 
-fn capacities_refused(answer: Answer) -> bool {
+// The number of the refusal; 0 where there is none.
+fn refused(answer: Answer) -> u8 {
     match answer {
-        Answer::Planned(_) => false,
-        Answer::Refused(r) => r.number() == 8 || r.number() == 9,
+        Answer::Planned(_) => 0,
+        Answer::Refused(r) => r.number(),
     }
 }
 
 // Counts: 0, days with a plan; 1, 2, 3, days on which the full, the uncapped and the equal path agreed with the search; 4, calls that
-// refused the day's capacities (8 or 9); 5, calls that left lent cells as they must.
+// refused the day's capacities (8 or 9); 5, calls that left lent cells as they must; 6, calls that refused its opening charge (14).
 fn see(
     path: Path,
     k: usize,
@@ -62,6 +65,7 @@ fn see(
     unit: &[u32],
     holding: &[u32],
     counts: &mut [u64; 16],
+    ends: Ends,
 )
     requires { ⌜ k < 16 ⌝ }
 {
@@ -79,11 +83,14 @@ fn see(
         &mut costs,
         &mut choices,
         &mut slots,
+        ends,
     );
     let answer = run.answer;
-    cells::count_if(counts, k, plain::agrees(best, demand.len(), answer, &slots));
-    cells::count_if(counts, 4, capacities_refused(answer));
+    cells::count_if(counts, k, plain::agrees(best, demand, answer, &slots, ends));
+    let number = refused(answer);
+    cells::count_if(counts, 4, number == 8 || number == 9);
     cells::count_if(counts, 5, run.kept);
+    cells::count_if(counts, 6, number == 14);
 }
 
 fn compare(
@@ -93,8 +100,9 @@ fn compare(
     unit: &[u32],
     holding: &[u32],
     counts: &mut [u64; 16],
+    ends: Ends,
 ) {
-    let best = plain::search(demand, capacity, setup, unit, holding);
+    let best = plain::search(demand, capacity, setup, unit, holding, ends);
     cells::count_if(counts, 0, best.found);
     see(
         Path::Full,
@@ -106,6 +114,7 @@ fn compare(
         unit,
         holding,
         counts,
+        ends,
     );
     see(
         Path::Uncapped,
@@ -117,6 +126,7 @@ fn compare(
         unit,
         holding,
         counts,
+        ends,
     );
     see(
         Path::Equal,
@@ -128,18 +138,20 @@ fn compare(
         unit,
         holding,
         counts,
+        ends,
     );
 }
 
 // The day of a seed, and the seed of the next one.
-fn one_day(seed: u32, capacities: Capacities, counts: &mut [u64; 16]) -> u32 {
-    let d = plain::make_up(seed, capacities);
+fn one_day(seed: u32, capacities: Capacities, counts: &mut [u64; 16], most: u16) -> u32 {
+    let d = plain::make_up(seed, capacities, most);
     let n = d.n;
     let demand = d.demand;
     let capacity = d.capacity;
     let setup = d.setup;
     let unit = d.unit;
     let holding = d.holding;
+    let ends = d.ends;
     compare(
         &demand[0..n],
         &capacity[0..n],
@@ -147,15 +159,16 @@ fn one_day(seed: u32, capacities: Capacities, counts: &mut [u64; 16]) -> u32 {
         &unit[0..n],
         &holding[0..n],
         counts,
+        ends,
     );
     d.seed
 }
 
-fn days(capacities: Capacities, seed: u32, days: u32, counts: &mut [u64; 16]) {
+fn days(capacities: Capacities, seed: u32, days: u32, counts: &mut [u64; 16], most: u16) {
     let mut s = seed;
     let mut i = 0;
     while i < days {
-        s = one_day(s, capacities, counts);
+        s = one_day(s, capacities, counts, most);
         i += 1;
     }
 }
@@ -170,7 +183,8 @@ fn named(name: &[u8]) -> Capacities {
     Capacities::Any
 }
 
-// Made-up days with the capacities that the trial is named after: from the seed of field 1, and as many as field 2 says.
+// Made-up days with the capacities that the trial is named after: from the seed of field 1, as many as field 2 says, with ends of at most
+// the number in field 3.
 pub fn made_up(line: &[u8]) {
     let mut counts = [0u64; 16];
     days(
@@ -178,11 +192,13 @@ pub fn made_up(line: &[u8]) {
         text::number_in(line, 1),
         text::number_in(line, 2),
         &mut counts,
+        text::low(text::number_in(line, 3)),
     );
     print::text(b"made-up ");
     print::text(text::name(line));
     print::text(text::field(line, 1));
     print::text(text::field(line, 2));
+    print::text(text::field(line, 3));
     print::counts(counts);
     print::end();
 }

@@ -3,6 +3,7 @@ ghost use mathlib.Core.Path.{_≡_};
 ghost use lib.IntN.{natAbs};
 use crate::print;
 use crate::text;
+use day::Ends;
 use weigher::Compared;
 use weigher::Rule;
 use weigher::Verdict;
@@ -47,8 +48,9 @@ fn weigh(
     setup: &[u32],
     unit: &[u32],
     holding: &[u32],
+    ends: Ends,
 ) {
-    match weigher::weigh(demand, capacity, setup, unit, holding, plan) {
+    match weigher::weigh(demand, capacity, setup, unit, holding, plan, ends) {
         Weighed::Refused(r) => print::refusal(r),
         Weighed::Judged(v) => print_verdict(v),
     }
@@ -62,8 +64,9 @@ fn compare(
     setup: &[u32],
     unit: &[u32],
     holding: &[u32],
+    ends: Ends,
 ) {
-    match weigher::compare(demand, capacity, setup, unit, holding, plan, other) {
+    match weigher::compare(demand, capacity, setup, unit, holding, plan, other, ends) {
         Compared::Refused(r) => print::refusal(r),
         Compared::Broken(rule, period) => broken(rule, period),
         Compared::Difference(d) => print_difference(d),
@@ -78,6 +81,7 @@ pub fn plans(
     setup: &[u32],
     unit: &[u32],
     holding: &[u32],
+    ends: Ends,
 ) {
     let mut plan = [0u16; 128];
     let mut other = [0u16; 128];
@@ -85,7 +89,7 @@ pub fn plans(
     let m = text::amounts(text::field(line, 7), &mut other);
     print::text(text::name(line));
     if check::same(text::kind(line), b"weigh") {
-        weigh(&plan[0..n], demand, capacity, setup, unit, holding);
+        weigh(&plan[0..n], demand, capacity, setup, unit, holding, ends);
     } else {
         compare(
             &plan[0..n],
@@ -95,6 +99,7 @@ pub fn plans(
             setup,
             unit,
             holding,
+            ends,
         );
     }
     print::end();

@@ -1,6 +1,6 @@
 -- Laws of the call: what passed tests leave for the loops, and what the loops leave is what an accepted call leaves.
 -- Assumes nothing.
-use mathlib.Core.Path.{_≡_, refl, sym, ap, _∙_}
+use mathlib.Core.Path.{_≡_, refl, sym, ap, _∙_, subst}
 use mathlib.Core.List.{List, _++_}
 use Prim.Native.Nat.{ℕ, _+_, _<_}
 use native.Mathlib.Omega.{arith}
@@ -8,37 +8,44 @@ use lib.ListN.{length, drop, replicate, length-append, length-drop, length-repli
 use lib.Seq.{drop-at}
 use Rattle.day.specs.declared.Totals.{Totals}
 use Rattle.day.specs.Sums.{at}
-use Rattle.day.specs.Day.{Day, periods, total, maxCapacity}
+use Rattle.day.specs.Day.{Day, maxCapacity}
+use Rattle.day.specs.Day as Day
 use Rattle.day.specs.Plan.{Optimal}
 use Rattle.day.specs.Tests.{first-one}
-use Rattle.day.specs.Outcome.{Memory, memoryOf, sizesOf, Counts, Cleared, Accepted}
+use Rattle.day.specs.Outcome.{Memory, memoryOf, sizesOf, Cleared, Accepted}
 use Rattle.day.specs.Paths.{uncapped}
 use Rattle.checks.specs.Passed.{Admitted, binding-passed}
+use Rattle.weigher.specs.Verdict.{totalsOf}
+use Rattle.weigher.specs.Walk.{FeasiblePlan}
 use Rattle.theory.specs.Cut.{optimal-ext}
 use Rattle.theory.specs.Model.{Model}
-use Rattle.theory.specs.Problem.{Problem, Bounded, modelOf, model-rising, model-unlimited}
-use Rattle.theory.specs.Base.{problemOf, bounded, optimal-iff}
+use Rattle.theory.specs.Problem.{Problem, Bounded, periods, total, modelOf, model-rising, model-unlimited}
+use Rattle.theory.specs.Net.{netNeeds, problemOf, limits-fit, periods-is, floor-is, total-is, bounded}
+use Rattle.theory.specs.Base.{optimal-iff}
 use Rattle.theory.specs.Recursion.{leads-optimal}
 use Rattle.theory.specs.Stages.{Solution}
+use Rattle.theory.specs.Uncapped.{Uncapped}
 use Rattle.theory.specs.WagnerWhitin.{wagnerWhitin, wagnerWhitin-right, Row}
 use Rattle.uncapped.specs.Bounds.{uncapacitated}
-use Rattle.uncapped.specs.Slots.{ReadBack}
-use Rattle.uncapped.specs.Rows.{RowsWritten}
+use Rattle.uncapped.specs.Solved.{Solvable, Solved}
 
 -- what the loops run on, for a day
-abbrev pub loopsOf : Day → Problem
-loopsOf d = uncapacitated (d .demand) (d .setup) (d .unit) (d .holding)
+abbrev loopsOf : Day → Problem
+loopsOf d = uncapacitated (netNeeds d) (d .setup) (d .unit) (d .holding)
 
 module _ (d : Day) (m : Memory) (ok : Admitted uncapped d (sizesOf m)) where
+  abbrev p : Problem
+  p = problemOf d
+
   abbrev n : ℕ
-  n = periods d
+  n = periods p
 
   abbrev M : Model
-  M = modelOf (problemOf d)
+  M = modelOf p
 
-  pub loops-bounded : Bounded (loopsOf d)
+  loops-bounded : Bounded (loopsOf d)
   loops-bounded =
-      let b = bounded d (ok .day .limits) (ok .day .total) in
+      let b = bounded d (ok .day) in
       record {
         nonempty = b .nonempty;
         few = b .few;
@@ -54,10 +61,15 @@ module _ (d : Day) (m : Memory) (ok : Admitted uncapped d (sizesOf m)) where
         small = b .small;
       }
 
+  -- no capacity binds in the problem either
+  room : Uncapped M n
+  room k h =
+      let pos = ok .day .limits .nonempty in
+      let inside : k < Day.periods d = omega (arith, periods-is d) in
+      omega (arith, binding-passed d (rw first-one at (ok .own)) k inside, floor-is d pos k (omega arith), total-is d pos)
+
   row : Row M n (wagnerWhitin M n)
-  row =
-      wagnerWhitin-right M (model-rising (problemOf d)) (model-unlimited (problemOf d)) n (binding-passed d (rw first-one at (ok .own))) n
-      (omega arith)
+  row = wagnerWhitin-right M (model-rising p) (model-unlimited p) n room n (omega arith)
 
   abbrev plan : List ℕ
   plan = wagnerWhitin M n .plan
@@ -67,27 +79,65 @@ module _ (d : Day) (m : Memory) (ok : Admitted uncapped d (sizesOf m)) where
   unfolding wagnerWhitin
   same-rows = refl
 
-  -- The areas once the rows are found, and the slots once the plan is read back.
-  module _ (costs choices slots : List ℕ) (f : RowsWritten (loopsOf d) (m .costs) (m .choices) costs choices)
-      (back : ReadBack (d .demand) choices (m .slots) slots) where
-    is : slots ≡ plan ++ drop n (m .slots)
-    is = back _ (f .lots) ∙ ap (λ (s : Solution). s .plan ++ drop n (m .slots)) same-rows
+  -- The net needs as they were filled in.
+  module _ (net : List ℕ) (is-net : net ≡ netNeeds d) where
+    abbrev loops : Problem
+    loops = uncapacitated net (d .setup) (d .unit) (d .holding)
 
-    same : (k : ℕ) → k < n → at plan k ≡ at slots k
-    same k h = sym (rw is (List·getD-append plan (drop n (m .slots)) 0 k (omega (arith, row .each))))
+    pub solvable : Solvable loops m
+    solvable =
+        let size = periods-is d in
+        rw is-net
+        (record {
+          ready = record {
+            bounded = loops-bounded;
+            cost-cells = omega (arith, ok .room .costs);
+            choice-cells = omega (arith, ok .room .choices);
+          };
+          room = omega (arith, ok .room .slots);
+        })
 
-    pub slots-optimal : Optimal d (at slots)
-    slots-optimal = optimal-iff d (at slots) .1 (optimal-ext M n (total d) (at plan) (at slots) same (leads-optimal M n (total d) (wagnerWhitin M n) row))
+    -- The memory once the plan is found.
+    module _ (after : Memory) (solved : Solved loops m after) where
+      left : Solved (loopsOf d) m after
+      left = rw is-net at solved
 
-    -- once the areas are cleared, all is as an accepted call leaves it
-    pub work-accepted : (t : Totals) (costs′ choices′ : List ℕ) → Counts d (at slots) t
-        → Cleared (n + 1) costs costs′ → Cleared (n + 1) choices choices′ → Accepted uncapped d t m (memoryOf costs′ choices′ slots)
-    work-accepted t costs′ choices′ counts clear clear′ =
-        record {
-          plan = slots-optimal;
-          counts = counts;
-          size = ap length is ∙ simp (length-append, length-drop) (omega (arith, row .each, ok .room .slots));
-          rest = ap (drop n) is ∙ drop-at plan (drop n (m .slots)) n (row .each);
-          costs = clear ∙ ap (λ (l : List ℕ). replicate (n + 1) 0 ++ l) (f .costs-rest);
-          choices = clear′ ∙ ap (λ (l : List ℕ). replicate (n + 1) 0 ++ l) (f .choices-rest);
-        }
+      is : after .slots ≡ plan ++ drop n (m .slots)
+      is = left .slots ∙ ap (λ (s : Solution). s .plan ++ drop n (m .slots)) same-rows
+
+      same : (k : ℕ) → k < n → at plan k ≡ at (after .slots) k
+      same k h = sym (rw is (List·getD-append plan (drop n (m .slots)) 0 k (omega (arith, row .each))))
+
+      slots-optimal : Optimal d (at (after .slots))
+      slots-optimal =
+          optimal-iff d (limits-fit (ok .day)) (at (after .slots)) .1
+          (optimal-ext M n (total p) (at plan) (at (after .slots)) same (leads-optimal M n (total p) (wagnerWhitin M n) row))
+
+      size : length (after .slots) ≡ length (m .slots)
+      size = ap length is ∙ simp (length-append, length-drop) (omega (arith, row .each, periods-is d, ok .room .slots))
+
+      pub slots-feasible : FeasiblePlan d (after .slots)
+      slots-feasible =
+          record {
+            weighable = record {
+              few = ok .day .limits .few;
+              lengths = ok .day .limits .lengths;
+              amounts = omega (arith, ok .room .slots, size);
+            };
+            feasible = slots-optimal .feasible;
+          }
+
+      -- once the areas are cleared, all is as an accepted call leaves it
+      pub work-accepted : (t : Totals) (costs choices : List ℕ) → t ≡ totalsOf d (at (after .slots))
+          → Cleared (Day.periods d + 1) (after .costs) costs → Cleared (Day.periods d + 1) (after .choices) choices
+          → Accepted uncapped d t m (memoryOf costs choices (after .slots))
+      work-accepted t costs choices weighed clear clear′ =
+          record {
+            plan = slots-optimal;
+            counts = rw weighed refl;
+            size = size;
+            rest = subst (λ (k : ℕ). drop k (after .slots) ≡ drop k (m .slots)) (periods-is d)
+                (ap (drop n) is ∙ drop-at plan (drop n (m .slots)) n (row .each));
+            costs = clear ∙ ap (λ (l : List ℕ). replicate (Day.periods d + 1) 0 ++ l) (rw (periods-is d) at (left .costs));
+            choices = clear′ ∙ ap (λ (l : List ℕ). replicate (Day.periods d + 1) 0 ++ l) (rw (periods-is d) at (left .choices));
+          }

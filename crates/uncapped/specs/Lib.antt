@@ -2,3 +2,4 @@
 pub mod Bounds
 pub mod Slots
 pub mod Rows
+pub mod Solved

@@ -1,18 +1,42 @@
 //! The uncapped path: Wagner and Whitin (report, section 3), for days whose capacities can't bind.
-//! It tests, finds the cost and the last lot of every row, reads the plan back, and clears its areas.
-ghost use lib.ListN.{length};
+//! It tests, takes the net needs, finds the cost and the last lot of every row, reads the plan back, clears its areas, and weighs the plan.
 ghost use Rattle.day.specs.Day.{dayOf};
 ghost use Rattle.day.specs.Lent.{dayBefore, memoryBefore, memoryAfter};
-ghost use Rattle.day.specs.Outcome.{sizes, Accepted, Runs};
+ghost use Rattle.day.specs.Outcome.{memoryOf, sizesOf, Accepted, Runs};
 ghost use Rattle.day.specs.Paths.{uncapped};
 ghost use Rattle.checks.specs.Passed.{Admitted};
+ghost use Rattle.uncapped.specs.Bounds.{uncapacitated};
+ghost use Rattle.uncapped.specs.Solved.{Solvable, Solved};
 use day::Answer;
 use day::Check;
+use day::Ends;
 use day::PathKind;
 use day::Totals;
 
 mod rows;
 mod slots;
+
+// The plan into the slots. What is left in the areas is free.
+fn solve(
+    demand: &[u16],
+    setup: &[u32],
+    unit: &[u32],
+    holding: &[u32],
+    costs: &mut [u64],
+    choices: &mut [u16],
+    slots: &mut [u16],
+)
+    requires { ⌜ Solvable
+        (uncapacitated (now demand) (now setup) (now unit) (now holding))
+        (memoryOf (now costs) (now choices) (now slots)) ⌝ }
+    ensures { λ _. ⌜ Solved
+        (uncapacitated (now (demand .entry)) (now (setup .entry)) (now (unit .entry)) (now (holding .entry)))
+        (memoryBefore costs choices slots)
+        (memoryAfter costs choices slots) ⌝ }
+{
+    rows::fill(demand, setup, unit, holding, costs, choices);
+    slots::read_back(demand, choices, slots);
+}
 
 // The work, once the tests have passed.
 fn work(
@@ -24,22 +48,25 @@ fn work(
     costs: &mut [u64],
     choices: &mut [u16],
     slots: &mut [u16],
+    ends: Ends,
 ) -> Totals
     requires { ⌜ Admitted uncapped
-        (dayOf (now demand) (now capacity) (now setup) (now unit) (now holding))
-        (sizes (length (now costs)) (length (now choices)) (length (now slots))) ⌝ }
+        (dayOf (now demand) (now capacity) (now setup) (now unit) (now holding) ends)
+        (sizesOf (memoryOf (now costs) (now choices) (now slots))) ⌝ }
     ensures { λ r. ⌜ Accepted uncapped
-        (dayBefore demand capacity setup unit holding)
+        (dayBefore demand capacity setup unit holding ends)
         r
         (memoryBefore costs choices slots)
         (memoryAfter costs choices slots) ⌝ }
 {
-    rows::fill(demand, setup, unit, holding, costs, choices);
-    slots::read_back(demand, choices, slots);
     let n = demand.len();
+    let mut table = [0u16; 96];
+    let net = &mut table[0..n];
+    net::fill(demand, net, ends);
+    solve(net, setup, unit, holding, costs, choices, slots);
     areas::clear_costs(costs, n + 1);
     areas::clear_choices(choices, n + 1);
-    weigher::totals(demand, capacity, setup, unit, holding, slots)
+    weigher::totals(demand, capacity, setup, unit, holding, slots, ends)
 }
 
 // The plan of a day whose capacities can't bind, into the first n slots.
@@ -52,14 +79,15 @@ pub fn plan(
     costs: &mut [u64],
     choices: &mut [u16],
     slots: &mut [u16],
+    ends: Ends,
 ) -> Answer
     ensures { λ r. ⌜ Runs uncapped
-        (dayBefore demand capacity setup unit holding)
+        (dayBefore demand capacity setup unit holding ends)
         (memoryBefore costs choices slots)
         r
         (memoryAfter costs choices slots) ⌝ }
 {
-    if let Check::Refused(r) = checks::path(
+    if let Check::Refused(r) = path_checks::path(
         PathKind::Uncapped,
         demand,
         capacity,
@@ -69,6 +97,7 @@ pub fn plan(
         costs.len(),
         choices.len(),
         slots.len(),
+        ends,
     ) {
         return Answer::Refused(r);
     }
@@ -81,5 +110,6 @@ pub fn plan(
         costs,
         choices,
         slots,
+        ends,
     ))
 }

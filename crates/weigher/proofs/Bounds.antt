@@ -16,7 +16,7 @@ use Rattle.day.specs.Day.{Day, periods, maxPeriods}
 use Rattle.day.specs.Plan.{inventory, costAt, costTo, setupAt}
 use Rattle.day.specs.Refusals.{dayTests, badSlots}
 use Rattle.day.specs.Tests.{first-split}
-use Rattle.checks.specs.Passed.{day-passed}
+use Rattle.checks.specs.Passed.{DayLimits, day-passed}
 use Rattle.terms.specs.Low.{paid-low, making-low, setup-low}
 use Rattle.weigher.specs.declared.Weighed.the-variants.{Judged}
 use Rattle.weigher.specs.Verdict.{breaks, verdictAt, verdictOf}
@@ -39,41 +39,44 @@ sum-low f top i few h = le-trans (go i h) (mul-le-mul-right top few)
     go zero h = omega arith
     go (suc j) h = rw suc-mul (omega (arith, go j (λ k l. h k (omega arith)), h j (omega arith)))
 
--- sums of 16-bit terms
-short-low : (f : ℕ → ℕ) (i : ℕ) → i ≤ maxPeriods → ((k : ℕ) → Fits w16 (f k)) → sumTo f i < 2 ^ 23
+-- sums of 16-bit terms, with room for one more
+short-low : (f : ℕ → ℕ) (i : ℕ) → i ≤ maxPeriods → ((k : ℕ) → Fits w16 (f k)) → sumTo f i + 2 ^ 16 < 2 ^ 23
 short-low f i few h = omega (arith, sum-low f (2 ^ 16 - 1) i few (λ k l. omega (arith, h k)))
 
-module _ (d : Day) (x : ℕ → ℕ) (wide : Wide d x) (i : ℕ) (few : i ≤ maxPeriods) where
-  pub cost-low : costTo d x i < 2 ^ 63
-  cost-low = omega (arith, sum-low (costAt d x) (2 ^ 49 + 2 ^ 56) i few term)
+module _ (d : Day) (x : ℕ → ℕ) (wide : Wide d x) (low : d .opening < 2 ^ 16) where
+  supplied-low : (i : ℕ) → i ≤ maxPeriods → d .opening + sumTo x i < 2 ^ 23
+  supplied-low i few = omega (arith, short-low x i few (wide .amount), low)
+
+  pub cost-low : (i : ℕ) → i ≤ maxPeriods → costTo d x i < 2 ^ 63
+  cost-low i few = omega (arith, sum-low (costAt d x) (2 ^ 49 + 2 ^ 56) i few term)
     where
       term : (k : ℕ) → k < i → costAt d x k ≤ 2 ^ 49 + 2 ^ 56
       term k l =
           omega (
             arith,
             making-low _ _ (x k) (le-of-lt (wide .setup k .fits)) (le-of-lt (wide .unit k .fits)) (le-of-lt (wide .amount k .fits)),
-            paid-low _ (inventory d x (suc k)) (wide .holding k .fits) (omega (arith, short-low x (suc k) (omega arith) (wide .amount))),
+            paid-low _ (inventory d x (suc k)) (wide .holding k .fits) (omega (arith, supplied-low (suc k) (omega arith))),
           )
 
-  pub sums-low : Room (sumsTo d x i)
-  sums-low = record {
-    cost = cost-low;
+  pub sums-low : (i : ℕ) → i ≤ maxPeriods → Room (sumsTo d x i)
+  sums-low i few = record {
+    cost = cost-low i few;
     setups = omega (arith, sum-low (λ k. setupAt (x k)) 1 i few (λ k l. setup-low (x k)));
-    made = short-low x i few (wide .amount);
-    demanded = short-low (at (d .demand)) i few (wide .demand);
+    supplied = supplied-low i few;
+    demanded = omega (arith, short-low (at (d .demand)) i few (wide .demand));
   }
 
 -- the cost that the weigher answers fits a signed 64-bit number
 pub weighed-signed : (d : Day) (plan : List ℕ) → Wide d (at plan) → Signed (weighedOf d plan)
 weighed-signed d plan wide = go (weighRefusal d plan) refl
   where
-    judged : periods d ≤ maxPeriods → (f : Option ℕ) → Signed (Judged (verdictAt d (at plan) f))
-    judged few none = cost-low d (at plan) wide (periods d) few
-    judged few (some k) = tt
+    judged : DayLimits d → (f : Option ℕ) → Signed (Judged (verdictAt d (at plan) f))
+    judged l none = cost-low d (at plan) wide (omega (arith, l .small, l .used)) (periods d) (l .limits .few)
+    judged l (some k) = tt
 
     go : (r : Option Refusal) → weighRefusal d plan ≡ r → Signed (orRefused r (verdictOf d (at plan)))
     go (some r) e = tt
     go none e =
         judged
-        (day-passed d (first-split (dayTests d) (badSlots (length plan) (periods d) ∷ []) e .0) .limits .few)
+        (day-passed d (first-split (dayTests d) (badSlots (length plan) (periods d) ∷ []) e .0))
         (find (breaks d (at plan)) (periods d))

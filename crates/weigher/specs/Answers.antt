@@ -1,4 +1,4 @@
--- What the weigher's two calls answer (document 01, "The weigher"), and the number of each rule.
+-- What the weigher's two calls answer (document 01, "The weigher"; document 02, 2.1), and the number of each rule.
 -- Main definitions: `Weighs`, `Compares`, the contracts of the calls; `weighedFigures`, `comparedFigures`; `ruleNumber`.
 -- Main statements: `weighs-is`, `compares-is`, `compares`. Assumes nothing.
 use mathlib.Core.Path.{_≡_, refl, sym, ap, ap₂, subst, _∙_}
@@ -23,7 +23,7 @@ use Rattle.weigher.specs.declared.Compared.{Compared}
 use Rattle.weigher.specs.declared.Compared.the-variants as compared
 use Rattle.weigher.specs.Verdict.{verdictOf}
 
--- 1, 2, 3, 4, 6
+-- 1, 2, 3, 4, 14, 6
 abbrev pub weighRefusal : Day → List ℕ → Option Refusal
 weighRefusal d plan = first (dayTests d ++ (badSlots (length plan) (periods d) ∷ []))
 

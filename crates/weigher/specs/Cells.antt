@@ -1,8 +1,9 @@
 -- A plan's cells past the day's last period are not read (document 01, refusal 6).
 -- Main statement: `cells-past-unread`. Assumes nothing.
-use mathlib.Core.Path.{_≡_, sym, ap, ap₂, _∙_}
+use mathlib.Core.Path.{_≡_, refl, sym, ap, ap₂, _∙_}
 use mathlib.Core.List.{List, [], _∷_, _++_}
 use Prim.Native.Nat.{ℕ, zero, suc, _≤_, _<_}
+use native.Mathlib.Decide.{decLe}
 use native.Mathlib.Omega.{arith}
 use lib.Dec.{ltb}
 use lib.ListN.{length, length-append, List·getD-append}
@@ -31,15 +32,15 @@ module _ (d : Day) (x y : ℕ → ℕ) (same : (k : ℕ) → k < periods d → x
   keeps-alike k l h =
       let s = sums-alike k l in
       let e = same k l in
-      record { within = omega (arith, h .within); served = omega (arith, h .served); emptied = λ q. omega (arith, h .emptied q) }
+      record { within = omega (arith, h .within); served = omega (arith, h .served); ends = λ q. omega (arith, h .ends q) }
 
   breaks-alike : (r : Rule) (k : ℕ) → k < periods d → Breaks d x r k → Breaks d y r k
   breaks-alike AboveCapacity k l b = omega (arith, same k l)
   breaks-alike Short k l b = omega (arith, same k l, sums-alike k l)
   breaks-alike Over k l b = (omega (arith, same k l), (b .1 .0, omega (arith, sums-alike k l)))
 
-  verdict-alike : verdictOf d x ≡ verdictOf d y
-  verdict-alike = verdict-only d y (verdictOf d x) (go (verdictOf d x) (verdict-right d x))
+  verdict-alike : 1 ≤ periods d → verdictOf d x ≡ verdictOf d y
+  verdict-alike nonempty = verdict-only d y (verdictOf d x) (go (verdictOf d x) (verdict-right d x nonempty))
     where
       go : (v : Verdict) → Says d x v → Says d y v
       go (Holds t) (f, c) = (
@@ -54,12 +55,16 @@ module _ (d : Day) (x y : ℕ → ℕ) (same : (k : ℕ) → k < periods d → x
             before = λ j l. keeps-alike j (omega (arith, s .inside)) (s .before j l);
           }
 
--- a plan's cells past the last period are not read
+-- a plan's cells past the last period are not read; a day without periods is refused, whatever the plan
 pub cells-past-unread : (d : Day) (plan more : List ℕ) → periods d ≤ length plan → weighedOf d (plan ++ more) ≡ weighedOf d plan
-cells-past-unread d plan more h = λ i. orRefused (first (dayTests d ++ (refuse (enough i) FewSlots ∷ []))) (judged i)
+cells-past-unread d plan more h = go (decLe 1 (periods d))
   where
     enough : ltb (length (plan ++ more)) (periods d) ≡ ltb (length plan) (periods d)
     enough = le-ltb (length (plan ++ more)) (periods d) (rw length-append (omega arith)) ∙ sym (le-ltb _ _ h)
 
-    judged : verdictOf d (at (plan ++ more)) ≡ verdictOf d (at plan)
+    judged : 1 ≤ periods d → verdictOf d (at (plan ++ more)) ≡ verdictOf d (at plan)
     judged = verdict-alike d (at (plan ++ more)) (at plan) (λ k l. List·getD-append plan more 0 k (omega arith))
+
+    go : Dec (1 ≤ periods d) → weighedOf d (plan ++ more) ≡ weighedOf d plan
+    go (yes l) = λ i. orRefused (first (dayTests d ++ (refuse (enough i) FewSlots ∷ []))) (judged l i)
+    go (no z) = let e : periods d ≡ 0 = omega arith in rw e refl

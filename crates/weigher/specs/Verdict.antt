@@ -1,14 +1,14 @@
--- The weigher's verdict on a plan, in the report's terms (document 01, "The weigher"; report, section 2).
+-- The weigher's verdict on a plan, in the report's terms (document 01, "The weigher"; document 02, 2.1; report, section 2).
 -- A plan is a function from periods to amounts, as in the crate day's Plan. Index k is period k + 1.
 -- Main definition: `verdictOf`. Assumes nothing.
 use mathlib.Core.Bool.{Bool, true, false, _&&_, _||_}
 use mathlib.Core.Option.{Option, none, some}
-use Prim.Native.Nat.{ℕ, suc}
+use Prim.Native.Nat.{ℕ, suc, _+_}
 use lib.Dec.{eqb, ltb}
 use Rattle.day.specs.declared.Totals.{Totals}
 use Rattle.day.specs.Sums.{at, sumTo}
 use Rattle.day.specs.Find.{find}
-use Rattle.day.specs.Day.{Day, periods, demandTo}
+use Rattle.day.specs.Day.{Day, periods, dueTo}
 use Rattle.day.specs.Plan.{cost, setups}
 use Rattle.weigher.specs.declared.Rule.{Rule}
 use Rattle.weigher.specs.declared.Rule.the-variants.{AboveCapacity, Short, Over}
@@ -19,13 +19,13 @@ use Rattle.weigher.specs.declared.Verdict.the-variants.{Holds, Broken}
 abbrev pub aboveAt : Day → (ℕ → ℕ) → ℕ → Bool
 aboveAt d x k = ltb (at (d .capacity) k) (x k)
 
--- the charge left would be below 0
+-- the charge left, A + X − R, would be below 0, or is below Z in period n
 abbrev pub shortAt : Day → (ℕ → ℕ) → ℕ → Bool
-shortAt d x k = ltb (sumTo x (suc k)) (demandTo d (suc k))
+shortAt d x k = ltb (d .opening + sumTo x (suc k)) (dueTo d (suc k))
 
--- charge is left after the last period
+-- it is above Z in period n
 abbrev pub overAt : Day → (ℕ → ℕ) → ℕ → Bool
-overAt d x k = eqb (suc k) (periods d) && ltb (demandTo d (suc k)) (sumTo x (suc k))
+overAt d x k = eqb (suc k) (periods d) && ltb (dueTo d (suc k)) (d .opening + sumTo x (suc k))
 
 -- a period breaks some rule
 abbrev pub breaks : Day → (ℕ → ℕ) → ℕ → Bool

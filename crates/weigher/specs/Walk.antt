@@ -8,7 +8,7 @@ use native.Mathlib.Nat.{add-assoc}
 use lib.Dec.{eqb, ltb}
 use lib.ListN.{length}
 use Rattle.day.specs.Sums.{at, sumTo}
-use Rattle.day.specs.Day.{Day, periods, demandTo, maxPeriods}
+use Rattle.day.specs.Day.{Day, periods, dueOf, demandTo, maxPeriods}
 use Rattle.day.specs.Plan.{making, costTo, Feasible, setupAt, setups}
 use Rattle.checks.specs.Passed.{SameLengths}
 use Rattle.weigher.specs.declared.Rule.{Rule}
@@ -21,9 +21,9 @@ use Rattle.weigher.specs.declared.Ruling.{Ruling}
 use Rattle.weigher.specs.declared.Ruling.the-variants.{Kept, Broke}
 use Rattle.weigher.specs.Verdict.{breaks, ruleOf, ruleAt}
 
--- the sums through the first i periods: sum (1), setups, X_i and R_i
+-- the sums through the first i periods: sum (1), setups, A + X_i and R_i
 abbrev pub sumsTo : Day → (ℕ → ℕ) → ℕ → Sums
-sumsTo d x i = record { cost = costTo d x i; setups = setups i x; made = sumTo x i; demanded = demandTo d i }
+sumsTo d x i = record { cost = costTo d x i; setups = setups i x; supplied = d .opening + sumTo x i; demanded = demandTo d i }
 
 -- a broken rule, or the sums
 abbrev pub rulingOn : Bool → Rule → Sums → Ruling
@@ -37,18 +37,19 @@ rulingAt d x k = rulingOn (breaks d x k) (ruleAt d x k) (sumsTo d x (suc k))
 -- the same from one period's entries and the sums before it, in the report's order: what making costs, then the holding cost
 abbrev pub nextOf : Entries → ℕ → Sums → Sums
 nextOf p x s = record {
-  cost = s .cost + making (p .setup) (p .unit) x + p .holding * (s .made + x - (s .demanded + p .demand));
+  cost = s .cost + making (p .setup) (p .unit) x + p .holding * (s .supplied + x - (s .demanded + p .demand));
   setups = s .setups + setupAt x;
-  made = s .made + x;
+  supplied = s .supplied + x;
   demanded = s .demanded + p .demand;
 }
 
-abbrev pub rulingOf : Entries → ℕ → (last : Bool) → Sums → Ruling
-rulingOf p x last s =
+abbrev pub rulingOf : Entries → ℕ → (last : Bool) → Sums → (closing : ℕ) → Ruling
+rulingOf p x last s closing =
     let t = nextOf p x s in
+    let due = dueOf last (t .demanded) closing in
     let above = ltb (p .capacity) x in
-    let short = ltb (t .made) (t .demanded) in
-    let over = last && ltb (t .demanded) (t .made) in
+    let short = ltb (t .supplied) due in
+    let over = last && ltb due (t .supplied) in
     rulingOn (above || short || over) (ruleOf above short) t
 
 -- the entries of period k + 1
@@ -62,14 +63,15 @@ entriesAt d k = record {
 }
 
 -- from the sums before a period, its entries give what the report says of it
-pub ruling-is : (d : Day) (x : ℕ → ℕ) (k : ℕ) → rulingOf (entriesAt d k) (x k) (eqb (suc k) (periods d)) (sumsTo d x k) ≡ rulingAt d x k
-ruling-is d x k = rw add-assoc refl
+pub ruling-is : (d : Day) (x : ℕ → ℕ) (k : ℕ)
+    → rulingOf (entriesAt d k) (x k) (eqb (suc k) (periods d)) (sumsTo d x k) (d .closing) ≡ rulingAt d x k
+ruling-is d x k = rw (add-assoc (d .opening), add-assoc (costTo d x k)) refl
 
 -- sums that leave room for one period more
 pub record Room (s : Sums) : Type 0 where
   pub cost : s .cost < 2 ^ 63
   pub setups : s .setups < 2 ^ 7
-  pub made : s .made < 2 ^ 23
+  pub supplied : s .supplied < 2 ^ 23
   pub demanded : s .demanded < 2 ^ 23
 
 -- tables of one length, at most 96, and a plan that has an amount for each period
@@ -83,10 +85,11 @@ pub record FeasiblePlan (d : Day) (plan : List ℕ) : Type 0 where
   pub weighable : Weighable d plan
   pub feasible : Feasible d (at plan)
 
--- period i + 1 is to be judged, and s holds the sums through those before it
+-- period i + 1 is to be judged, A has 16 bits, and s holds the sums through the periods before it
 pub record NextPeriod (d : Day) (plan : List ℕ) (i : ℕ) (s : Sums) : Type 0 where
   pub weighable : Weighable d plan
   pub inside : i < periods d
+  pub opening : d .opening < 2 ^ 16
   pub sums : s ≡ sumsTo d (at plan) i
 
 -- the cost that an answer holds, where it holds one, fits a signed 64-bit number

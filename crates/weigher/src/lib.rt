@@ -1,5 +1,5 @@
 //! Weighs a given plan of a day: whether it keeps the report's conditions, what it costs, how two plans compare.
-//! (Document 01, "The weigher".) What the answers mean is in specs/.
+//! (Document 01, "The weigher"; document 02, 2.1.) What the answers mean is in specs/.
 ghost use mathlib.Core.Path.{_≡_};
 ghost use Prim.Native.Nat.{_^_, _<_};
 ghost use lib.IntN.{pos, _-ℤ_};
@@ -10,6 +10,7 @@ ghost use Rattle.weigher.specs.Verdict.{totalsOf, verdictOf};
 ghost use Rattle.weigher.specs.Answers.{Weighs, Compares, compareOf, ruleNumber};
 ghost use Rattle.weigher.specs.Walk.{rulingOf, rulingAt, Room, Weighable, FeasiblePlan, NextPeriod, Signed};
 use day::Check;
+use day::Ends;
 use day::Refusal;
 use day::Totals;
 
@@ -17,9 +18,9 @@ use day::Totals;
 pub enum Rule {
     // An amount above its period's capacity.
     AboveCapacity,
-    // Less made than demanded so far.
+    // The inventory would be below 0, or is below the closing one after the last period.
     Short,
-    // Something left after the last period (document 01: charge over at the end).
+    // The inventory after the last period is above the closing one (document 01: charge over at the end).
     Over,
 }
 
@@ -63,11 +64,12 @@ struct Entries {
     holding: u32,
 }
 
-// The sums through the periods judged so far.
+// The sums through the periods judged so far. What was made is counted on top of the opening inventory: A + X, so that the
+// inventory is `supplied` less `demanded`.
 struct Sums {
     cost: u64,
     setups: u64,
-    made: u64,
+    supplied: u64,
     demanded: u64,
 }
 
@@ -78,28 +80,29 @@ enum Ruling {
 }
 
 // One period's rules in their order, then what making costs, then the holding cost.
-fn judge(p: Entries, amount: u16, last: bool, s: Sums) -> Ruling
+fn judge(p: Entries, amount: u16, last: bool, s: Sums, closing: u16) -> Ruling
     requires { ⌜ Room s ⌝ }
-    ensures { λ r. ⌜ r ≡ rulingOf p amount last s ⌝ }
+    ensures { λ r. ⌜ r ≡ rulingOf p amount last s closing ⌝ }
 {
-    let made = s.made + (amount as u64);
+    let supplied = s.supplied + (amount as u64);
     let demanded = s.demanded + (p.demand as u64);
+    let due = checks::due(demanded, closing, last);
     if p.capacity < amount {
         return Ruling::Broke(Rule::AboveCapacity);
     }
-    if made < demanded {
+    if supplied < due {
         return Ruling::Broke(Rule::Short);
     }
-    if last && demanded < made {
+    if last && due < supplied {
         return Ruling::Broke(Rule::Over);
     }
     let making = s.cost + terms::making_cost(p.setup, p.unit, amount as u64);
-    let cost = making + terms::holding_cost(p.holding, made - demanded);
+    let cost = making + terms::holding_cost(p.holding, supplied - demanded);
     let setups = s.setups + terms::setup_of(amount);
     Ruling::Kept(Sums {
         cost,
         setups,
-        made,
+        supplied,
         demanded,
     })
 }
@@ -114,9 +117,10 @@ fn advance(
     plan: &[u16],
     i: usize,
     s: Sums,
+    ends: Ends,
 ) -> Ruling
-    requires { ⌜ NextPeriod (dayOf (now demand) (now capacity) (now setup) (now unit) (now holding)) (now plan) i s ⌝ }
-    ensures { λ r. ⌜ r ≡ rulingAt (dayBefore demand capacity setup unit holding) (at (now (plan .entry))) i ⌝ }
+    requires { ⌜ NextPeriod (dayOf (now demand) (now capacity) (now setup) (now unit) (now holding) ends) (now plan) i s ⌝ }
+    ensures { λ r. ⌜ r ≡ rulingAt (dayBefore demand capacity setup unit holding ends) (at (now (plan .entry))) i ⌝ }
 {
     let p = Entries {
         demand: demand[i],
@@ -125,7 +129,7 @@ fn advance(
         unit: unit[i],
         holding: holding[i],
     };
-    judge(p, plan[i], i + 1 == demand.len(), s)
+    judge(p, plan[i], i + 1 == demand.len(), s, ends.closing)
 }
 
 // The verdict, period by period.
@@ -136,19 +140,20 @@ fn walk(
     unit: &[u32],
     holding: &[u32],
     plan: &[u16],
+    ends: Ends,
 ) -> Verdict
-    requires { ⌜ Weighable (dayOf (now demand) (now capacity) (now setup) (now unit) (now holding)) (now plan) ⌝ }
-    ensures { λ r. ⌜ r ≡ verdictOf (dayBefore demand capacity setup unit holding) (at (now (plan .entry))) ⌝ }
+    requires { ⌜ Weighable (dayOf (now demand) (now capacity) (now setup) (now unit) (now holding) ends) (now plan) ⌝ }
+    ensures { λ r. ⌜ r ≡ verdictOf (dayBefore demand capacity setup unit holding ends) (at (now (plan .entry))) ⌝ }
 {
     let mut s = Sums {
         cost: 0,
         setups: 0,
-        made: 0,
+        supplied: ends.opening as u64,
         demanded: 0,
     };
     let mut i = 0;
     while i < demand.len() {
-        match advance(demand, capacity, setup, unit, holding, plan, i, s) {
+        match advance(demand, capacity, setup, unit, holding, plan, i, s, ends) {
             Ruling::Broke(rule) => {
                 return Verdict::Broken(rule, (i + 1) as u16);
             }
@@ -172,11 +177,12 @@ pub fn totals(
     unit: &[u32],
     holding: &[u32],
     plan: &[u16],
+    ends: Ends,
 ) -> Totals
-    requires { ⌜ FeasiblePlan (dayOf (now demand) (now capacity) (now setup) (now unit) (now holding)) (now plan) ⌝ }
-    ensures { λ r. ⌜ r ≡ totalsOf (dayBefore demand capacity setup unit holding) (at (now (plan .entry))) ⌝ }
+    requires { ⌜ FeasiblePlan (dayOf (now demand) (now capacity) (now setup) (now unit) (now holding) ends) (now plan) ⌝ }
+    ensures { λ r. ⌜ r ≡ totalsOf (dayBefore demand capacity setup unit holding ends) (at (now (plan .entry))) ⌝ }
 {
-    match walk(demand, capacity, setup, unit, holding, plan) {
+    match walk(demand, capacity, setup, unit, holding, plan, ends) {
         Verdict::Holds(t) => t,
         Verdict::Broken(_, _) => Totals { cost: 0, setups: 0 },
     }
@@ -190,16 +196,17 @@ pub fn weigh(
     unit: &[u32],
     holding: &[u32],
     plan: &[u16],
+    ends: Ends,
 ) -> Weighed
-    ensures { λ r. ⌜ Weighs (dayBefore demand capacity setup unit holding) (now (plan .entry)) r ⌝ }
+    ensures { λ r. ⌜ Weighs (dayBefore demand capacity setup unit holding ends) (now (plan .entry)) r ⌝ }
 {
-    if let Check::Refused(r) = checks::day(demand, capacity, setup, unit, holding) {
+    if let Check::Refused(r) = checks::day(demand, capacity, setup, unit, holding, ends) {
         return Weighed::Refused(r);
     }
     if plan.len() < demand.len() {
         return Weighed::Refused(Refusal::FewSlots);
     }
-    Weighed::Judged(walk(demand, capacity, setup, unit, holding, plan))
+    Weighed::Judged(walk(demand, capacity, setup, unit, holding, plan, ends))
 }
 
 // One cost less another.
@@ -239,10 +246,11 @@ pub fn compare(
     holding: &[u32],
     plan: &[u16],
     other: &[u16],
+    ends: Ends,
 ) -> Compared
-    ensures { λ r. ⌜ Compares (dayBefore demand capacity setup unit holding) (now (plan .entry)) (now (other .entry)) r ⌝ }
+    ensures { λ r. ⌜ Compares (dayBefore demand capacity setup unit holding ends) (now (plan .entry)) (now (other .entry)) r ⌝ }
 {
-    let first = weigh(demand, capacity, setup, unit, holding, plan);
-    let second = weigh(demand, capacity, setup, unit, holding, other);
+    let first = weigh(demand, capacity, setup, unit, holding, plan, ends);
+    let second = weigh(demand, capacity, setup, unit, holding, other, ends);
     comparison(first, second)
 }

@@ -2,7 +2,7 @@
 //! tells of an input or an output that fails.
 //!
 //!     programs [SEED]
-use outside::input::{self, Call, Size};
+use outside::input::{self, Call, Ends, Size};
 use outside::plain::{self, Day, Path};
 use outside::random::Random;
 use std::fs::{self, File};
@@ -14,8 +14,8 @@ use std::time::Duration;
 
 const SEED: u64 = 1979;
 
-/// Document 01's: the longest file that the program reads, and the cells of its areas.
-const LONGEST: usize = 1635;
+/// The papers': the longest file that the program reads, and the cells of its areas.
+const LONGEST: usize = 1640;
 const COSTS: usize = 1000;
 const CHOICES: usize = 24_000;
 
@@ -28,7 +28,7 @@ fn printed(file: &[u8]) -> String {
     if let Some(refusal) = plain::read_refusals(file, plain::MAX_PERIODS).first() {
         return refused(refusal);
     }
-    let day = plain::day_in(file, plain::walk(file).unwrap());
+    let day = plain::day_in(file, &plain::walk(file).unwrap());
     if let Some(refusal) = plain::path_refusals(Path::Full, &day, COSTS, CHOICES, plain::MAX_PERIODS).first() {
         return refused(refusal);
     }
@@ -37,7 +37,7 @@ fn printed(file: &[u8]) -> String {
     let mut made = 0;
     for (i, &amount) in planned.plan.iter().enumerate() {
         made += amount as u64;
-        text += &format!("{} made {amount} left {}\n", i + 1, made - day.demand_to(i + 1));
+        text += &format!("{} made {amount} left {}\n", i + 1, day.left(i + 1, made));
     }
     text
 }
@@ -51,28 +51,38 @@ fn day(n: usize, total: usize) -> Day {
         setup: cost(7, 50),
         unit: cost(3, 5),
         holding: cost(5, 4),
+        opening: 0,
+        closing: 0,
     }
 }
 
-/// Files with what document 01 says of them, where it is in one line.
-fn files() -> Vec<(&'static str, Vec<u8>, Option<&'static str>)> {
+/// A file, what it is, and what the papers say of it, where it is in one line.
+type Case = (&'static str, Vec<u8>, Option<&'static str>);
+
+fn with(mut file: Vec<u8>, more: &[u8]) -> Vec<u8> {
+    file.extend(more);
+    file
+}
+
+fn m4() -> Day {
+    let (demand, capacity) = (vec![2, 3], vec![5; 2]);
+    Day { demand, capacity, setup: vec![10; 2], unit: vec![1; 2], holding: vec![1; 2], opening: 0, closing: 0 }
+}
+
+/// Files of days without charge at their ends.
+fn files() -> Vec<Case> {
     let longest = plain::file_of(&day(96, 200));
-    assert_eq!(longest.len(), LONGEST);
-    let with = |mut file: Vec<u8>, more: &[u8]| {
-        file.extend(more);
-        file
-    };
+    assert_eq!(longest.len(), LONGEST - 5);
     let of = |n, total| plain::file_of(&day(n, total));
-    let m3 = Day { demand: vec![2], capacity: vec![1], setup: vec![5], unit: vec![2], holding: vec![9] };
-    let m4 = Day { demand: vec![2, 3], capacity: vec![5; 2], setup: vec![10; 2], unit: vec![1; 2], holding: vec![1; 2] };
+    let m3 = Day { demand: vec![2], capacity: vec![1], setup: vec![5], unit: vec![2], holding: vec![9], opening: 0, closing: 0 };
     vec![
         ("M3", plain::file_of(&m3), Some("refused 7 period 1\n")),
-        ("M4", plain::file_of(&m4), Some("periods 2 cost 18 starts 1\n1 made 5 left 3\n2 made 0 left 0\n")),
+        ("M4", plain::file_of(&m4()), Some("periods 2 cost 18 starts 1\n1 made 5 left 3\n2 made 0 left 0\n")),
         ("an empty file", vec![], Some("refused 11 period 0\n")),
         ("1,635 bytes", longest.clone(), None),
         ("1,636 bytes", with(longest.clone(), &[0]), Some("refused 12 period 0\n")),
-        ("1,636 bytes that begin with an unknown kind", vec![7; LONGEST + 1], Some("refused 12 period 0\n")),
-        ("1,635 bytes of an unknown kind", vec![7; LONGEST], Some("refused 10 period 0\n")),
+        ("1,641 bytes that begin with an unknown kind", vec![7; LONGEST + 1], Some("refused 12 period 0\n")),
+        ("1,640 bytes of an unknown kind", vec![7; LONGEST], Some("refused 10 period 0\n")),
         ("97 periods", of(97, 200), Some("refused 12 period 0\n")),
         ("one file after another", with(longest.clone(), &longest), Some("refused 12 period 0\n")),
         ("no periods", vec![2, 0, 0], Some("refused 1 period 0\n")),
@@ -85,6 +95,47 @@ fn files() -> Vec<(&'static str, Vec<u8>, Option<&'static str>)> {
         ("2 periods, two cost cells too few", of(2, 500), Some("refused 5 period 0\n")),
         ("1 period, all cost cells", of(1, 499), None),
         ("1 period, two cost cells too few", of(1, 500), Some("refused 5 period 0\n")),
+    ]
+}
+
+/// Files of days with charge at their ends, or with its record where it must not be.
+fn files_with_ends() -> Vec<Case> {
+    let ends = |day: Day, opening, closing| plain::file_of(&Day { opening, closing, ..day });
+    let longest = ends(day(96, 200), 20, 30);
+    assert_eq!(longest.len(), LONGEST);
+    let m4_with = |opening, closing| ends(m4(), opening, closing);
+    // what is left has four digits in every period but the last, and what is made three in some
+    let mut full = Day { demand: vec![0; 96], capacity: vec![249; 96], ..day(96, 0) };
+    full.demand[95] = 4096;
+    full.holding = vec![1_000_000; 96];
+    full.setup = vec![1_000_000_000; 96];
+    vec![
+        ("M4 with both ends", m4_with(1, 1), Some("periods 2 cost 20 starts 1\n1 made 5 left 4\n2 made 0 left 1\n")),
+        ("M4 with an opening charge", m4_with(2, 0), Some("periods 2 cost 13 starts 1\n1 made 0 left 0\n2 made 3 left 0\n")),
+        ("M4 with a closing charge", m4_with(0, 5), Some("periods 2 cost 38 starts 2\n1 made 5 left 3\n2 made 5 left 5\n")),
+        ("M4 with nothing to make", m4_with(6, 1), Some("periods 2 cost 5 starts 0\n1 made 0 left 4\n2 made 0 left 1\n")),
+        ("M4 with more than it asks for", m4_with(7, 1), Some("refused 14 period 0\n")),
+        ("M4 with the most that there is", m4_with(65_535, 0), Some("refused 14 period 0\n")),
+        ("M4, more to hand on than can be made", m4_with(0, 6), Some("refused 7 period 2\n")),
+        ("M4, asking for 4,096", m4_with(3600, 4091), Some("refused 7 period 2\n")),
+        ("M4, asking for 4,096 in larger areas than there are", m4_with(3596, 4091), Some("refused 5 period 0\n")),
+        ("M4, asking for 4,097", m4_with(65_535, 4092), Some("refused 4 period 0\n")),
+        ("M4 with zeros for ends", with(plain::charge_record(0, 0), &m4_with(0, 0)), Some("refused 12 period 0\n")),
+        ("M4 with its ends twice", with(plain::charge_record(1, 1), &m4_with(1, 1)), Some("refused 12 period 0\n")),
+        ("M4 with its ends last", with(m4_with(0, 0), &plain::charge_record(1, 1)), Some("refused 12 period 0\n")),
+        ("ends cut short", vec![3, 0, 1, 0], Some("refused 11 period 0\n")),
+        ("ends alone", vec![3, 0, 1, 0, 0], Some("refused 11 period 0\n")),
+        ("ends and no periods", vec![3, 0, 1, 0, 0, 2, 0, 0], Some("refused 1 period 0\n")),
+        ("1,640 bytes", longest.clone(), None),
+        ("1,641 bytes", with(longest.clone(), &[0]), Some("refused 12 period 0\n")),
+        ("1,641 bytes, the first of them a second record of ends cut short", with(vec![3], &longest), Some("refused 12 period 0\n")),
+        ("97 periods with ends", ends(day(97, 200), 1, 1), Some("refused 12 period 0\n")),
+        ("96 periods with ends, all choice cells", ends(day(96, 300), 60, 9), None),
+        ("96 periods with ends, one unit too much to hand on", ends(day(96, 300), 60, 10), Some("refused 5 period 0\n")),
+        ("2 periods with ends, all cost cells", ends(day(2, 1000), 502, 1), None),
+        ("2 periods with ends, two cost cells too few", ends(day(2, 1000), 501, 1), Some("refused 5 period 0\n")),
+        ("much charge, nothing to make", ends(full.clone(), 4096, 0), None),
+        ("much charge, all choice cells", ends(full, 3847, 0), None),
     ]
 }
 
@@ -169,21 +220,23 @@ fn main() {
     };
     let root = PathBuf::from(env!("CARGO_MANIFEST_DIR")).parent().unwrap().to_path_buf();
     let mut runs = Runs { root, count: 0 };
-    for (what, file, line) in files() {
+    for (what, file, line) in files().into_iter().chain(files_with_ends()) {
         if let Some(line) = line {
             assert_eq!(printed(&file), line, "{what}");
         }
         runs.on_file(what, &file);
     }
     let mut random = Random::new(seed);
-    for _ in 0..60 {
-        let size = random.pick(&[Size::Tiny, Size::Middle, Size::Long]);
-        let file = input::valid(&mut random, Call::Read, size).file;
-        runs.on_file("a made-up file", &file);
-        let file = input::changed(&mut random, Call::Read, size).file;
-        runs.on_file("a changed file", &file);
+    for (ends, times) in [(Ends::Zero, 60), (Ends::Any, 40)] {
+        for _ in 0..times {
+            let size = random.pick(&[Size::Tiny, Size::Middle, Size::Long]);
+            let file = input::valid(&mut random, Call::Read, size, ends).file;
+            runs.on_file("a made-up file", &file);
+            let file = input::changed(&mut random, Call::Read, size, ends).file;
+            runs.on_file("a changed file", &file);
+        }
     }
-    let longest = plain::file_of(&day(96, 249));
+    let longest = plain::file_of(&Day { closing: 1, opening: 1, ..day(96, 249) });
     for piece in [1, 16, 100, 1000] {
         runs.in_pieces(&longest, piece);
     }

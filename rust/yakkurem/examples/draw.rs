@@ -1,7 +1,7 @@
 //! Plans a day of 96 quarter hours and draws it as an SVG: need and amounts made above, charge left below.
 //!
 //!     cargo run --offline --release --package yakkurem --example draw > docs/day.svg
-use yakkurem::{full, Memory, Tables};
+use yakkurem::{full, Day, Memory};
 
 const PERIODS: usize = 96;
 
@@ -72,7 +72,7 @@ fn main() {
     let (capacity, setup, holding) = (vec![60; PERIODS], vec![5000; PERIODS], vec![6; PERIODS]);
     let total: usize = demand.iter().map(|&need| need as usize).sum();
     let (mut costs, mut choices, mut amounts) = (vec![0; 2 * (total + 1)], vec![0; PERIODS * (total + 1)], vec![0; PERIODS]);
-    let day = Tables { demand: &demand, capacity: &capacity, setup: &setup, unit: &unit, holding: &holding };
+    let day = Day { demand: &demand, capacity: &capacity, setup: &setup, unit: &unit, holding: &holding, opening: 0, closing: 0 };
     let memory = Memory { costs: &mut costs, choices: &mut choices, slots: &mut amounts };
     let planned = full(day, memory).expect("a day with a plan");
 

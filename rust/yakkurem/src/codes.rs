@@ -1,115 +1,88 @@
 //! The calls with their codes and out-arrays, as include/yakkurem.h has them. A slice goes over as its pointer and its length.
 //! The library reads and writes only inside these, keeps no pointer, and asks nothing of its caller: so every call is safe.
-use crate::{Memory, Tables, TablesMut};
+use crate::{Day, Memory, TablesMut};
 
-type Path = unsafe extern "C" fn(
-    *const u16,
-    usize,
-    *const u16,
-    usize,
-    *const u32,
-    usize,
-    *const u32,
-    usize,
-    *const u32,
-    usize,
-    *mut u64,
-    usize,
-    *mut u16,
-    usize,
-    *mut u16,
-    usize,
-    *mut u64,
-) -> u64;
+/// Declares calls that begin with a day: need, capacity, start, unit and upkeep, each with its length; opening, closing.
+macro_rules! calls_of_a_day {
+    ($(fn $call:ident($($more:ty),*);)*) => {
+        extern "C" {
+            $(fn $call(
+                _: *const u16, _: usize, _: *const u16, _: usize, _: *const u32, _: usize, _: *const u32, _: usize, _: *const u32, _: usize,
+                _: u16, _: u16, $(_: $more),*
+            ) -> u64;)*
+        }
+    };
+}
+
+/// Calls one of them.
+macro_rules! call_with_day {
+    ($call:ident, $day:ident, $($more:expr),*) => {{
+        let Day { demand, capacity, setup, unit, holding, opening, closing } = $day;
+        unsafe {
+            $call(
+                demand.as_ptr(), demand.len(), capacity.as_ptr(), capacity.len(), setup.as_ptr(), setup.len(), unit.as_ptr(), unit.len(),
+                holding.as_ptr(), holding.len(), opening, closing, $($more),*
+            )
+        }
+    }};
+}
+
+/// Calls one that is a path.
+macro_rules! call_path {
+    ($call:ident, $day:ident, $memory:ident, $answer:ident) => {{
+        let Memory { costs, choices, slots } = $memory;
+        let (cost_cells, choice_cells, slot_count) = (costs.len(), choices.len(), slots.len());
+        let (costs, choices, slots) = (costs.as_mut_ptr(), choices.as_mut_ptr(), slots.as_mut_ptr());
+        call_with_day!($call, $day, costs, cost_cells, choices, choice_cells, slots, slot_count, $answer.as_mut_ptr())
+    }};
+}
+
+calls_of_a_day! {
+    fn yakkurem_full(*mut u64, usize, *mut u16, usize, *mut u16, usize, *mut u64);
+    fn yakkurem_uncapped(*mut u64, usize, *mut u16, usize, *mut u16, usize, *mut u64);
+    fn yakkurem_equal(*mut u64, usize, *mut u16, usize, *mut u16, usize, *mut u64);
+    fn yakkurem_weigh(*const u16, usize, *mut u64);
+    fn yakkurem_compare(*const u16, usize, *const u16, usize, *mut i64);
+    fn yakkurem_write(*mut u8, usize, *mut u64);
+}
 
 #[rustfmt::skip]
 extern "C" {
-    fn yakkurem_full(
-        need: *const u16, _: usize, capacity: *const u16, _: usize, start: *const u32, _: usize, unit: *const u32, _: usize, upkeep: *const u32, _: usize,
-        cost_area: *mut u64, _: usize, choice_area: *mut u16, _: usize, slots: *mut u16, _: usize, answer: *mut u64,
-    ) -> u64;
-    fn yakkurem_uncapped(
-        need: *const u16, _: usize, capacity: *const u16, _: usize, start: *const u32, _: usize, unit: *const u32, _: usize, upkeep: *const u32, _: usize,
-        cost_area: *mut u64, _: usize, choice_area: *mut u16, _: usize, slots: *mut u16, _: usize, answer: *mut u64,
-    ) -> u64;
-    fn yakkurem_equal(
-        need: *const u16, _: usize, capacity: *const u16, _: usize, start: *const u32, _: usize, unit: *const u32, _: usize, upkeep: *const u32, _: usize,
-        cost_area: *mut u64, _: usize, choice_area: *mut u16, _: usize, slots: *mut u16, _: usize, answer: *mut u64,
-    ) -> u64;
-    fn yakkurem_weigh(
-        need: *const u16, _: usize, capacity: *const u16, _: usize, start: *const u32, _: usize, unit: *const u32, _: usize, upkeep: *const u32, _: usize,
-        plan: *const u16, _: usize, answer: *mut u64,
-    ) -> u64;
-    fn yakkurem_compare(
-        need: *const u16, _: usize, capacity: *const u16, _: usize, start: *const u32, _: usize, unit: *const u32, _: usize, upkeep: *const u32, _: usize,
-        first: *const u16, _: usize, second: *const u16, _: usize, difference: *mut i64,
-    ) -> u64;
     fn yakkurem_read(
         file: *const u8, _: usize,
         need: *mut u16, _: usize, capacity: *mut u16, _: usize, start: *mut u32, _: usize, unit: *mut u32, _: usize, upkeep: *mut u32, _: usize,
-        periods: *mut u64,
+        day: *mut u64,
     ) -> u64;
     fn yakkurem_lookup(file: *const u8, _: usize, period: usize, part: *mut u64) -> u64;
-    fn yakkurem_write(
-        need: *const u16, _: usize, capacity: *const u16, _: usize, start: *const u32, _: usize, unit: *const u32, _: usize, upkeep: *const u32, _: usize,
-        out: *mut u8, _: usize, count: *mut u64,
-    ) -> u64;
+}
+
+pub fn full(day: Day, memory: Memory, answer: &mut [u64; 2]) -> u64 {
+    call_path!(yakkurem_full, day, memory, answer)
+}
+
+pub fn uncapped(day: Day, memory: Memory, answer: &mut [u64; 2]) -> u64 {
+    call_path!(yakkurem_uncapped, day, memory, answer)
+}
+
+pub fn equal(day: Day, memory: Memory, answer: &mut [u64; 2]) -> u64 {
+    call_path!(yakkurem_equal, day, memory, answer)
+}
+
+pub fn weigh(day: Day, plan: &[u16], answer: &mut [u64; 2]) -> u64 {
+    call_with_day!(yakkurem_weigh, day, plan.as_ptr(), plan.len(), answer.as_mut_ptr())
+}
+
+pub fn compare(day: Day, first: &[u16], second: &[u16], difference: &mut [i64; 1]) -> u64 {
+    call_with_day!(yakkurem_compare, day, first.as_ptr(), first.len(), second.as_ptr(), second.len(), difference.as_mut_ptr())
 }
 
 #[rustfmt::skip]
-fn path(call: Path, day: Tables, memory: Memory, answer: &mut [u64; 2]) -> u64 {
-    let Tables { demand, capacity, setup, unit, holding } = day;
-    let Memory { costs, choices, slots } = memory;
-    unsafe {
-        call(
-            demand.as_ptr(), demand.len(), capacity.as_ptr(), capacity.len(), setup.as_ptr(), setup.len(), unit.as_ptr(), unit.len(), holding.as_ptr(), holding.len(),
-            costs.as_mut_ptr(), costs.len(), choices.as_mut_ptr(), choices.len(), slots.as_mut_ptr(), slots.len(), answer.as_mut_ptr(),
-        )
-    }
-}
-
-pub fn full(day: Tables, memory: Memory, answer: &mut [u64; 2]) -> u64 {
-    path(yakkurem_full, day, memory, answer)
-}
-
-pub fn uncapped(day: Tables, memory: Memory, answer: &mut [u64; 2]) -> u64 {
-    path(yakkurem_uncapped, day, memory, answer)
-}
-
-pub fn equal(day: Tables, memory: Memory, answer: &mut [u64; 2]) -> u64 {
-    path(yakkurem_equal, day, memory, answer)
-}
-
-#[rustfmt::skip]
-pub fn weigh(day: Tables, plan: &[u16], answer: &mut [u64; 2]) -> u64 {
-    let Tables { demand, capacity, setup, unit, holding } = day;
-    unsafe {
-        yakkurem_weigh(
-            demand.as_ptr(), demand.len(), capacity.as_ptr(), capacity.len(), setup.as_ptr(), setup.len(), unit.as_ptr(), unit.len(), holding.as_ptr(), holding.len(),
-            plan.as_ptr(), plan.len(), answer.as_mut_ptr(),
-        )
-    }
-}
-
-#[rustfmt::skip]
-pub fn compare(day: Tables, first: &[u16], second: &[u16], difference: &mut [i64; 1]) -> u64 {
-    let Tables { demand, capacity, setup, unit, holding } = day;
-    unsafe {
-        yakkurem_compare(
-            demand.as_ptr(), demand.len(), capacity.as_ptr(), capacity.len(), setup.as_ptr(), setup.len(), unit.as_ptr(), unit.len(), holding.as_ptr(), holding.len(),
-            first.as_ptr(), first.len(), second.as_ptr(), second.len(), difference.as_mut_ptr(),
-        )
-    }
-}
-
-#[rustfmt::skip]
-pub fn read(file: &[u8], tables: TablesMut, periods: &mut [u64; 1]) -> u64 {
+pub fn read(file: &[u8], tables: TablesMut, day: &mut [u64; 3]) -> u64 {
     let TablesMut { demand, capacity, setup, unit, holding } = tables;
     unsafe {
         yakkurem_read(
-            file.as_ptr(), file.len(),
-            demand.as_mut_ptr(), demand.len(), capacity.as_mut_ptr(), capacity.len(), setup.as_mut_ptr(), setup.len(), unit.as_mut_ptr(), unit.len(), holding.as_mut_ptr(), holding.len(),
-            periods.as_mut_ptr(),
+            file.as_ptr(), file.len(), demand.as_mut_ptr(), demand.len(), capacity.as_mut_ptr(), capacity.len(), setup.as_mut_ptr(), setup.len(),
+            unit.as_mut_ptr(), unit.len(), holding.as_mut_ptr(), holding.len(), day.as_mut_ptr(),
         )
     }
 }
@@ -118,13 +91,6 @@ pub fn lookup(file: &[u8], period: usize, part: &mut [u64; 2]) -> u64 {
     unsafe { yakkurem_lookup(file.as_ptr(), file.len(), period, part.as_mut_ptr()) }
 }
 
-#[rustfmt::skip]
-pub fn write(day: Tables, out: &mut [u8], count: &mut [u64; 1]) -> u64 {
-    let Tables { demand, capacity, setup, unit, holding } = day;
-    unsafe {
-        yakkurem_write(
-            demand.as_ptr(), demand.len(), capacity.as_ptr(), capacity.len(), setup.as_ptr(), setup.len(), unit.as_ptr(), unit.len(), holding.as_ptr(), holding.len(),
-            out.as_mut_ptr(), out.len(), count.as_mut_ptr(),
-        )
-    }
+pub fn write(day: Day, out: &mut [u8], count: &mut [u64; 1]) -> u64 {
+    call_with_day!(yakkurem_write, day, out.as_mut_ptr(), out.len(), count.as_mut_ptr())
 }

@@ -3,14 +3,16 @@
 //! Names are lot sizing's. Document 01's: demand is need, setup is start cost, holding is upkeep, setups are starts.
 pub mod codes;
 
-/// A day: one entry a period in each table.
+/// A day: one entry a period in each table, the charge at its beginning, and the charge that it is to hand on.
 #[derive(Clone, Copy)]
-pub struct Tables<'a> {
+pub struct Day<'a> {
     pub demand: &'a [u16],
     pub capacity: &'a [u16],
     pub setup: &'a [u32],
     pub unit: &'a [u32],
     pub holding: &'a [u32],
+    pub opening: u16,
+    pub closing: u16,
 }
 
 /// Tables that a reader fills.
@@ -20,6 +22,14 @@ pub struct TablesMut<'a> {
     pub setup: &'a mut [u32],
     pub unit: &'a mut [u32],
     pub holding: &'a mut [u32],
+}
+
+/// What a reader gives beside the tables: how many of their cells it filled, and the charge at both ends of the day.
+#[derive(Clone, Copy, Debug, PartialEq, Eq)]
+pub struct Filled {
+    pub periods: u64,
+    pub opening: u16,
+    pub closing: u16,
 }
 
 /// What a caller lends a path: its two work areas, and the slots for the plan.
@@ -36,7 +46,7 @@ pub struct Totals {
     pub setups: u64,
 }
 
-/// Document 01's number of a refusal, and the period that it names; 0 where it names none.
+/// The documents' number of a refusal, and the period that it names; 0 where it names none.
 #[derive(Clone, Copy, Debug, PartialEq, Eq)]
 pub struct Refusal {
     pub number: u64,
@@ -78,7 +88,7 @@ fn totals([cost, setups]: [u64; 2]) -> Totals {
 }
 
 /// The plan of any day, by the report's recursion (5).
-pub fn full(day: Tables, memory: Memory) -> Result<Totals, Refusal> {
+pub fn full(day: Day, memory: Memory) -> Result<Totals, Refusal> {
     let mut answer = [0; 2];
     match codes::full(day, memory, &mut answer) {
         0 => Ok(totals(answer)),
@@ -87,7 +97,7 @@ pub fn full(day: Tables, memory: Memory) -> Result<Totals, Refusal> {
 }
 
 /// The plan of a day whose capacities can't bind, after Wagner and Whitin.
-pub fn uncapped(day: Tables, memory: Memory) -> Result<Totals, Refusal> {
+pub fn uncapped(day: Day, memory: Memory) -> Result<Totals, Refusal> {
     let mut answer = [0; 2];
     match codes::uncapped(day, memory, &mut answer) {
         0 => Ok(totals(answer)),
@@ -96,7 +106,7 @@ pub fn uncapped(day: Tables, memory: Memory) -> Result<Totals, Refusal> {
 }
 
 /// The plan of a day with one capacity throughout, after Florian and Klein.
-pub fn equal(day: Tables, memory: Memory) -> Result<Totals, Refusal> {
+pub fn equal(day: Day, memory: Memory) -> Result<Totals, Refusal> {
     let mut answer = [0; 2];
     match codes::equal(day, memory, &mut answer) {
         0 => Ok(totals(answer)),
@@ -105,7 +115,7 @@ pub fn equal(day: Tables, memory: Memory) -> Result<Totals, Refusal> {
 }
 
 /// Weighs somebody's plan.
-pub fn weigh(day: Tables, plan: &[u16]) -> Result<Totals, Fault> {
+pub fn weigh(day: Day, plan: &[u16]) -> Result<Totals, Fault> {
     let mut answer = [0; 2];
     match codes::weigh(day, plan, &mut answer) {
         0 => Ok(totals(answer)),
@@ -114,7 +124,7 @@ pub fn weigh(day: Tables, plan: &[u16]) -> Result<Totals, Fault> {
 }
 
 /// The first plan's cost less the second's.
-pub fn compare(day: Tables, first: &[u16], second: &[u16]) -> Result<i64, Fault> {
+pub fn compare(day: Day, first: &[u16], second: &[u16]) -> Result<i64, Fault> {
     let mut difference = [0];
     match codes::compare(day, first, second, &mut difference) {
         0 => Ok(difference[0]),
@@ -122,11 +132,11 @@ pub fn compare(day: Tables, first: &[u16], second: &[u16]) -> Result<i64, Fault>
     }
 }
 
-/// Fills the tables from a day file, and gives the number of its periods.
-pub fn read(file: &[u8], tables: TablesMut) -> Result<u64, Refusal> {
-    let mut periods = [0];
-    match codes::read(file, tables, &mut periods) {
-        0 => Ok(periods[0]),
+/// Fills the tables from a day file.
+pub fn read(file: &[u8], tables: TablesMut) -> Result<Filled, Refusal> {
+    let mut day = [0; 3];
+    match codes::read(file, tables, &mut day) {
+        0 => Ok(Filled { periods: day[0], opening: day[1] as u16, closing: day[2] as u16 }),
         code => Err(refusal(code)),
     }
 }
@@ -141,7 +151,7 @@ pub fn lookup(file: &[u8], period: usize) -> Result<&[u8], Refusal> {
 }
 
 /// Writes the day file at the front of `out`, and gives the count of its bytes.
-pub fn write(day: Tables, out: &mut [u8]) -> Result<u64, Refusal> {
+pub fn write(day: Day, out: &mut [u8]) -> Result<u64, Refusal> {
     let mut count = [0];
     match codes::write(day, out, &mut count) {
         0 => Ok(count[0]),

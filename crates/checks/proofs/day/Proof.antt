@@ -1,12 +1,10 @@
 -- `checks::day` meets its contract: the first refusal of the tables, or that of the total after them. Assumes nothing.
 use mathlib.Core.Path.{_≡_, refl}
-use mathlib.Core.List.{[], _∷_}
+use mathlib.Core.List.{[]}
 use mathlib.Core.Option.{none}
-use native.Mathlib.Omega.{arith}
 use borrow.Author.Needs.{needs}
-use borrow.Author.Tests.{lt-ltb, le-ltb}
-use Rattle.day.specs.Day.{Day, dayOf, total, maxTotal}
-use Rattle.day.specs.Refusals.{first, tableTests, badTotal}
+use Rattle.day.specs.Day.{Day, dayOf}
+use Rattle.day.specs.Refusals.{first, tableTests, totalTests}
 use Rattle.day.specs.Tests.{passed, group-refused, group-decides}
 use Rattle.checks.specs.Passed.{tables-passed}
 use Rattle.checks.proofs.day.Statement.{statement}
@@ -16,7 +14,7 @@ use Rattle.checks.proofs.day.Tie as tie
 abbrev tables : tie.After-tables → Day
 tables c =
     let a = c .before .before .before .before .before .before .args in
-    dayOf (a .demand .now) (a .capacity .now) (a .setup .now) (a .unit .now) (a .holding .now)
+    dayOf (a .demand .now) (a .capacity .now) (a .setup .now) (a .unit .now) (a .holding .now) (a .ends)
 
 -- the tests of the tables passed
 tested : (c : tie.After-enum-told) → first (tableTests (tables (c .before .before))) ≡ none
@@ -25,22 +23,16 @@ tested c = passed _ (c .before .before .tables .ensures) (c .enum-told .given .1
 returns : tie.Need-returns
 returns c =
     let p = c .before .before .before in
-    group-refused [] (tableTests (tables p)) refl (p .tables .ensures) (badTotal (tables p) ∷ []) (c .before .r .given .1)
+    group-refused [] (tableTests (tables p)) refl (p .tables .ensures) (totalTests (tables p)) (c .before .r .given .1)
 
-total-requires : tie.Need-total-requires
-total-requires c κs = tables-passed (tables (c .before .before)) (tested c) .few
+totals-requires : tie.Need-totals-requires
+totals-requires c κs = tables-passed (tables (c .before .before)) (tested c) .few
 
 returns-2 : tie.Need-returns-2
 returns-2 c =
-    let p = c .before .before in
+    let p = c .before in
     let d = tables (p .before .before) in
-    group-decides (tableTests d) (badTotal d ∷ []) (tested p) (simp (lt-ltb maxTotal (total d) (omega arith)))
-
-returns-3 : tie.Need-returns-3
-returns-3 c =
-    let p = c .before .before in
-    let d = tables (p .before .before) in
-    group-decides (tableTests d) (badTotal d ∷ []) (tested p) (simp (le-ltb maxTotal (total d) (omega arith)))
+    group-decides (tableTests d) (totalTests d) (tested p) (c .totals .ensures)
 
 pub day-spec : {M : Type 1} → statement M
-day-spec = tie.close (tie.spec (λ c κs. search needs) (λ c. search needs) returns (λ c. search needs) total-requires returns-2 returns-3)
+day-spec = tie.close (tie.spec (λ c κs. search needs) (λ c. search needs) returns (λ c. search needs) totals-requires returns-2)

@@ -2,7 +2,7 @@
 use mathlib.Core.Path.{_≡_, refl}
 use mathlib.Core.Option.{none}
 use borrow.Author.Needs.{needs}
-use Rattle.day.specs.Day.{Day, dayOf, periods}
+use Rattle.day.specs.Day.{Day, tablesOf, periods}
 use Rattle.day.specs.Refusals.{badCount, badLengths, badValue}
 use Rattle.day.specs.Tests.{passed, refused, first-one}
 use Rattle.checks.specs.Passed.{count-passed, lengths-passed}
@@ -13,7 +13,7 @@ use Rattle.checks.proofs.tables.Tie as tie
 abbrev tables : tie.After-count → Day
 tables c =
     let a = c .before .before .before .before .before .before .args in
-    dayOf (a .demand .now) (a .capacity .now) (a .setup .now) (a .unit .now) (a .holding .now)
+    tablesOf (a .demand .now) (a .capacity .now) (a .setup .now) (a .unit .now) (a .holding .now)
 
 -- the first test passed, and the second
 counted : (c : tie.After-enum-told) → badCount (periods (tables (c .before .before))) ≡ none

@@ -9,9 +9,9 @@ use lib.ListN.{length}
 use borrow.Author.Tests.{le-ltb}
 use Rattle.day.specs.declared.Refusal.the-variants.{AboveLimit}
 use Rattle.day.specs.Sums.{at}
-use Rattle.day.specs.Day.{Day, dayOf, maxDemand, maxCapacity, maxSetup, maxRate}
+use Rattle.day.specs.Day.{Day, tablesOf, maxDemand, maxCapacity, maxSetup, maxRate}
 use Rattle.day.specs.Refusals.{aboveLimit}
-use Rattle.checks.proofs.Search.{Searched, searched-next, searched-all, refused-here}
+use Rattle.checks.specs.Search.{Searched, searched-next, searched-all, refused-here}
 use Rattle.checks.proofs.values.Statement.{statement}
 use Rattle.checks.proofs.values.Tie as tie
 
@@ -25,7 +25,7 @@ others-decide d k low = simp (le-ltb maxCapacity (at (d .capacity) k) low, or-fa
 
 abbrev Inv-loop : tie.InvT-loop
 Inv-loop demand capacity setup unit holding i₀ i =
-    Searched (aboveLimit (dayOf demand capacity setup unit holding)) (length demand) i
+    Searched (aboveLimit (tablesOf demand capacity setup unit holding)) (length demand) i
 
 abbrev μ-loop : tie.MeasureT-loop
 μ-loop demand capacity setup unit holding i₀ i = length demand - i
@@ -40,7 +40,7 @@ at-loop c = c .before .before .before .before .before .before
 abbrev tables : tie.At-loop Inv-loop μ-loop → Day
 tables c =
     let a = c .before .before .before .before .before .before .args in
-    dayOf (a .demand .now) (a .capacity .now) (a .setup .now) (a .unit .now) (a .holding .now)
+    tablesOf (a .demand .now) (a .capacity .now) (a .setup .now) (a .unit .now) (a .holding .now)
 
 -- the call answers the test of the period
 answered :

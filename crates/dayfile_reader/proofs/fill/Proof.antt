@@ -3,23 +3,25 @@
 use mathlib.Core.Path.{_≡_, refl}
 use Prim.Native.Nat.{_-_}
 use native.Mathlib.Omega.{arith}
+use borrow.Author.Needs.{needs}
 use denote.Ref.{now}
-use Rattle.day.specs.Day.{dayOf}
-use Rattle.dayfile.specs.Layout.{WholePeriod, body-part, period-body}
+use Rattle.day.specs.Day.{tablesOf}
+use Rattle.day.specs.File.{periodKind}
+use Rattle.dayfile.specs.Layout.{WholeRecord, body-part, whole-body}
 use Rattle.dayfile_reader.specs.Tables.{cells-here, PeriodsRead, period-here, read-turn}
 use Rattle.dayfile_reader.proofs.fill.Statement.{statement}
 use Rattle.dayfile_reader.proofs.fill.Tie as tie
 
 abbrev Inv-loop : tie.InvT-loop
 Inv-loop file n demand₀ capacity₀ setup₀ unit₀ holding₀ at₀ k₀ demand capacity setup unit holding at k =
-    PeriodsRead file n (dayOf demand₀ capacity₀ setup₀ unit₀ holding₀) k at (dayOf demand capacity setup unit holding)
+    PeriodsRead file n (tablesOf demand₀ capacity₀ setup₀ unit₀ holding₀) k at (tablesOf demand capacity setup unit holding)
 
 abbrev μ-loop : tie.MeasureT-loop
 μ-loop file n demand₀ capacity₀ setup₀ unit₀ holding₀ at₀ k₀ demand capacity setup unit holding at k = n - k
 
 -- where the call began; in a turn: where it stands, decodes, stores, and has the tables back one by one
 abbrev start : tie.At-loop Inv-loop μ-loop → tie.Start Inv-loop μ-loop
-start c = c .before .before .before .before .before .before .before
+start c = c .before .before .before .before .before .before .before .before
 
 abbrev at-turn : tie.After-decode Inv-loop μ-loop → tie.In-loop Inv-loop μ-loop
 at-turn c = c .before .before .before
@@ -34,14 +36,14 @@ abbrev at-setup : tie.After-slice-known10 Inv-loop μ-loop → tie.After-setup I
 at-setup c = c .before .before .before .before .before
 
 -- a whole period stands there
-turn : (c : tie.In-loop Inv-loop μ-loop) → WholePeriod (now (start (c .before) .args .file)) (c .before .loop .at)
+turn : (c : tie.In-loop Inv-loop μ-loop) → WholeRecord periodKind (now (start (c .before) .args .file)) (c .before .loop .at)
 turn c = period-here _ _ _ _ _ _ (c .before .loop .inv) (start (c .before) .pre .0) (c .loop-test .taken)
 
 loop-holds : tie.Need-loop-holds Inv-loop μ-loop
 loop-holds c =
     record {
       done = omega arith;
-      here = refl;
+      here = c .head-end .ensures;
       tables = refl;
       cells = record { demand = refl; capacity = refl; setup = refl; unit = refl; holding = refl };
     }
@@ -59,7 +61,7 @@ part-decode-end : tie.Need-part-decode-end Inv-loop μ-loop
 part-decode-end c = omega (arith, turn (c .before) .whole, c .next .ensures)
 
 decode-requires : tie.Need-decode-requires Inv-loop μ-loop
-decode-requires c κs = rw (body-part _ _ (c .before .next .ensures)) (period-body _ _ (turn (c .before .before)))
+decode-requires c κs = rw (body-part _ _ (c .before .next .ensures)) (whole-body periodKind _ _ (turn (c .before .before)))
 
 put-requires : tie.Need-put-requires Inv-loop μ-loop
 put-requires c κs =
@@ -85,7 +87,7 @@ pub fill-spec : {M : Type 1} → statement M
 fill-spec =
     tie.close
     (tie.spec
-    Inv-loop μ-loop loop-holds add-start next-requires sub-decode sub-decode part-decode-end decode-requires put-requires
+    Inv-loop μ-loop (λ c κs. search needs) loop-holds add-start next-requires sub-decode sub-decode part-decode-end decode-requires put-requires
     (λ c. omega arith) (λ c. omega arith) loop-again (λ c. c .before .loop .inv .cells .demand)
     (λ c. c .before .loop .inv .cells .capacity) (λ c. c .before .loop .inv .cells .setup)
     (λ c. c .before .loop .inv .cells .unit) (λ c. c .before .loop .inv .cells .holding) returns)

@@ -5,7 +5,7 @@ use mathlib.Core.Option.{none}
 use Prim.Native.Nat.{ℕ}
 use borrow.Author.Needs.{needs}
 use denote.Ref.{now}
-use Rattle.day.specs.Day.{Day, dayOf}
+use Rattle.day.specs.Day.{Day, tablesOf}
 use Rattle.day.specs.Refusals.{checked}
 use Rattle.day.specs.Tests.{passed, refused, is-gives}
 use Rattle.dayfile.specs.Answers.{shortest, badRead}
@@ -23,7 +23,7 @@ file c = now (start (c .before .before) .args .file)
 abbrev lent : tie.After-tests → Day
 lent c =
     let a = start (c .before .before) .args in
-    dayOf (now (a .demand)) (now (a .capacity)) (now (a .setup)) (now (a .unit)) (now (a .holding))
+    tablesOf (now (a .demand)) (now (a .capacity)) (now (a .setup)) (now (a .unit)) (now (a .holding))
 
 tested : (c : tie.After-tests) → c .tests .result ≡ checked (badRead (file c) (shortest (lent c)))
 tested c = rw (c .before .shortest .ensures) at (c .tests .ensures)
@@ -55,13 +55,13 @@ fill-requires c κs =
 
 returns-2 : tie.Need-returns-2
 returns-2 c =
-    let f = at-fill (at-setup c) in
+    let f = at-fill (at-setup (c .before)) in
     let t = at-tests (f .before) in
-    (admitted t, rw (t .before .before .before .before .periods .ensures) refl, f .fill .ensures)
+    (admitted t, rw (t .before .before .before .before .periods .ensures, c .ends .ensures) refl, f .fill .ensures)
 
 pub read-spec : {M : Type 1} → statement M
 read-spec =
     tie.close
     (tie.spec
     (λ c κs. search needs) (λ c κs. search needs) (λ c κs. search needs) (λ c. search needs) returns (λ c. search needs)
-    fill-requires (λ c. search needs) (λ c. search needs) (λ c. search needs) (λ c. search needs) (λ c. search needs) returns-2)
+    fill-requires (λ c κs. search needs) (λ c. search needs) (λ c. search needs) (λ c. search needs) (λ c. search needs) (λ c. search needs) returns-2)

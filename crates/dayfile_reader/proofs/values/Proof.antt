@@ -1,14 +1,15 @@
 -- `dayfile_reader::values` meets its contract: the first n cells of the filled tables are the file's day. Assumes nothing.
-use mathlib.Core.Path.{_≡_, ap, _∙_}
+use mathlib.Core.Path.{_≡_, refl, sym, ap, subst, _∙_}
 use mathlib.Core.List.{List}
 use Prim.Native.Nat.{ℕ, _-_}
 use native.Mathlib.Omega.{arith}
 use borrow.Author.Needs.{needs}
 use denote.Ref.{now}
 use lib.ListN.{replicate}
-use Rattle.day.specs.Day.{Day, dayOf}
+use Rattle.day.specs.Day.{Day, tablesOf, endsOf}
 use Rattle.day.specs.Refusals.{checked, badValue}
 use Rattle.day.specs.File.{dayIn}
+use Rattle.checks.specs.Passed.{Readable}
 use Rattle.dayfile.specs.Answers.{firstOf}
 use Rattle.dayfile.specs.Layout.{day-readable, day-in-front}
 use Rattle.dayfile_reader.proofs.values.Statement.{statement}
@@ -28,21 +29,24 @@ at-parts c = c .before .before .before .before .before .before .before .before .
 abbrev tables : tie.After-fill → Day
 tables c =
     let l = c .fill .last .1 .1 in
-    dayOf (l .0) (l .1 .0) (l .1 .1 .0) (l .1 .1 .1 .0) (l .1 .1 .1 .1 .0)
+    tablesOf (l .0) (l .1 .0) (l .1 .1 .0) (l .1 .1 .1 .0) (l .1 .1 .1 .1 .0)
 
 abbrev file : tie.After-fill → List ℕ
 file c = now (start c .args .file)
 
 -- a part from 0 to n has n - 0 cells
-front : (c : tie.After-fill) → firstOf (start c .args .n - 0) (tables c) ≡ dayIn (file c)
+front : (c : tie.After-fill) → firstOf (start c .args .n - 0) (tables c) (endsOf (dayIn (file c))) ≡ dayIn (file c)
 front c =
     let zeros : List ℕ = replicate 96 0 in
-    day-in-front (file c) (start c .args .n - 0) (dayOf zeros zeros zeros zeros zeros) (tables c) (omega (arith, start c .pre .0)) (c .fill .ensures)
+    let before = tablesOf zeros zeros zeros zeros zeros in
+    day-in-front (file c) (start c .args .n - 0) _ before (tables c) (omega (arith, start c .pre .0)) refl (c .fill .ensures)
 
 values-requires : tie.Need-values-requires
 values-requires c κs =
     let p = at-fill (at-parts c) in
-    rw (front p) (day-readable (file p) (rw (start p .pre .0) at (start p .pre .1)))
+    let w = subst Readable (sym (front p)) (day-readable (file p) (rw (start p .pre .0) at (start p .pre .1))) in
+    let l = w .lengths in
+    record { few = w .few; lengths = record { capacity = l .capacity; setup = l .setup; unit = l .unit; holding = l .holding } }
 
 returns : tie.Need-returns
 returns c = c .values .ensures ∙ ap (λ (d : Day). checked (badValue d)) (front (at-fill (at-parts (c .before))))

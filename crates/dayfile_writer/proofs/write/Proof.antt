@@ -24,7 +24,7 @@ start c = c .before .before .before .before .before .before .before
 abbrev day : tie.After-tables → Day
 day c =
     let a = start c .args in
-    dayOf (now (a .demand)) (now (a .capacity)) (now (a .setup)) (now (a .unit)) (now (a .holding))
+    dayOf (now (a .demand)) (now (a .capacity)) (now (a .setup)) (now (a .unit)) (now (a .holding)) (a .ends)
 
 -- what is tested after the tables
 abbrev room : tie.After-tables → List (Option Refusal)
@@ -43,31 +43,35 @@ returns c =
     (is-gives (first-refused (tableTests (day p)) (room p) tested), refl)
 
 size-fits : tie.Need-mul-size
-size-fits c = omega (arith, limits c .few)
+size-fits c = omega (arith, limits (c .before) .few)
 
 returns-2 : tie.Need-returns-2
 returns-2 c =
-    let p = c .before .before .before in
-    let decides = first-passed (tableTests (day p)) (room p) (admitted (c .before)) in
-    (is-gives (rw (decides, file-length (day p), lt-ltb _ _ (c .if1 .taken)) refl), refl)
+    let h = c .before in
+    let p = h .before .before .before in
+    let decides = first-passed (tableTests (day p)) (room p) (admitted (h .before)) in
+    (is-gives (rw (decides, file-length (day p), ← h .head-size .ensures .is, lt-ltb _ _ (c .if1 .taken)) refl), refl)
 
 put-file-requires : tie.Need-put-file-requires
 put-file-requires c κs =
-    let w = limits (c .before .before) in
-    (record { few = w .few; lengths = w .lengths }, c .before .if1 .left)
+    let h = c .before .before in
+    let w = limits (h .before) in
+    (record { few = w .few; lengths = w .lengths }, rw (h .head-size .ensures .is) at (c .before .if1 .left))
 
 returns-3 : tie.Need-returns-3
 returns-3 c =
     let f = c .before .before in
     let t = f .before .before in
-    let p = t .before .before .before in
+    let h = t .before in
+    let p = h .before .before .before in
+    let size = rw (← h .head-size .ensures .is) at (file-length (day p)) in
     let ok : badWrite (day p) (length (now (start p .args .out))) ≡ none =
-    rw (first-passed (tableTests (day p)) (room p) (admitted (t .before)), file-length (day p), le-ltb _ _ (t .if1 .left)) refl in
-    (ok, rw (file-length (day p)) refl, f .put-file .ensures)
+    rw (first-passed (tableTests (day p)) (room p) (admitted (h .before)), size, le-ltb _ _ (t .if1 .left)) refl in
+    (ok, rw size refl, f .put-file .ensures)
 
 pub write-spec : {M : Type 1} → statement M
 write-spec =
     tie.close
     (tie.spec
-    (λ c κs. search needs) (λ c. search needs) returns (λ c. search needs) size-fits (λ c. omega (arith, limits c .few)) returns-2
-    put-file-requires (λ c. search needs) returns-3)
+    (λ c κs. search needs) (λ c. search needs) returns (λ c. search needs) (λ c κs. search needs) size-fits
+    (λ c. omega (arith, limits (c .before) .few)) (λ c. omega (arith, limits (c .before) .few)) returns-2 put-file-requires (λ c. search needs) returns-3)

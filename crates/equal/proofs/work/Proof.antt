@@ -1,9 +1,8 @@
 -- `equal::work` meets its contract: the tests leave what each step asks, and the steps what an accepted call leaves. Assumes nothing.
 use borrow.Author.Needs.{needs}
-use native.Mathlib.Omega.{arith}
 use Rattle.day.specs.Day.{Day, dayOf}
 use Rattle.day.specs.Outcome.{Memory, memoryOf}
-use Rattle.equal.proofs.Entry.{costs-inside, choices-inside, solvable, costs-back, choices-back, slots-feasible, work-accepted}
+use Rattle.equal.proofs.Entry.{solvable, costs-back, choices-back, slots-feasible, work-accepted}
 use Rattle.equal.proofs.work.Statement.{statement}
 use Rattle.equal.proofs.work.Tie as tie
 
@@ -15,31 +14,28 @@ abbrev at-clear-costs : tie.After-clear-choices-arg → tie.After-clear-costs
 at-clear-costs c = c .before .before .before
 
 abbrev at-solve : tie.After-clear-costs-arg → tie.After-solve
-at-solve c = c .before .before .before .before .before .before .before
+at-solve c = c .before .before .before .before .before .before .before .before
 
 abbrev at-cells : tie.After-solve-arg3 → tie.After-cells
-at-cells c = c .before .before .before
+at-cells c = c .before .before .before .before
 
-abbrev at-start : tie.After-slice-known3 → tie.Start
-at-start c = c .before .before .before .before .before .before .before .before
+abbrev at-fill : tie.After-cells → tie.After-fill
+at-fill c = c .before .before .before
 
 abbrev begun : tie.After-cells → tie.Start
-begun c = at-start (c .before)
+begun c = at-fill c .before .before .before .before .before .before .before .before .before .before .before
 
 abbrev given : tie.Start → Day
-given s = let a = s .args in dayOf (a .demand .now) (a .capacity .now) (a .setup .now) (a .unit .now) (a .holding .now)
+given s = let a = s .args in dayOf (a .demand .now) (a .capacity .now) (a .setup .now) (a .unit .now) (a .holding .now) (a .ends)
 
 abbrev lent : tie.Start → Memory
 lent s = let a = s .args in memoryOf (a .costs .now) (a .choices .now) (a .slots .now)
 
-part-solve-end : tie.Need-part-solve-end
-part-solve-end c = let s = begun c in costs-inside (given s) (lent s) (s .pre) _ (c .cells .ensures)
-
-part-solve-end-2 : tie.Need-part-solve-end-2
-part-solve-end-2 c = let n = c .before in let s = begun n in choices-inside (given s) (lent s) (s .pre) _ (n .cells .ensures)
-
 solve-requires : tie.Need-solve-requires
-solve-requires c κs = let n = at-cells c in let s = begun n in solvable (given s) (lent s) (s .pre) _ (n .cells .ensures)
+solve-requires c κs =
+    let n = at-cells c in
+    let s = begun n in
+    solvable (given s) (lent s) (s .pre) _ (n .cells .ensures) _ (at-fill n .fill .ensures)
 
 clear-costs-requires : tie.Need-clear-costs-requires
 clear-costs-requires c κs =
@@ -60,8 +56,8 @@ totals-requires c κs =
     let v = at-solve (at-clear-costs (at-clear-choices c .before) .before) in
     let n = at-cells (v .before) in
     let s = begun n in
-    slots-feasible (given s) (lent s) (s .pre) _ (n .cells .ensures) (v .solve .last .1 .1 .1 .1 .1 .1 .1 .0) (v .solve .kept .1 .1 .1 .1 .1 .1 .1 .0)
-    (v .solve .ensures)
+    slots-feasible (given s) (lent s) (s .pre) _ (n .cells .ensures) _ (at-fill n .fill .ensures)
+    (v .solve .last .1 .1 .1 .1 .1 .1 .1 .0) (v .solve .kept .1 .1 .1 .1 .1 .1 .1 .0) (v .solve .ensures)
 
 returns : tie.Need-returns
 returns c =
@@ -72,13 +68,14 @@ returns c =
     let s = begun n in
     let last = v .solve .last in
     let kept = v .solve .kept in
-    work-accepted (given s) (lent s) (s .pre) _ (n .cells .ensures) (last .1 .1 .1 .1 .1 .1 .1 .0) (kept .1 .1 .1 .1 .1 .1 .1 .0) (v .solve .ensures) _
+    work-accepted (given s) (lent s) (s .pre) _ (n .cells .ensures) _ (at-fill n .fill .ensures)
+    (last .1 .1 .1 .1 .1 .1 .1 .0) (kept .1 .1 .1 .1 .1 .1 .1 .0) (v .solve .ensures) _
     (last .1 .1 .1 .1 .1 .0) (last .1 .1 .1 .1 .1 .1 .0) _ _ (kept .1 .1 .1 .1 .1 .0) (kept .1 .1 .1 .1 .1 .1 .0)
     (y .clear-costs .ensures) (z .clear-choices .ensures) (c .totals .ensures)
 
 pub work-spec : {M : Type 1} → statement M
 work-spec = tie.close (tie.spec
-    (λ c κs. (at-start c .pre .day .limits .few, omega arith)) (λ c. search needs) (λ c. search needs) part-solve-end (λ c. search needs)
-    (λ c. search needs) part-solve-end-2 (λ c. search needs) (λ c. search needs) (λ c. begun (c .before .before) .pre .room .slots)
-    solve-requires clear-costs-requires clear-choices-requires totals-requires (λ c. search needs) (λ c. search needs) (λ c. search needs)
-    returns)
+    (λ c. search needs) (λ c. search needs) (λ c. search needs) (λ c κs. search needs) (λ c κs. search needs)
+    (λ c. search needs) (λ c. search needs) (λ c. search needs) (λ c. search needs) (λ c. search needs) (λ c. search needs)
+    (λ c. search needs) (λ c. search needs) (λ c. search needs) solve-requires clear-costs-requires clear-choices-requires totals-requires
+    (λ c. search needs) (λ c. search needs) (λ c. search needs) returns)

@@ -1,6 +1,8 @@
 -- `full::plan` meets its contract: a refusal of the tests, or the work. Assumes nothing.
 use mathlib.Core.Path.{refl}
+use Rattle.day.specs.Paths.{full}
 use Rattle.day.specs.Tests.{is-gives, passed, refused}
+use Rattle.checks.specs.Passed.{admitted}
 use borrow.Author.Needs.{needs}
 use Rattle.full.proofs.plan.Statement.{statement}
 use Rattle.full.proofs.plan.Tie as tie
@@ -11,7 +13,7 @@ returns c = (is-gives (refused _ (c .before .before .before .path .ensures) (c .
 work-requires : tie.Need-work-requires
 work-requires c κs =
     let told = c .before .before .before in
-    passed _ (told .before .before .path .ensures) (told .enum-told .given .1)
+    admitted full _ _ (passed _ (told .before .before .path .ensures) (told .enum-told .given .1))
 
 returns-2 : tie.Need-returns-2
 returns-2 c =

@@ -17,31 +17,28 @@ abbrev μ-loop : tie.MeasureT-loop
 μ-loop n slots plan k₀ k = n - k
 
 returns : tie.Need-returns Inv-loop μ-loop
-returns c = decides-false (λ s. omega (arith, s .few))
-
-returns-2 : tie.Need-returns-2 Inv-loop μ-loop
-returns-2 c = decides-false (λ s. omega (arith, s .room))
+returns c = decides-false (λ s. omega (arith, s .room))
 
 loop-holds : tie.Need-loop-holds Inv-loop μ-loop
 loop-holds c = (search needs, λ j l. absurd (omega arith))
 
-returns-3 : tie.Need-returns-3 Inv-loop μ-loop
-returns-3 c = decides-false (λ s. c .if3 .taken (s .alike (c .before .before .before .loop .k) (omega arith)))
+returns-2 : tie.Need-returns-2 Inv-loop μ-loop
+returns-2 c = decides-false (λ s. c .if2 .taken (s .alike (c .before .before .before .loop .k) (omega arith)))
 
 loop-again : tie.Need-loop-again Inv-loop μ-loop
 loop-again c =
     let start = c .before .before .before in
-    let a = start .before .before .before .args in
-    (search needs, rw add-one (below (λ (j : ℕ). at (a .slots .now) j ≡ at (a .t1) j) (start .loop .k) (start .loop .inv .1) (c .if3 .left)))
+    let a = start .before .before .args in
+    (search needs, rw add-one (below (λ (j : ℕ). at (a .slots .now) j ≡ at (a .t1) j) (start .loop .k) (start .loop .inv .1) (c .if2 .left)))
 
-returns-4 : tie.Need-returns-4 Inv-loop μ-loop
-returns-4 c =
-    let n : c .before .loop .k ≡ c .before .before .before .before .args .n = omega arith in
-    decides-true (record { few = omega arith; room = omega arith; alike = rw n at (c .before .loop .inv .1) })
+returns-3 : tie.Need-returns-3 Inv-loop μ-loop
+returns-3 c =
+    let n : c .before .loop .k ≡ c .before .before .before .args .n = omega arith in
+    decides-true (record { room = omega arith; alike = rw n at (c .before .loop .inv .1) })
 
 pub same-plan-spec : {M : Type 1} → statement M
 same-plan-spec =
     tie.close
     (tie.spec
-    Inv-loop μ-loop returns returns-2 loop-holds (λ c. search needs) (λ c. search needs) (λ c. search needs) (λ c. search needs)
-    returns-3 (λ c. search needs) (λ c. search needs) loop-again returns-4)
+    Inv-loop μ-loop returns loop-holds (λ c. search needs) (λ c. search needs) (λ c. search needs) (λ c. search needs)
+    returns-2 (λ c. search needs) (λ c. search needs) loop-again returns-3)

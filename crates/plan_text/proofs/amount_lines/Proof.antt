@@ -9,15 +9,15 @@ use Rattle.plan_text.proofs.amount_lines.Statement.{statement}
 use Rattle.plan_text.proofs.amount_lines.Tie as tie
 
 abbrev Inv-loop : tie.InvT-loop
-Inv-loop demand plan text₀ place next₀ i₀ text next i = Lined demand plan text₀ place i text next
+Inv-loop demand plan text₀ place ends next₀ i₀ text next i = Lined demand plan ends text₀ place i text next
 
 abbrev μ-loop : tie.MeasureT-loop
-μ-loop demand plan text₀ place next₀ i₀ text next i = length demand - i
+μ-loop demand plan text₀ place ends next₀ i₀ text next i = length demand - i
 
 loop-holds : tie.Need-loop-holds Inv-loop μ-loop
 loop-holds c =
     let s = c .before .before .before in
-    no-lines _ _ _ _ (omega (arith, s .pre .1))
+    no-lines _ _ _ _ _ (omega (arith, s .pre .1))
 
 amount-line-requires : tie.Need-amount-line-requires Inv-loop μ-loop
 amount-line-requires c κs = search needs
@@ -26,7 +26,7 @@ loop-again : tie.Need-loop-again Inv-loop μ-loop
 loop-again c =
     let turn = c .before .before in
     let l = turn .before .before .before in
-    amounts-more _ _ (l .loop .i) (omega arith) (l .loop .inv) (turn .amount-line .ensures)
+    amounts-more _ _ _ (l .loop .i) (omega arith) (l .loop .inv) (turn .amount-line .ensures)
 
 returns : tie.Need-returns Inv-loop μ-loop
 returns c =

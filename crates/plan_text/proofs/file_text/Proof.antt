@@ -2,7 +2,7 @@
 use Prim.Native.Nat.{_≤_}
 use native.Mathlib.Omega.{arith}
 use borrow.Author.Needs.{needs}
-use Rattle.day.specs.Day.{Day, dayOf, maxPeriods}
+use Rattle.day.specs.Day.{Day, tablesOf, maxPeriods}
 use Rattle.plan_text.specs.Laws.{read-few, read-text, refused-file}
 use Rattle.plan_text.proofs.file_text.Statement.{statement}
 use Rattle.plan_text.proofs.file_text.Tie as tie
@@ -13,7 +13,7 @@ at-read c = c .before .before .before .before .before
 
 -- what the reader left in the tables
 abbrev left : tie.After-read → Day
-left c = let l = c .read .last .1 in dayOf (l .0) (l .1 .0) (l .1 .1 .0) (l .1 .1 .1 .0) (l .1 .1 .1 .1 .0)
+left c = let l = c .read .last .1 in tablesOf (l .0) (l .1 .0) (l .1 .1 .0) (l .1 .1 .1 .0) (l .1 .1 .1 .1 .0)
 
 abbrev at-answer : tie.After-demand3 → tie.After-answer
 at-answer c = c .before .before
@@ -26,7 +26,7 @@ few : (c : tie.After-demand3) → at-answer c .answer .given .0 .0 ≤ maxPeriod
 few c =
     let a = at-answer c in
     let p = at-read (a .before .before) in
-    read-few _ (left p) (p .read .result) _ (a .answer .given .1) (p .read .ensures)
+    read-few _ (left p) (p .read .result) _ _ (a .answer .given .1) (p .read .ensures)
 
 returns : tie.Need-returns
 returns c =
@@ -40,7 +40,7 @@ returns-2 c =
     let day = c .before .before in
     let a = at-answer (at-demand (day .before .before .before)) in
     let p = at-read (a .before .before) in
-    read-text _ (left p) (p .read .result) _ (a .answer .given .1) (p .read .ensures) (day .day-text .ensures)
+    read-text _ (left p) (p .read .result) _ _ (a .answer .given .1) (p .read .ensures) (day .day-text .ensures)
 
 pub file-text-spec : {M : Type 1} → statement M
 file-text-spec =

@@ -11,7 +11,7 @@ returns c =
     answer-refused _ _ (answer .answer .given .1) (line .refusal-line .ensures .put)
 
 returns-2 : tie.Need-returns-2
-returns-2 c = answer-accepted _ _ _ _ _ (c .enum-told .given .1)
+returns-2 c = answer-accepted _ _ _ _ _ _ (c .enum-told .given .1)
 
 pub refused-text-spec : {M : Type 1} → statement M
 refused-text-spec =

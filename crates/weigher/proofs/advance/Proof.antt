@@ -11,7 +11,7 @@ use Rattle.weigher.proofs.advance.Statement.{statement}
 use Rattle.weigher.proofs.advance.Tie as tie
 
 abbrev tables : tie.Start → Day
-tables c = let a = c .args in dayOf (a .demand .now) (a .capacity .now) (a .setup .now) (a .unit .now) (a .holding .now)
+tables c = let a = c .args in dayOf (a .demand .now) (a .capacity .now) (a .setup .now) (a .unit .now) (a .holding .now) (a .ends)
 
 abbrev at-start : tie.After-shared-slice-known6 → tie.Start
 at-start c = c .before .before .before .before .before .before
@@ -29,7 +29,7 @@ judge-requires : tie.Need-judge-requires
 judge-requires c κs =
     let known = c .before .before .before .before .before .before in
     let start = at-start known in
-    rw (start .pre .sums) (sums-low _ _ (wide known) (start .args .i) (omega arith))
+    rw (start .pre .sums) (sums-low _ _ (wide known) (start .pre .opening) (start .args .i) (omega arith))
 
 returns : tie.Need-returns
 returns c =

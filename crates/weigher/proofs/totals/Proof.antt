@@ -17,7 +17,7 @@ at-start c = c .before .before .before .before .before .before .before
 -- the plan holds
 holds : (c : tie.After-walk) → let a = at-start c .args in
     c .walk .result
-    ≡ Holds (totalsOf (dayOf (a .demand .now) (a .capacity .now) (a .setup .now) (a .unit .now) (a .holding .now)) (at (a .plan .now)))
+    ≡ Holds (totalsOf (dayOf (a .demand .now) (a .capacity .now) (a .setup .now) (a .unit .now) (a .holding .now) (a .ends)) (at (a .plan .now)))
 holds c = c .walk .ensures ∙ feasible-holds _ _ (at-start c .pre .feasible)
 
 returns-2 : tie.Need-returns-2

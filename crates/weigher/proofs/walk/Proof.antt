@@ -2,7 +2,9 @@
 -- The measure is what is left of the periods. Assumes nothing.
 use mathlib.Core.Path.{refl}
 use Prim.Native.Nat.{_-_}
+use native.Mathlib.Nat.{add-zero}
 use native.Mathlib.Numerals.{add-one}
+use native.Mathlib.Omega.{arith}
 use borrow.Author.Needs.{needs}
 use lib.ListN.{length}
 use Rattle.day.specs.Sums.{at}
@@ -12,20 +14,25 @@ use Rattle.weigher.proofs.walk.Statement.{statement}
 use Rattle.weigher.proofs.walk.Tie as tie
 
 abbrev Inv-loop : tie.InvT-loop
-Inv-loop demand capacity setup unit holding plan s₀ i₀ s i = Walking (dayOf demand capacity setup unit holding) (at plan) i s
+Inv-loop demand capacity setup unit holding plan ends s₀ i₀ s i = Walking (dayOf demand capacity setup unit holding ends) (at plan) i s
 
 abbrev μ-loop : tie.MeasureT-loop
-μ-loop demand capacity setup unit holding plan s₀ i₀ s i = length demand - i
+μ-loop demand capacity setup unit holding plan ends s₀ i₀ s i = length demand - i
 
 loop-holds : tie.Need-loop-holds Inv-loop μ-loop
-loop-holds c = record { inside = search needs; sums = refl; kept = refl }
+loop-holds c = record { inside = search needs; sums = rw add-zero refl; kept = refl }
 
 abbrev at-start : tie.At-loop Inv-loop μ-loop → tie.Start Inv-loop μ-loop
-at-start c = c .before .before .before .before .before .before .before
+at-start c = c .before .before .before .before .before .before .before .before
 
 advance-requires : tie.Need-advance-requires Inv-loop μ-loop
 advance-requires c κs =
-    record { weighable = at-start (c .before) .pre; inside = c .loop-test .taken; sums = c .before .loop .inv .sums }
+    record {
+      weighable = at-start (c .before) .pre;
+      inside = c .loop-test .taken;
+      opening = omega (arith, c .before .before .struct-known .given);
+      sums = c .before .loop .inv .sums;
+    }
 
 returns : tie.Need-returns Inv-loop μ-loop
 returns c =
@@ -46,5 +53,5 @@ pub walk-spec : {M : Type 1} → statement M
 walk-spec =
     tie.close
     (tie.spec
-    Inv-loop μ-loop loop-holds advance-requires (λ c. search needs) (λ c. search needs) (λ c. search needs) returns
+    Inv-loop μ-loop (λ c. search needs) loop-holds advance-requires (λ c. search needs) (λ c. search needs) (λ c. search needs) returns
     (λ c. search needs) (λ c. search needs) (λ c. search needs) loop-again returns-2)

@@ -11,7 +11,18 @@ returns-2 : tie.Need-returns-2
 returns-2 c = record { is = simp (ne-eqb _ _ (c .before .if1 .left), eq-eqb _ _ (c .if2 .taken)); low = omega arith }
 
 returns-3 : tie.Need-returns-3
-returns-3 c = record { is = simp (ne-eqb _ _ (c .before .if1 .left), ne-eqb _ _ (c .if2 .left)); low = omega arith }
+returns-3 c =
+    record {
+      is = simp (ne-eqb _ _ (c .before .before .if1 .left), ne-eqb _ _ (c .before .if2 .left), eq-eqb _ _ (c .if3 .taken));
+      low = omega arith;
+    }
+
+returns-4 : tie.Need-returns-4
+returns-4 c =
+    record {
+      is = simp (ne-eqb _ _ (c .before .before .if1 .left), ne-eqb _ _ (c .before .if2 .left), ne-eqb _ _ (c .if3 .left));
+      low = omega arith;
+    }
 
 pub body-length-spec : {M : Type 1} → statement M
-body-length-spec = tie.close (tie.spec returns returns-2 returns-3)
+body-length-spec = tie.close (tie.spec returns returns-2 returns-3 returns-4)

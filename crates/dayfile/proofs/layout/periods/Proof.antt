@@ -7,7 +7,8 @@ use native.Mathlib.Numerals.{add-one}
 use borrow.Author.Needs.{needs}
 use denote.Ref.{now}
 use lib.ListN.{length}
-use Rattle.dayfile.specs.Layout.{WholePeriod, Walked, walked-none, walked-more, walked-end, period}
+use Rattle.day.specs.File.{periodKind}
+use Rattle.dayfile.specs.Layout.{WholeRecord, whole-record, Walked, walked-none, walked-more, walked-end}
 use Rattle.dayfile.proofs.layout.periods.Statement.{statement}
 use Rattle.dayfile.proofs.layout.periods.Tie as tie
 
@@ -18,11 +19,12 @@ abbrev μ-loop : tie.MeasureT-loop
 μ-loop file at₀ n₀ at n = length file - at
 
 loop-holds : tie.Need-loop-holds Inv-loop μ-loop
-loop-holds c = walked-none _
+loop-holds c = rw (c .head-end .ensures) (walked-none _)
 
 -- in a turn a whole period stands here
-turn : (c : tie.Then1 Inv-loop μ-loop) → WholePeriod (now (c .before .before .before .before .args .file)) (c .before .before .loop .at)
-turn c = period _ _ (sym (c .before .is-period .ensures) ∙ c .if1 .taken)
+turn : (c : tie.Then1 Inv-loop μ-loop)
+    → WholeRecord periodKind (now (c .before .before .before .before .before .args .file)) (c .before .before .loop .at)
+turn c = whole-record _ _ _ (sym (c .before .is-period .ensures) ∙ c .if1 .taken)
 
 next-requires : tie.Need-next-requires Inv-loop μ-loop
 next-requires c κs = omega (arith, turn c .whole)
@@ -43,4 +45,5 @@ returns c =
     sym (walked-end _ _ _ (c .before .before .loop .inv) (sym (c .before .is-period .ensures) ∙ c .if1 .left))
 
 pub periods-spec : {M : Type 1} → statement M
-periods-spec = tie.close (tie.spec Inv-loop μ-loop loop-holds (λ c κs. search needs) next-requires add-n loop-less loop-again returns)
+periods-spec = tie.close (tie.spec
+    Inv-loop μ-loop (λ c κs. search needs) loop-holds (λ c κs. search needs) next-requires add-n loop-less loop-again returns)

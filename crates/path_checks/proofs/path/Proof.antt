@@ -1,0 +1,62 @@
+-- `path_checks::path` meets its contract: the first refusal of the day, or that of the path after it. Assumes nothing.
+use mathlib.Core.Path.{_≡_, refl}
+use mathlib.Core.List.{List, []}
+use mathlib.Core.Option.{none}
+use Prim.Native.Nat.{ℕ}
+use borrow.Author.Needs.{needs}
+use Rattle.day.specs.declared.PathKind.{PathKind}
+use Rattle.day.specs.declared.PathKind.the-variants.{Full, Uncapped, Equal}
+use Rattle.day.specs.declared.Ends.{Ends}
+use Rattle.day.specs.Day.{Day, dayOf}
+use Rattle.day.specs.declared.Check.{Check}
+use Rattle.day.specs.Refusals.{checked, first, dayTests}
+use Rattle.day.specs.Tests.{passed, group-refused, group-decides}
+use Rattle.day.specs.Outcome.{Sizes, sizes, pathTests}
+use Rattle.day.specs.Paths.{pathOf}
+use Rattle.checks.specs.Passed.{day-passed}
+use Rattle.path_checks.proofs.path.Statement.{statement}
+use Rattle.path_checks.proofs.path.Tie as tie
+
+-- no path's tests look at costs
+two-tables : (kind : PathKind) (demand capacity setup unit holding : List ℕ) (ends : Ends) (s : Sizes) {answer : Check}
+    → answer ≡ checked (first (pathTests (pathOf kind) (dayOf demand capacity [] [] [] ends) s))
+    → answer ≡ checked (first (pathTests (pathOf kind) (dayOf demand capacity setup unit holding ends) s))
+two-tables Full demand capacity setup unit holding ends s is = is
+two-tables Uncapped demand capacity setup unit holding ends s is = is
+two-tables Equal demand capacity setup unit holding ends s is = is
+
+abbrev start : tie.After-day → tie.Start
+start c = c .before .before .before .before .before .before
+
+abbrev given : tie.After-day → Day
+given c =
+    let a = start c .args in
+    dayOf (a .demand .now) (a .capacity .now) (a .setup .now) (a .unit .now) (a .holding .now) (a .ends)
+
+abbrev lent : tie.After-day → Sizes
+lent c = let a = start c .args in sizes (a .costs) (a .choices) (a .slots)
+
+-- 1 to 4 and 14 passed
+tested : (c : tie.After-enum-told) → first (dayTests (given (c .before .before))) ≡ none
+tested c = passed (first (dayTests (given (c .before .before)))) (c .before .before .day .ensures) (c .enum-told .given .1)
+
+returns : tie.Need-returns
+returns c =
+    let p = c .before .before .before in
+    group-refused [] (dayTests (given p)) refl (p .day .ensures) (pathTests (pathOf (start p .args .kind)) (given p) (lent p)) (c .before .r .given .1)
+
+room-requires : tie.Need-room-requires
+room-requires c κs =
+    let day = day-passed (given (c .before .before)) (tested c) in
+    (day .limits .lengths .capacity, (day .limits .few, day .used))
+
+returns-2 : tie.Need-returns-2
+returns-2 c =
+    let p = c .before .before .before in
+    let a = start p .args in
+    let tests = pathTests (pathOf (a .kind)) (given p) (lent p) in
+    let is = two-tables (a .kind) (a .demand .now) (a .capacity .now) (a .setup .now) (a .unit .now) (a .holding .now) (a .ends) (lent p) (c .room .ensures) in
+    group-decides (dayTests (given p)) tests (tested (c .before)) is
+
+pub path-spec : {M : Type 1} → statement M
+path-spec = tie.close (tie.spec (λ c κs. search needs) (λ c. search needs) returns (λ c. search needs) room-requires returns-2)

@@ -1,0 +1,2 @@
+-- How many cells a path needs.
+pub mod Needed

@@ -1,0 +1,182 @@
+//! The tests of the paths: 5, 6, 7 and each path's own, and all of them in order, by the documents' numbers.
+ghost use mathlib.Core.Path.{_≡_};
+ghost use mathlib.Core.List.{[], _∷_};
+ghost use Prim.Native.Nat.{_≤_};
+ghost use lib.ListN.{length};
+ghost use Rattle.day.specs.Day.{dayOf, tablesOf, required, maxPeriods, maxSum};
+ghost use Rattle.day.specs.Lent.{dayBefore};
+ghost use Rattle.day.specs.Refusals.{checked, first, badAreas, badSlots, shortage, unequal, binding};
+ghost use Rattle.day.specs.Outcome.{pathTests, refusal, sizes};
+ghost use Rattle.day.specs.Paths.{pathOf};
+ghost use Rattle.path_checks.specs.Needed.{NeededBy};
+use day::Check;
+use day::Ends;
+use day::PathKind;
+use day::Refusal;
+
+// 5, 6: the cells and slots that are lent, and how many the call needs
+fn memory(
+    costs: usize,
+    cost_cells: usize,
+    choices: usize,
+    choice_cells: usize,
+    slots: usize,
+    n: usize,
+) -> Check
+    ensures { λ r. ⌜ r ≡ checked (first (badAreas costs «cost_cells» choices «choice_cells» ∷ badSlots slots n ∷ [])) ⌝ }
+{
+    if costs < cost_cells || choices < choice_cells {
+        return Check::Refused(Refusal::ShortArea);
+    }
+    if slots < n {
+        return Check::Refused(Refusal::FewSlots);
+    }
+    Check::Passed
+}
+
+// 7, for tables of one length: the first period with R − A above C, or the last with T above C
+fn shortage(demand: &[u16], capacity: &[u16], ends: Ends) -> Check
+    requires { ⌜ length (now capacity) ≡ length (now demand) ⌝ }
+    requires { ⌜ length (now demand) ≤ maxPeriods ⌝ }
+    ensures { λ r. ⌜ r ≡ checked (shortage (dayOf (now (demand .entry)) (now (capacity .entry)) [] [] [] ends)) ⌝ }
+{
+    let mut demanded: u64 = 0;
+    let mut available: u64 = 0;
+    let mut i = 0;
+    while i < demand.len() {
+        demanded += demand[i] as u64;
+        available += capacity[i] as u64;
+        i += 1;
+        if available < checks::net_to(demanded, i == demand.len(), ends) {
+            return Check::Refused(Refusal::Shortage(i as u16));
+        }
+    }
+    Check::Passed
+}
+
+// 8, for tables of one length: every capacity is as the first
+fn equal(demand: &[u16], capacity: &[u16]) -> Check
+    requires { ⌜ length (now capacity) ≡ length (now demand) ⌝ }
+    ensures { λ r. ⌜ r ≡ checked (unequal (tablesOf (now (demand .entry)) (now (capacity .entry)) [] [] [])) ⌝ }
+{
+    let mut i = 0;
+    while i < demand.len() {
+        if capacity[i] != capacity[0] {
+            return Check::Refused(Refusal::UnequalCapacities);
+        }
+        i += 1;
+    }
+    Check::Passed
+}
+
+// 9, for tables of one length: the first capacity below what remains to be made, T less the larger of 0 and (R before its period − A)
+fn binding(demand: &[u16], capacity: &[u16], ends: Ends) -> Check
+    requires { ⌜ length (now capacity) ≡ length (now demand) ⌝ }
+    requires { ⌜ length (now demand) ≤ maxPeriods ⌝ }
+    requires { ⌜ ends .opening ≤ required (dayOf (now demand) [] [] [] [] ends) ⌝ }
+    ensures { λ r. ⌜ r ≡ checked (binding (dayOf (now (demand .entry)) (now (capacity .entry)) [] [] [] ends)) ⌝ }
+{
+    let total = checks::total(demand, ends);
+    let mut demanded: u64 = 0;
+    let mut i = 0;
+    while i < demand.len() {
+        let remaining = checks::beyond(total, checks::beyond(demanded, ends.opening as u64));
+        if (capacity[i] as u64) < remaining {
+            return Check::Refused(Refusal::BindingCapacity((i + 1) as u16));
+        }
+        demanded += demand[i] as u64;
+        i += 1;
+    }
+    Check::Passed
+}
+
+// The tests that a path alone applies.
+fn own(kind: PathKind, demand: &[u16], capacity: &[u16], ends: Ends) -> Check
+    requires { ⌜ length (now capacity) ≡ length (now demand) ⌝ }
+    requires { ⌜ length (now demand) ≤ maxPeriods ⌝ }
+    requires { ⌜ ends .opening ≤ required (dayOf (now demand) [] [] [] [] ends) ⌝ }
+    ensures { λ r. ⌜ r ≡ checked (first (pathOf kind .own (dayOf (now (demand .entry)) (now (capacity .entry)) [] [] [] ends))) ⌝ }
+{
+    match kind {
+        PathKind::Full => Check::Passed,
+        PathKind::Uncapped => binding(demand, capacity, ends),
+        PathKind::Equal => equal(demand, capacity),
+    }
+}
+
+// How many cells of each area a path needs.
+pub struct Needed {
+    pub costs: usize,
+    pub choices: usize,
+}
+
+pub fn cells(kind: PathKind, n: usize, total: usize) -> Needed
+    requires { ⌜ (n ≤ maxPeriods) × (total ≤ maxSum) ⌝ }
+    ensures { λ r. ⌜ NeededBy (pathOf kind) n total r ⌝ }
+{
+    match kind {
+        PathKind::Full => Needed {
+            costs: 2 * (total + 1),
+            choices: n * (total + 1),
+        },
+        PathKind::Uncapped => Needed {
+            costs: n + 1,
+            choices: n + 1,
+        },
+        PathKind::Equal => Needed {
+            costs: 6 * (n + 1),
+            choices: 4 * ((n + 1) * (n + 1)),
+        },
+    }
+}
+
+// 5, 6, 7, then the path's own, once 1 to 4 and 14 have passed
+fn room(
+    kind: PathKind,
+    demand: &[u16],
+    capacity: &[u16],
+    costs: usize,
+    choices: usize,
+    slots: usize,
+    ends: Ends,
+) -> Check
+    requires { ⌜ length (now capacity) ≡ length (now demand) ⌝ }
+    requires { ⌜ length (now demand) ≤ maxPeriods ⌝ }
+    requires { ⌜ ends .opening ≤ required (dayOf (now demand) [] [] [] [] ends) ⌝ }
+    ensures { λ r. ⌜
+        r ≡ checked (first (pathTests (pathOf kind)
+        (dayOf (now (demand .entry)) (now (capacity .entry)) [] [] [] ends)
+        (sizes costs choices slots)))
+        ⌝ }
+{
+    let n = demand.len();
+    let needed = cells(kind, n, checks::total(demand, ends) as usize);
+    if let Check::Refused(r) = memory(costs, needed.costs, choices, needed.choices, slots, n) {
+        return Check::Refused(r);
+    }
+    if let Check::Refused(r) = shortage(demand, capacity, ends) {
+        return Check::Refused(r);
+    }
+    own(kind, demand, capacity, ends)
+}
+
+// A path's tests in order: 1 to 4, 14, 5 to 7, then its own
+pub fn path(
+    kind: PathKind,
+    demand: &[u16],
+    capacity: &[u16],
+    setup: &[u32],
+    unit: &[u32],
+    holding: &[u32],
+    costs: usize,
+    choices: usize,
+    slots: usize,
+    ends: Ends,
+) -> Check
+    ensures { λ r. ⌜ r ≡ checked (refusal (pathOf kind) (dayBefore demand capacity setup unit holding ends) (sizes costs choices slots)) ⌝ }
+{
+    if let Check::Refused(r) = checks::day(demand, capacity, setup, unit, holding, ends) {
+        return Check::Refused(r);
+    }
+    room(kind, demand, capacity, costs, choices, slots, ends)
+}

@@ -1,0 +1,128 @@
+-- The days of documents 01 and 02 as problems: net needs, which the opening charge lowers and the closing charge raises.
+-- Main definitions: `netNeed`, `problemOf`, `Fits`. Main statements: `floor-is`, `total-is`, the net needs sum to what must have been made;
+-- `bounded`, a day within the limits gives what the loops rely on; `net-listed`, what a loop that fills the net needs ends with.
+-- Assumes nothing.
+use mathlib.Core.Path.{_≡_, sym, ap, _∙_}
+use mathlib.Core.List.{List, []}
+use mathlib.Core.Logic.{_↔_}
+use Prim.Native.Nat.{ℕ, zero, suc, _+_, _-_, _≤_, _<_}
+use native.Mathlib.Decide.{decLt}
+use native.Mathlib.Omega.{arith}
+use lib.ListN.{length}
+use Rattle.day.specs.Sums.{at, sumTo, sum-ext, listOf, at-listOf, length-listOf, listOf-at}
+use Rattle.day.specs.Day.{Day, dayOf, endsOf, periods, demandTo, capacityTo, required, total, netTo, net-before, net-end, maxPeriods, maxTotal}
+use Rattle.checks.specs.Passed.{DayLimits}
+use Rattle.theory.specs.Problem.{Problem, problemWith, Bounded, Supplied}
+use Rattle.theory.specs.Problem as Problem
+
+-- what a period adds to what must have been made
+abbrev pub netNeed : Day → ℕ → ℕ
+netNeed d k = netTo d (suc k) - netTo d k
+
+abbrev pub netNeeds : Day → List ℕ
+netNeeds d = listOf (netNeed d) (periods d)
+
+-- what the loops run on, for a day
+abbrev pub problemOf : Day → Problem
+problemOf d = problemWith (netNeeds d) (d .capacity) (d .setup) (d .unit) (d .holding)
+
+-- what tests 1 and 14 leave: there is a period, and A ≤ R + Z
+pub record Fits (d : Day) : Type 0 where
+  pub nonempty : 0 < periods d
+  pub used : d .opening ≤ required d
+
+-- what the net needs ask to be of 16 bits: there is a period, at most 96 are there, and R + Z is within its limit
+pub record NetFits (d : Day) : Type 0 where
+  pub nonempty : 0 < periods d
+  pub few : periods d ≤ maxPeriods
+  pub small : required d ≤ maxTotal
+
+-- of a day's demands and ends alone, as the function has it that fills the net needs
+pub limits-net : {d : Day} → DayLimits d → NetFits (dayOf (d .demand) [] [] [] [] (endsOf d))
+limits-net g = record { nonempty = g .limits .nonempty; few = g .limits .few; small = g .small }
+
+pub limits-fit : {d : Day} → DayLimits d → Fits d
+limits-fit g = record { nonempty = g .limits .nonempty; used = g .used }
+
+module _ (d : Day) where
+  abbrev n : ℕ
+  n = periods d
+
+  pub periods-is : Problem.periods (problemOf d) ≡ n
+  periods-is = length-listOf (netNeed d) n
+
+  -- a table of the net needs is the problem's
+  pub net-listed : (net : List ℕ) → length net ≡ n → ((k : ℕ) → k < n → at net k ≡ netNeed d k) → net ≡ netNeeds d
+  net-listed net e each = sym (listOf-at n net (netNeed d) e (λ k l. sym (each k l)))
+
+  -- what must have been made never falls, and ends with T
+  pub net-rises : (i : ℕ) → i < n → netTo d i ≤ netTo d (suc i)
+  net-rises i l = go (decLt (suc i) n)
+    where
+      go : Dec (suc i < n) → netTo d i ≤ netTo d (suc i)
+      go (yes h) = omega (arith, net-before d i l, net-before d (suc i) h)
+      go (no h) =
+          let e : suc i ≡ n = omega arith in
+          omega (arith, net-before d i l, ap (netTo d) e, ap (demandTo d) e, net-end d)
+
+  net-grows : (i j : ℕ) → i ≤ j → j ≤ n → netTo d i ≤ netTo d j
+  net-grows i zero h l = let e : i ≡ 0 = omega arith in rw e (omega arith)
+  net-grows i (suc j) h l = go (decLt j i) (λ g. net-grows i j g (omega arith))
+    where
+      go : Dec (j < i) → (i ≤ j → netTo d i ≤ netTo d j) → netTo d i ≤ netTo d (suc j)
+      go (yes g) rec = let e : i ≡ suc j = omega arith in rw e (omega arith)
+      go (no g) rec = omega (arith, rec (omega arith), net-rises j l)
+
+  pub net-below : (i : ℕ) → i ≤ n → netTo d i ≤ total d
+  net-below i l = omega (arith, net-grows i n l (omega arith), net-end d)
+
+  -- with A it covers R
+  pub net-covers : (i : ℕ) → i ≤ n → demandTo d i ≤ d .opening + netTo d i
+  net-covers i l = go (decLt i n)
+    where
+      go : Dec (i < n) → demandTo d i ≤ d .opening + netTo d i
+      go (yes h) = omega (arith, net-before d i h)
+      go (no h) = let e : i ≡ n = omega arith in omega (arith, ap (netTo d) e, ap (demandTo d) e, net-end d)
+
+  module _ (pos : 0 < n) where
+    pub net-zero : netTo d 0 ≡ 0
+    net-zero = omega (arith, net-before d 0 pos)
+
+    net-sums : (i : ℕ) → i ≤ n → sumTo (netNeed d) i ≡ netTo d i
+    net-sums zero l = omega (arith, net-zero)
+    net-sums (suc i) l = omega (arith, net-sums i (omega arith), net-rises i l)
+
+    pub floor-is : (i : ℕ) → i ≤ n → Problem.demandTo (problemOf d) i ≡ netTo d i
+    floor-is i l = sum-ext (at (netNeeds d)) (netNeed d) i (λ k h. at-listOf (netNeed d) n k (omega arith)) ∙ net-sums i l
+
+    pub total-is : Problem.total (problemOf d) ≡ total d
+    total-is = ap (Problem.demandTo (problemOf d)) periods-is ∙ floor-is n (omega arith) ∙ net-end d
+
+    -- no period is short just where none of the problem is
+    pub supplied-iff : ((k : ℕ) → k < n → netTo d (suc k) ≤ capacityTo d (suc k)) ↔ Supplied (problemOf d)
+    supplied-iff = (
+      λ s k l. let h : k < n = omega (arith, periods-is) in omega (arith, floor-is (suc k) h, s k h),
+      λ s k l. omega (arith, floor-is (suc k) l, s k (omega (arith, periods-is))),
+    )
+
+    net-limit : (top : ℕ) → required d ≤ top → (k : ℕ) → k < n → at (netNeeds d) k ≤ top
+    net-limit top h k l = omega (arith, at-listOf (netNeed d) n k l, net-below (suc k) l)
+
+  pub bounded : DayLimits d → Bounded (problemOf d)
+  bounded g =
+      let e = periods-is in
+      let l = g .limits in
+      record {
+        nonempty = omega (arith, l .nonempty);
+        few = omega (arith, l .few);
+        capacities = l .lengths .capacity ∙ sym e;
+        setups = l .lengths .setup ∙ sym e;
+        units = l .lengths .unit ∙ sym e;
+        holdings = l .lengths .holding ∙ sym e;
+        demand = λ k h. net-limit (l .nonempty) _ (g .small) k (omega arith);
+        capacity = λ k h. l .within k (omega arith) .capacity;
+        setup = λ k h. l .within k (omega arith) .setup;
+        unit = λ k h. l .within k (omega arith) .unit;
+        holding = λ k h. l .within k (omega arith) .holding;
+        small = omega (arith, total-is (l .nonempty), g .small);
+      }
