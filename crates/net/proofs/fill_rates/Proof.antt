@@ -1,0 +1,53 @@
+-- `net::fill_rates` meets its contract. The loop's invariant: the rates from i on are filled in, and the upkeep of period i is at hand, 0 past
+-- the last. Assumes nothing.
+use mathlib.Core.Path.{_≡_, refl, sym, ap, _∙_}
+use mathlib.Core.Logic.{⊎-elim}
+use mathlib.Core.List.{List}
+use Prim.Native.Nat.{ℕ, suc, _+_, _-_, _≤_, _<_}
+use native.Mathlib.Nat.{eq-or-lt-of-le}
+use native.Mathlib.Omega.{arith}
+use lib.ListN.{length, set, length-set, List·getD-eq-default}
+use lib.Seq.{getD-set-same, getD-set-other}
+use Rattle.day.specs.Sums.{at}
+use Rattle.theory.specs.Net.{rateOf, HalfRates, rates-listed}
+use Rattle.net.proofs.fill_rates.Statement.{statement}
+use Rattle.net.proofs.fill_rates.Tie as tie
+
+record Filling (holding rates : List ℕ) (next i : ℕ) : Type 0 where
+  inside : i ≤ length holding
+  size : length rates ≡ length holding
+  is : next ≡ at holding i
+  each : (k : ℕ) → i ≤ k → k < length holding → at rates k ≡ rateOf holding k
+
+filling-none : (holding rates : List ℕ) → length rates ≡ length holding → Filling holding rates 0 (length holding)
+filling-none holding rates size = record {
+  inside = omega arith;
+  size = size;
+  is = sym (List·getD-eq-default holding 0 {n = length holding} (omega arith));
+  each = λ k l h. absurd (omega arith);
+}
+
+-- a turn, from i = j + 1 to j
+filling-more : (holding rates : List ℕ) {next i : ℕ} (j : ℕ) → i ≡ suc j → Filling holding rates next i
+    → Filling holding (set rates j (at holding j + next)) (at holding j) j
+filling-more holding rates {next} {i} j e w = record {
+  inside = omega (arith, w .inside);
+  size = length-set rates j v ∙ w .size;
+  is = refl;
+  each = λ k l h. ⊎-elim (λ (q : j ≡ k). rw (← q) here) (λ g. getD-set-other rates j k v 0 (λ s. omega arith) ∙ w .each k (omega arith) h) (eq-or-lt-of-le l);
+}
+  where
+    v : ℕ
+    v = at holding j + next
+
+    here : at (set rates j v) j ≡ rateOf holding j
+    here = getD-set-same rates j v 0 (omega (arith, w .size, w .inside)) ∙ ap (λ (u : ℕ). at holding j + u) (w .is ∙ ap (at holding) e)
+
+abbrev Inv-loop : tie.InvT-loop
+Inv-loop holding rates₀ next₀ i₀ rates next i = Filling holding rates next i
+
+abbrev μ-loop : tie.MeasureT-loop
+μ-loop holding rates₀ next₀ i₀ rates next i = i
+
+pub fill-rates-spec : {M : Type 1} → statement M
+fill-rates-spec = ?
