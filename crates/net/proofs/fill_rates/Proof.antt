@@ -49,5 +49,31 @@ Inv-loop holding rates₀ next₀ i₀ rates next i = Filling holding rates next
 abbrev μ-loop : tie.MeasureT-loop
 μ-loop holding rates₀ next₀ i₀ rates next i = i
 
+-- no sum of two is above the limit of a rate
+add-rates : tie.Need-add-rates Inv-loop μ-loop
+add-rates c =
+    let p = c .before .before in
+    let low = p .before .pre .1 in
+    omega (arith, low (p .loop .i - 1), low (p .loop .i), p .loop .inv .is)
+
+inside : (c : tie.In-loop Inv-loop μ-loop) → c .before .loop .i - 1 < length (c .before .before .args .holding .now)
+inside c = omega (arith, c .loop-test .taken, c .before .loop .inv .inside)
+
+loop-again : tie.Need-loop-again Inv-loop μ-loop
+loop-again c =
+    let p = c .before .before .before in
+    filling-more _ _ (p .loop .i - 1) (omega (arith, c .before .before .loop-test .taken)) (p .loop .inv)
+
+returns : tie.Need-returns Inv-loop μ-loop
+returns c =
+    let p = c .before in
+    rates-listed (p .before .args .holding .now) (p .loop .rates) (p .loop .inv .size)
+    (λ k. p .loop .inv .each k (omega (arith, c .loop-test .left)))
+
 pub fill-rates-spec : {M : Type 1} → statement M
-fill-rates-spec = ?
+fill-rates-spec =
+    tie.close
+    (tie.spec
+    Inv-loop μ-loop (λ c. filling-none _ _ (c .pre .0)) (λ c. omega arith) (λ c. omega arith) (λ c. inside (c .before)) add-rates
+    (λ c. omega arith) (λ c. omega (arith, inside (c .before), c .before .before .loop .inv .size)) (λ c. omega arith)
+    (λ c. inside (c .before .before)) (λ c. omega arith) loop-again (λ c. c .before .loop .inv .size ∙ sym (c .before .before .pre .0)) returns)
