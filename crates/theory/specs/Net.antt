@@ -10,6 +10,7 @@ use Prim.Native.Nat.{ℕ, zero, suc, _+_, _-_, _≤_, _<_}
 use native.Mathlib.Decide.{decLt}
 use native.Mathlib.Omega.{arith}
 use lib.ListN.{length, List·getD-eq-default}
+use Rattle.day.specs.declared.Ends.{Ends}
 use Rattle.day.specs.Sums.{at, sumTo, sum-ext, listOf, at-listOf, length-listOf, listOf-at}
 use Rattle.day.specs.Day.{Day, dayOf, endsOf, periods, demandTo, capacityTo, required, total, netTo, net-before, net-end}
 use Rattle.day.specs.Day.{maxPeriods, maxHalfRate, maxTotal}
@@ -39,10 +40,13 @@ problemBy needs rates d = problemWith needs (d .capacity) (d .setup) (d .unit) r
 abbrev pub problemOf : Day → Problem
 problemOf d = problemBy (netNeeds d) (ratesOf (d .holding)) d
 
--- the two tables, as they are filled in for a day
-pub record NetTables (d : Day) (net held : List ℕ) : Type 0 where
-  pub needs : net ≡ netNeeds d
-  pub rates : held ≡ ratesOf (d .holding)
+-- the two tables, as they are filled in from a day's demands, upkeep and ends, which is all that they tell
+pub record FilledFrom (demand holding : List ℕ) (ends : Ends) (net held : List ℕ) : Type 0 where
+  pub needs : net ≡ netNeeds (dayOf demand [] [] [] [] ends)
+  pub rates : held ≡ ratesOf holding
+
+abbrev pub NetTables : Day → (net rates : List ℕ) → Type 0
+NetTables d net rates = FilledFrom (d .demand) (d .holding) (endsOf d) net rates
 
 -- what tests 1 and 14 leave: there is a period, and A ≤ R + Z
 pub record Fits (d : Day) : Type 0 where
