@@ -1,6 +1,6 @@
 -- Laws of the call: what passed tests leave for the work, and what the work leaves is what an accepted call leaves.
 -- Assumes nothing.
-use mathlib.Core.Path.{_≡_, refl, sym, ap, _∙_}
+use mathlib.Core.Path.{_≡_, refl, sym, ap, subst, _∙_}
 use mathlib.Core.List.{List, _++_}
 use Prim.Native.Nat.{ℕ, _-_, _≤_, _<_}
 use native.Mathlib.Omega.{arith}
@@ -38,7 +38,7 @@ abbrev pub back : (k : ℕ) (l part : List ℕ) → List ℕ
 back k l part = putMid 0 (k - 0) l part
 
 module _ (k : ℕ) (l part : List ℕ) (e : length part ≡ length (front k l)) where
-  back-length : length (back k l part) ≡ length l
+  pub back-length : length (back k l part) ≡ length l
   back-length = same-len-mid 0 (k - 0) l part e
 
   back-rest : k ≤ length l → drop k (back k l part) ≡ drop k l
@@ -95,7 +95,7 @@ module _ (d : Day) (m : Memory) (ok : Admitted equal d (sizesOf m)) (r : Needed)
       same k h = sym (List·getD-append slots _ 0 k (omega (arith, size, front-length n (m .slots) (ok .room .slots), periods-is d)))
 
       found-net : PlanFound (problemOf d) slots
-      found-net = rw (problem-is d filled) at found
+      found-net = subst (λ (q : Problem). PlanFound q slots) (problem-is d filled) found
 
       slots-optimal : Optimal d (at slots′)
       slots-optimal =

@@ -9,7 +9,8 @@ use mathlib.Core.Logic.{_↔_}
 use Prim.Native.Nat.{ℕ, zero, suc, _+_, _-_, _≤_, _<_}
 use native.Mathlib.Decide.{decLt}
 use native.Mathlib.Omega.{arith}
-use lib.ListN.{length, List·getD-eq-default}
+use lib.ListN.{length, take, replicate, length-replicate, List·getD-eq-default}
+use lib.Seq.{length-take-le}
 use Rattle.day.specs.declared.Ends.{Ends}
 use Rattle.day.specs.Sums.{at, sumTo, sum-ext, listOf, at-listOf, length-listOf, listOf-at}
 use Rattle.day.specs.Day.{Day, dayOf, endsOf, periods, demandTo, capacityTo, required, total, netTo, net-before, net-end}
@@ -64,7 +65,7 @@ abbrev pub HalfRates : List ℕ → Type 0
 HalfRates holding = (k : ℕ) → at holding k ≤ maxHalfRate
 
 -- of a day's demands and ends alone, as the function has it that fills the net needs
-pub limits-net : {d : Day} → DayLimits d → NetFits (dayOf (d .demand) [] [] [] [] (endsOf d))
+limits-net : {d : Day} → DayLimits d → NetFits (dayOf (d .demand) [] [] [] [] (endsOf d))
 limits-net g = record { nonempty = g .limits .nonempty; few = g .limits .few; small = g .small }
 
 pub limits-fit : {d : Day} → DayLimits d → Fits d
@@ -153,12 +154,22 @@ module _ (d : Day) where
     net-limit : (top : ℕ) → required d ≤ top → (k : ℕ) → k < n → at (netNeeds d) k ≤ top
     net-limit top h k l = omega (arith, at-listOf (netNeed d) n k l, net-below (suc k) l)
 
-  pub limits-half : DayLimits d → HalfRates (d .holding)
+  limits-half : DayLimits d → HalfRates (d .holding)
   limits-half g k = go (decLt k n)
     where
       go : Dec (k < n) → at (d .holding) k ≤ maxHalfRate
       go (yes h) = g .limits .within k h .holding
       go (no h) = omega (arith, List·getD-eq-default (d .holding) 0 {n = k} (omega (arith, g .limits .lengths .holding)))
+
+  -- what filling the two tables asks, where each is the front of n cells of 96
+  pub limits-fill : DayLimits d
+      → let front : List ℕ = take (n - 0) (replicate maxPeriods 0) in
+      (length front ≡ length (d .demand))
+      × ((length front ≡ length (d .holding)) × (NetFits (dayOf (d .demand) [] [] [] [] (endsOf d)) × HalfRates (d .holding)))
+  limits-fill g =
+      let l = g .limits in
+      let size = length-take-le (n - 0) (replicate {A = ℕ} maxPeriods 0) (omega (arith, l .few, length-replicate {A = ℕ} maxPeriods 0)) in
+      (omega (arith, size), (omega (arith, size, l .lengths .holding), (limits-net g, limits-half g)))
 
   pub bounded : DayLimits d → Bounded (problemOf d)
   bounded g =

@@ -6,7 +6,7 @@ use lib.ListN.{replicate}
 use lib.Seq.{length-take-le}
 use Rattle.day.specs.Day.{Day, dayOf, periods}
 use Rattle.day.specs.Outcome.{Memory, memoryOf}
-use Rattle.theory.specs.Net.{problemBy, limits-net, limits-half}
+use Rattle.theory.specs.Net.{problemBy, limits-fill}
 use Rattle.full.specs.Work.{Workable}
 use Rattle.full.proofs.Fronts.{workable, left-feasible, work-accepted}
 use borrow.Author.Needs.{needs}
@@ -43,10 +43,7 @@ total-requires c κs = let g = start c .pre .day in (g .limits .few, g .used)
 fill-requires : tie.Need-fill-requires
 fill-requires c κs =
     let s = begun (counted c) in
-    let zeros : List ℕ = replicate 96 0 in
-    let g = s .pre .day in
-    let size = length-take-le (periods (given s) - 0) zeros (omega (arith, g .limits .few)) in
-    (omega (arith, size), (omega (arith, size, g .limits .lengths .holding), (limits-net g, limits-half (given s) g)))
+    limits-fill (given s) (s .pre .day)
 
 ready : (c : tie.After-fill)
     → let k = counted (c .before) in
