@@ -1,8 +1,8 @@
 -- The days of documents 01 and 02 as problems: net needs, which the opening charge lowers and the closing charge raises; rates, by which what is
 -- left after a period is paid for in that period and in the next.
--- Main definitions: `netNeed`, `ratesOf`, `problemOf`, `Fits`. Main statements: `floor-is`, `total-is`, the net needs sum to what must have been
--- made; `rate-is`; `bounded`, a day within the limits gives what the loops rely on; `net-listed`, `rates-listed`, what the loops that fill the
--- two tables end with. Assumes nothing.
+-- Main definitions: `netNeed`, `rateOf`, `problemOf`, `Fits`. Main statements: `floor-is`, `total-is`, the net needs sum to what must have been
+-- made; `bounded`, a day within the limits gives what the loops rely on; `problem-is`, the two tables as they are filled in are the problem's.
+-- Assumes nothing.
 use mathlib.Core.Path.{_≡_, sym, ap, ap₂, _∙_}
 use mathlib.Core.List.{List, []}
 use mathlib.Core.Logic.{_↔_}
@@ -12,7 +12,7 @@ use native.Mathlib.Omega.{arith}
 use lib.ListN.{length, take, replicate, length-replicate, List·getD-eq-default}
 use lib.Seq.{length-take-le}
 use Rattle.day.specs.declared.Ends.{Ends}
-use Rattle.day.specs.Sums.{at, sumTo, sum-ext, listOf, at-listOf, length-listOf, listOf-at}
+use Rattle.day.specs.Sums.{at, sumTo, sum-ext, listOf, at-listOf, length-listOf}
 use Rattle.day.specs.Day.{Day, dayOf, endsOf, periods, demandTo, capacityTo, required, total, netTo, net-before, net-end}
 use Rattle.day.specs.Day.{maxPeriods, maxHalfRate, maxTotal}
 use Rattle.checks.specs.Passed.{DayLimits}
@@ -85,21 +85,12 @@ rate-is holding k = go (decLt k (length holding))
           List·getD-eq-default holding 0 {n = suc k} (omega arith),
         )
 
--- a table of the rates is the problem's
-pub rates-listed : (holding rates : List ℕ) → length rates ≡ length holding
-    → ((k : ℕ) → k < length holding → at rates k ≡ rateOf holding k) → rates ≡ ratesOf holding
-rates-listed holding rates e each = sym (listOf-at (length holding) rates (rateOf holding) e (λ k l. sym (each k l)))
-
 module _ (d : Day) where
   abbrev n : ℕ
   n = periods d
 
   pub periods-is : Problem.periods (problemOf d) ≡ n
   periods-is = length-listOf (netNeed d) n
-
-  -- a table of the net needs is the problem's
-  pub net-listed : (net : List ℕ) → length net ≡ n → ((k : ℕ) → k < n → at net k ≡ netNeed d k) → net ≡ netNeeds d
-  net-listed net e each = sym (listOf-at n net (netNeed d) e (λ k l. sym (each k l)))
 
   -- what must have been made never falls, and ends with T
   pub net-rises : (i : ℕ) → i < n → netTo d i ≤ netTo d (suc i)

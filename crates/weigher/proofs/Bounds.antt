@@ -3,7 +3,7 @@
 use mathlib.Core.Path.{_≡_, refl}
 use mathlib.Core.List.{List, [], _∷_}
 use mathlib.Core.Option.{Option, none, some}
-use Prim.Native.Nat.{ℕ, zero, suc, _+_, _-_, _*_, _^_, _≤_, _<_}
+use Prim.Native.Nat.{ℕ, zero, suc, _+_, _*_, _^_, _≤_, _<_}
 use native.Mathlib.Nat.{mul-le-mul-right, le-trans, le-of-lt, suc-mul}
 use native.Mathlib.Omega.{arith}
 use lib.ListN.{length}
@@ -51,7 +51,7 @@ module _ (d : Day) (x : ℕ → ℕ) (wide : Wide d x) (low : d .opening < 2 ^ 1
             arith,
             making-low _ _ (x k) (le-of-lt (wide .setup k .fits)) (le-of-lt (wide .unit k .fits)) (le-of-lt (wide .amount k .fits)),
             paid-low _ (inventory d x k + inventory d x (suc k)) (wide .holding k .fits)
-            (omega (arith, supplied-low k (omega arith), supplied-low (suc k) (omega arith))),
+                (omega (arith, supplied-low k (omega arith), supplied-low (suc k) (omega arith))),
           )
 
   pub sums-low : (i : ℕ) → i ≤ maxPeriods → demandTo d i ≤ d .opening + sumTo x i → Room (sumsTo d x i)

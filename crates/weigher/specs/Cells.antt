@@ -9,7 +9,7 @@ use lib.Dec.{ltb}
 use lib.ListN.{length, length-append, List·getD-append}
 use borrow.Author.Tests.{le-ltb}
 use Rattle.day.specs.declared.Refusal.the-variants.{FewSlots}
-use Rattle.day.specs.Sums.{at, sumTo, sum-ext}
+use Rattle.day.specs.Sums.{at, sum-ext}
 use Rattle.day.specs.Day.{Day, periods}
 use Rattle.day.specs.Plan.{setupAt}
 use Rattle.day.specs.Search.{sums-alike, feasible-alike, cost-alike}

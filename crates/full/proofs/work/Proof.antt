@@ -1,10 +1,6 @@
 -- `full::work` meets its contract. Assumes nothing.
-use mathlib.Core.List.{List}
-use Prim.Native.Nat.{ℕ, _-_}
 use native.Mathlib.Omega.{arith}
-use lib.ListN.{replicate}
-use lib.Seq.{length-take-le}
-use Rattle.day.specs.Day.{Day, dayOf, periods}
+use Rattle.day.specs.Day.{Day, dayOf}
 use Rattle.day.specs.Outcome.{Memory, memoryOf}
 use Rattle.theory.specs.Net.{problemBy, limits-fill}
 use Rattle.full.specs.Work.{Workable}

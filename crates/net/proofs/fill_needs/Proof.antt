@@ -7,9 +7,9 @@ use native.Mathlib.Numerals.{add-one}
 use native.Mathlib.Omega.{arith}
 use lib.ListN.{length, set, length-set}
 use lib.Seq.{getD-set-same, getD-set-other}
-use Rattle.day.specs.Sums.{at, below}
+use Rattle.day.specs.Sums.{at, below, listOf-at}
 use Rattle.day.specs.Day.{Day, dayOf, periods, demandTo, netTo, maxPeriods, maxCapacity}
-use Rattle.theory.specs.Net.{netNeed, NetFits, net-zero, net-rises, net-below, net-listed}
+use Rattle.theory.specs.Net.{netNeed, NetFits, net-zero, net-rises, net-below}
 use Rattle.net.proofs.fill_needs.Statement.{statement}
 use Rattle.net.proofs.fill_needs.Tie as tie
 
@@ -105,7 +105,7 @@ returns : tie.Need-returns Inv-loop μ-loop
 returns c =
     let p = c .before in
     let w = p .loop .inv in
-    net-listed (given p) (p .loop .net) (w .size) (λ k l. w .each k (omega (arith, c .loop-test .left)))
+    sym (listOf-at _ (p .loop .net) (netNeed (given p)) (w .size) (λ k l. sym (w .each k (omega (arith, c .loop-test .left)))))
 
 pub fill-needs-spec : {M : Type 1} → statement M
 fill-needs-spec =

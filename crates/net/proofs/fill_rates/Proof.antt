@@ -8,8 +8,8 @@ use native.Mathlib.Nat.{eq-or-lt-of-le}
 use native.Mathlib.Omega.{arith}
 use lib.ListN.{length, set, length-set, List·getD-eq-default}
 use lib.Seq.{getD-set-same, getD-set-other}
-use Rattle.day.specs.Sums.{at}
-use Rattle.theory.specs.Net.{rateOf, HalfRates, rates-listed}
+use Rattle.day.specs.Sums.{at, listOf-at}
+use Rattle.theory.specs.Net.{rateOf}
 use Rattle.net.proofs.fill_rates.Statement.{statement}
 use Rattle.net.proofs.fill_rates.Tie as tie
 
@@ -34,7 +34,10 @@ filling-more holding rates {next} {i} j e w = record {
   inside = omega (arith, w .inside);
   size = length-set rates j v ∙ w .size;
   is = refl;
-  each = λ k l h. ⊎-elim (λ (q : j ≡ k). rw (← q) here) (λ g. getD-set-other rates j k v 0 (λ s. omega arith) ∙ w .each k (omega arith) h) (eq-or-lt-of-le l);
+  each = λ k l h. ⊎-elim
+      (λ (q : j ≡ k). rw (← q) here)
+      (λ g. getD-set-other rates j k v 0 (λ s. omega arith) ∙ w .each k (omega arith) h)
+      (eq-or-lt-of-le l);
 }
   where
     v : ℕ
@@ -67,8 +70,8 @@ loop-again c =
 returns : tie.Need-returns Inv-loop μ-loop
 returns c =
     let p = c .before in
-    rates-listed (p .before .args .holding .now) (p .loop .rates) (p .loop .inv .size)
-    (λ k. p .loop .inv .each k (omega (arith, c .loop-test .left)))
+    let w = p .loop .inv in
+    sym (listOf-at _ (p .loop .rates) (rateOf (p .before .args .holding .now)) (w .size) (λ k l. sym (w .each k (omega (arith, c .loop-test .left)) l)))
 
 pub fill-rates-spec : {M : Type 1} → statement M
 fill-rates-spec =
