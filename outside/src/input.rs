@@ -227,7 +227,7 @@ fn give_opening(random: &mut Random, size: Size, day: &mut Day) {
             }
             more
         }
-        _ => 1,
+        _ => asked.min(1) as u16,
     };
 }
 
