@@ -1,15 +1,10 @@
 //! Tries every call of the library on the days, plans and files of standard input, and prints a line for each answer. What it reads is
 //! the file stdin beside src/, which says how its lines are laid out; what it writes is compared with the file stdout.
-mod cells;
-mod files;
-mod paths;
-mod print;
-mod text;
-mod tiny;
-mod weighing;
-
 use day::Ends;
 use libc::STDIN_FILENO;
+use trial_paths::paths;
+use trial_paths::tiny;
+use trial_text::text;
 
 // The trials of a day, by the line's kind.
 fn day(
@@ -24,15 +19,15 @@ fn day(
     let kind = text::kind(line);
     if check::same(kind, b"day") {
         paths::all(line, demand, capacity, setup, unit, holding, ends);
-        tiny::searched(line, demand, capacity, setup, unit, holding, ends);
-        return files::write(line, 1645, demand, capacity, setup, unit, holding, ends);
+        trial_plans::searched(line, demand, capacity, setup, unit, holding, ends);
+        return trial_files::write(line, 1645, demand, capacity, setup, unit, holding, ends);
     }
     if check::same(kind, b"weigh") || check::same(kind, b"compare") {
-        return weighing::plans(line, demand, capacity, setup, unit, holding, ends);
+        return trial_plans::plans(line, demand, capacity, setup, unit, holding, ends);
     }
     if check::same(kind, b"write") {
         let room = text::size(text::number_in(line, 6));
-        return files::write(line, room, demand, capacity, setup, unit, holding, ends);
+        return trial_files::write(line, room, demand, capacity, setup, unit, holding, ends);
     }
     paths::lent(line, demand, capacity, setup, unit, holding, ends);
 }
@@ -68,7 +63,7 @@ fn trial(line: &[u8]) {
         return;
     }
     if check::same(kind, b"file") {
-        return files::file(line);
+        return trial_files::file(line);
     }
     if check::same(kind, b"made-up") {
         return tiny::made_up(line);

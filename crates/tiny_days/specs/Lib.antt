@@ -1,0 +1,2 @@
+-- Made-up tiny days.
+pub mod MadeUp

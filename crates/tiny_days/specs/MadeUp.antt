@@ -1,0 +1,81 @@
+-- What a made-up day is: its numbers are draws of the generator in document 02, 2.7.
+-- Main definition: `madeUp`. Assumes nothing.
+use mathlib.Core.Path.{_≡_}
+use mathlib.Core.List.{[], _∷_}
+use Prim.Native.Nat.{ℕ, _+_, _*_, _/_, _%_, _^_, _≤_}
+use lib.ListN.{length}
+use Rattle.day.specs.declared.Ends.{Ends}
+use Rattle.tiny_days.specs.declared.Capacities.{Capacities}
+use Rattle.tiny_days.specs.declared.Capacities.the-variants.{Any, Equal, Unbound}
+use Rattle.tiny_days.specs.declared.Drawn.{Drawn}
+use Rattle.tiny_days.specs.declared.Tiny.{Tiny}
+
+-- the next seed; the number drawn with a seed
+abbrev pub nextOf : ℕ → ℕ
+nextOf seed = (1664525 * seed + 1013904223) % 2 ^ 32
+
+abbrev pub upperOf : ℕ → ℕ
+upperOf seed = seed / 2 ^ 16
+
+-- the capacity drawn for the period, the one drawn for the day, or 10, which all that a tiny day makes does not exceed
+abbrev pub capacityOf : Capacities → (drawn common : ℕ) → ℕ
+capacityOf Any drawn common = drawn
+capacityOf Equal drawn common = common
+capacityOf Unbound drawn common = 10
+
+-- one period: five draws, for demand, capacity, setup, unit and holding cost in this order
+unfoldable pub drawnOf : ℕ → Capacities → ℕ → Drawn
+drawnOf seed capacities common =
+    let a = nextOf seed in
+    let b = nextOf a in
+    let c = nextOf b in
+    let d = nextOf c in
+    let e = nextOf d in
+    record {
+      seed = e;
+      demand = upperOf a % 3;
+      capacity = capacityOf capacities (upperOf b % 5) common;
+      setup = upperOf c % 4;
+      unit = upperOf d % 3;
+      holding = upperOf e % 3;
+    }
+
+-- both ends: a draw each, opening before closing
+abbrev pub endsFrom : (seed most : ℕ) → Ends
+endsFrom seed most = let a = nextOf seed in record { opening = upperOf a % (most + 1); closing = upperOf (nextOf a) % (most + 1) }
+
+-- four periods as tables, of which the first n cells count, with the day's ends; the next day's seed is the one after the periods
+abbrev pub tablesOf : ℕ → (a b c d : Drawn) → Ends → Tiny
+tablesOf n a b c d ends =
+    record {
+      seed = d .seed;
+      n = n;
+      demand = a .demand ∷ b .demand ∷ c .demand ∷ d .demand ∷ [];
+      capacity = a .capacity ∷ b .capacity ∷ c .capacity ∷ d .capacity ∷ [];
+      setup = a .setup ∷ b .setup ∷ c .setup ∷ d .setup ∷ [];
+      unit = a .unit ∷ b .unit ∷ c .unit ∷ d .unit ∷ [];
+      holding = a .holding ∷ b .holding ∷ c .holding ∷ d .holding ∷ [];
+      ends = ends;
+    }
+
+-- a made-up day: a draw for the number of periods, one for the common capacity, then the periods, then the ends
+unfoldable pub madeUp : ℕ → Capacities → ℕ → Tiny
+madeUp seed capacities most =
+    let first = nextOf seed in
+    let second = nextOf first in
+    let common = upperOf second % 5 in
+    let a = drawnOf second capacities common in
+    let b = drawnOf (a .seed) capacities common in
+    let c = drawnOf (b .seed) capacities common in
+    let d = drawnOf (c .seed) capacities common in
+    tablesOf (1 + upperOf first % 4) a b c d (endsFrom (d .seed) most)
+
+-- the day that the seed gives; each of its tables has a cell for every period
+pub record MadeUp (seed : ℕ) (capacities : Capacities) (most : ℕ) (r : Tiny) : Type 0 where
+  pub is : r ≡ madeUp seed capacities most
+  pub few : r .n ≤ 4
+  pub demand : r .n ≤ length (r .demand)
+  pub capacity : r .n ≤ length (r .capacity)
+  pub setup : r .n ≤ length (r .setup)
+  pub unit : r .n ≤ length (r .unit)
+  pub holding : r .n ≤ length (r .holding)

@@ -1,0 +1,189 @@
+//! Made-up tiny days: the three paths beside the plain search.
+ghost use Prim.Native.Nat.{_<_};
+use crate::paths;
+use crate::paths::Path;
+use day::Answer;
+use day::Ends;
+use plain::Best;
+use tiny_days::Capacities;
+use trial_text::cells;
+use trial_text::cells::MARK;
+use trial_text::print;
+use trial_text::text;
+
+// The number of the refusal; 0 where there is none.
+fn refused(answer: Answer) -> u8 {
+    match answer {
+        Answer::Planned(_) => 0,
+        Answer::Refused(r) => r.number(),
+    }
+}
+
+// What a call showed: whether it agreed with the search, the number of its refusal, and whether it left lent cells as it must.
+struct Seen {
+    agrees: bool,
+    number: u8,
+    kept: bool,
+}
+
+fn see(
+    path: Path,
+    best: Best,
+    demand: &[u16],
+    capacity: &[u16],
+    setup: &[u32],
+    unit: &[u32],
+    holding: &[u32],
+    ends: Ends,
+) -> Seen {
+    let mut costs = [119u64; 32];
+    let mut choices = [MARK; 102];
+    let mut slots = [MARK; 5];
+    let run = paths::run(
+        path,
+        b"",
+        demand,
+        capacity,
+        setup,
+        unit,
+        holding,
+        &mut costs,
+        &mut choices,
+        &mut slots,
+        ends,
+    );
+    let answer = run.answer;
+    Seen {
+        agrees: plain::agrees(best, demand, answer, &slots, ends),
+        number: refused(answer),
+        kept: run.kept,
+    }
+}
+
+// Counts: 0, days with a plan; 1, 2, 3, days on which the full, the uncapped and the equal path agreed with the search; 4, calls that
+// refused the day's capacities (8 or 9); 5, calls that left lent cells as they must; 6, calls that refused its opening charge (14).
+fn count(counts: &mut [u64; 16], k: usize, seen: Seen)
+    requires { ⌜ k < 16 ⌝ }
+{
+    let number = seen.number;
+    cells::count_if(counts, k, seen.agrees);
+    cells::count_if(counts, 4, number == 8 || number == 9);
+    cells::count_if(counts, 5, seen.kept);
+    cells::count_if(counts, 6, number == 14);
+}
+
+fn compare(
+    demand: &[u16],
+    capacity: &[u16],
+    setup: &[u32],
+    unit: &[u32],
+    holding: &[u32],
+    counts: &mut [u64; 16],
+    ends: Ends,
+) {
+    let best = plain::search(demand, capacity, setup, unit, holding, ends);
+    cells::count_if(counts, 0, best.found);
+    count(
+        counts,
+        1,
+        see(
+            Path::Full,
+            best,
+            demand,
+            capacity,
+            setup,
+            unit,
+            holding,
+            ends,
+        ),
+    );
+    count(
+        counts,
+        2,
+        see(
+            Path::Uncapped,
+            best,
+            demand,
+            capacity,
+            setup,
+            unit,
+            holding,
+            ends,
+        ),
+    );
+    count(
+        counts,
+        3,
+        see(
+            Path::Equal,
+            best,
+            demand,
+            capacity,
+            setup,
+            unit,
+            holding,
+            ends,
+        ),
+    );
+}
+
+// The day of a seed, and the seed of the next one.
+fn one_day(seed: u32, capacities: Capacities, counts: &mut [u64; 16], most: u16) -> u32 {
+    let d = tiny_days::make_up(seed, capacities, most);
+    let n = d.n;
+    let demand = d.demand;
+    let capacity = d.capacity;
+    let setup = d.setup;
+    let unit = d.unit;
+    let holding = d.holding;
+    let ends = d.ends;
+    compare(
+        &demand[0..n],
+        &capacity[0..n],
+        &setup[0..n],
+        &unit[0..n],
+        &holding[0..n],
+        counts,
+        ends,
+    );
+    d.seed
+}
+
+fn days(capacities: Capacities, seed: u32, days: u32, counts: &mut [u64; 16], most: u16) {
+    let mut s = seed;
+    let mut i = 0;
+    while i < days {
+        s = one_day(s, capacities, counts, most);
+        i += 1;
+    }
+}
+
+fn named(name: &[u8]) -> Capacities {
+    if check::same(name, b"equal") {
+        return Capacities::Equal;
+    }
+    if check::same(name, b"unbound") {
+        return Capacities::Unbound;
+    }
+    Capacities::Any
+}
+
+// Made-up days with the capacities that the trial is named after: from the seed of field 1, as many as field 2 says, with ends of at most
+// the number in field 3.
+pub fn made_up(line: &[u8]) {
+    let mut counts = [0u64; 16];
+    days(
+        named(text::name(line)),
+        text::number_in(line, 1),
+        text::number_in(line, 2),
+        &mut counts,
+        text::low(text::number_in(line, 3)),
+    );
+    print::text(b"made-up ");
+    print::text(text::name(line));
+    print::text(text::field(line, 1));
+    print::text(text::field(line, 2));
+    print::text(text::field(line, 3));
+    print::counts(counts);
+    print::end();
+}
