@@ -22,9 +22,9 @@ heldBy d i = d .opening + netTo d i - demandTo d i
 abbrev standingTo : Day → ℕ → ℕ
 standingTo d i = at (d .holding) 0 * d .opening + sumTo (λ k. rateOf (d .holding) k * heldBy d (suc k)) i
 
--- and what a table of h that went on past n would add to its last rate, for Z
-abbrev beyond : Day → ℕ
-beyond d = at (d .holding) (periods d) * d .closing
+-- what a table of h that went on past n would add for Z, by the last rate; a table of n entries adds nothing
+abbrev pastEnd : Day → ℕ
+pastEnd d = at (d .holding) (periods d) * d .closing
 
 -- costs that differ by what every plan pays order plans alike
 precedes-shift : (f g : (ℕ → ℕ) → ℕ) (a b n : ℕ) (x y : ℕ → ℕ) → f x + a ≡ g x + b → f y + a ≡ g y + b → Precedes f n x y → Precedes g n x y
@@ -83,7 +83,8 @@ module _ (d : Day) (fits : Fits d) where
       let rate = ap (λ (v : ℕ). v * above) (rate-is (d .holding) k) in
       omega (arith, cost-through x f k (omega arith), left, next, rate)
 
-  cost-is : (x : ℕ → ℕ) → FeasibleTo M n (total d) x → cost d x + beyond d ≡ costTo M x n + standingTo d n
+  -- so sum (1) and the model's cost differ by what every plan pays
+  cost-is : (x : ℕ → ℕ) → FeasibleTo M n (total d) x → cost d x + pastEnd d ≡ costTo M x n + standingTo d n
   cost-is x f =
       let e : inventory d x n ≡ d .closing = omega (arith, f .total, fits .used) in
       omega (arith, cost-through x f n (omega arith), ap (λ (v : ℕ). at (d .holding) n * v) e)
@@ -94,14 +95,14 @@ module _ (d : Day) (fits : Fits d) where
         record {
           feasible = feasible-model x (o .feasible);
           first = λ y f.
-              precedes-shift (cost d) (λ z. costTo M z n) (beyond d) (standingTo d n) n x y
+              precedes-shift (cost d) (λ z. costTo M z n) (pastEnd d) (standingTo d n) n x y
               (cost-is x (feasible-model x (o .feasible))) (cost-is y f) (o .first y (model-feasible y f));
         },
     λ o.
         record {
           feasible = model-feasible x (o .feasible);
           first = λ y f.
-              precedes-shift (λ z. costTo M z n) (cost d) (standingTo d n) (beyond d) n x y
+              precedes-shift (λ z. costTo M z n) (cost d) (standingTo d n) (pastEnd d) n x y
               (sym (cost-is x (o .feasible))) (sym (cost-is y (feasible-model y f))) (o .first y (feasible-model y f));
         },
   )

@@ -41,7 +41,7 @@ problemBy needs rates d = problemWith needs (d .capacity) (d .setup) (d .unit) r
 abbrev pub problemOf : Day → Problem
 problemOf d = problemBy (netNeeds d) (ratesOf (d .holding)) d
 
--- the two tables, as they are filled in from a day's demands, upkeep and ends, which is all that they tell
+-- the two tables as they are filled in: a day's demands, upkeep and ends decide them
 pub record FilledFrom (demand holding : List ℕ) (ends : Ends) (net held : List ℕ) : Type 0 where
   pub needs : net ≡ netNeeds (dayOf demand [] [] [] [] ends)
   pub rates : held ≡ ratesOf holding

@@ -13,6 +13,7 @@ use Rattle.theory.specs.Net.{rateOf}
 use Rattle.net.proofs.fill_rates.Statement.{statement}
 use Rattle.net.proofs.fill_rates.Tie as tie
 
+-- the rates from i on are filled in
 record Filling (holding rates : List ℕ) (next i : ℕ) : Type 0 where
   inside : i ≤ length holding
   size : length rates ≡ length holding
