@@ -14,8 +14,8 @@ fn dear(demand: &[u16; N], capacity: &[u16; N], opening: u16, closing: u16) -> D
     Day { demand: demand.to_vec(), capacity: capacity.to_vec(), setup, unit, holding, opening, closing }
 }
 
-/// Every call on the dearest days. The plans to weigh make all at once, which is held the longest; where it may be made last, they are
-/// compared with making it so.
+/// Every call on the dearest days. The plans to weigh make all as early as capacity allows, which is held the longest; where it may also be
+/// made in the last period, the two are compared.
 pub fn dearest() -> Vec<Input> {
     let alone = |i: usize, amount: u16| std::array::from_fn(|k| if k == i { amount } else { 0 });
     let (first, last) = (alone(0, 4096), alone(N - 1, 4096));
@@ -24,13 +24,13 @@ pub fn dearest() -> Vec<Input> {
     // 4,096 as full loads of 43 and a part load
     let loads = std::array::from_fn(|i| (4096 - 43 * i as u16).min(43));
     let days = [
-        // needed last: made at once, in loads, or at any time
+        // needed last: made in the first period, in loads, or in any
         (dear(&last, &first, 0, 0), &first, &first),
         (dear(&last, &[43; N], 0, 0), &loads, &loads),
         (dear(&last, &free, 0, 0), &first, &last),
-        // handed on: made at once, or at any time
+        // handed on: made in the first period, or in any
         (dear(&none, &first, 0, 4096), &first, &first),
-        (dear(&none, &free, 0, 4096), &last, &first),
+        (dear(&none, &free, 0, 4096), &first, &last),
         // there from the beginning: needed last, handed on, or half of it
         (dear(&last, &none, 4096, 0), &none, &none),
         (dear(&none, &free, 4096, 4096), &none, &none),

@@ -89,12 +89,13 @@ impl Row {
     }
 }
 
-/// The rows as inputs of every call. The row's plan is weighed, and compared with making nothing.
+/// The rows as inputs of every call. The row's plan, or nothing, is weighed, and compared with making each need in its own period: on the
+/// marked tie that costs the same.
 pub fn inputs() -> Vec<Input> {
     let of = |row: &Row| {
         let (day, nothing) = (row.day(), vec![0; row.demand.len()]);
         let plan = row.claim.map_or(&nothing[..], |(plan, _, _)| plan);
-        CALLS.map(|call| Input::exact(call, &day, [plan, &nothing]))
+        CALLS.map(|call| Input::exact(call, &day, [plan, row.demand]))
     };
     ROWS.iter().flat_map(of).collect()
 }

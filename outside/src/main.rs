@@ -93,8 +93,8 @@ impl Run {
         }
     }
 
-    /// An input with such upkeep, for which the condition of `other` holds. That of 3 holds with it exactly if the value is above the limit,
-    /// as far as the call tests values; with 3 for `other` nothing else is damaged.
+    /// An input with this upkeep in one period, for which the condition of `other` holds; for 3 nothing else is damaged. The condition of 3
+    /// holds there exactly if the value is above the limit and the call comes to test values.
     fn holding_input(&mut self, call: Call, value: u32, other: u64) -> Input {
         for _ in 0..10_000 {
             let mut day = input::day(&mut self.random, call, Size::Tiny, self.ends);

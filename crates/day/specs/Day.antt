@@ -1,4 +1,4 @@
--- A day: its five tables and its two ends, its limits, and the sums R, C and T (document 01, "The day and its plan"; document 02, 2.1;
+-- A day: its five tables and its two ends, its limits, and the sums R, C and T (document 01, "The day and its plan"; document 02, 2.1, 2.2;
 -- report, section 2).
 -- Assumes nothing.
 use mathlib.Core.Path.{_≡_, refl}

@@ -116,7 +116,7 @@ fn save_passes() {
     let capacity = [12u16; 96];
     let setup = [4000u32; 96];
     let unit = fuel();
-    let holding = [40u32; 96];
+    let holding = [20u32; 96];
     save(
         b"passes.day",
         &demand,

@@ -22,7 +22,7 @@ heldBy d i = d .opening + netTo d i - demandTo d i
 abbrev standingTo : Day → ℕ → ℕ
 standingTo d i = at (d .holding) 0 * d .opening + sumTo (λ k. rateOf (d .holding) k * heldBy d (suc k)) i
 
--- what a table of h that went on past n would add for Z, by the last rate; a table of n entries adds nothing
+-- what the last rate adds on Z where the table of h goes on past n, which `Fits` does not rule out; 0 for a table of n entries
 abbrev pastEnd : Day → ℕ
 pastEnd d = at (d .holding) (periods d) * d .closing
 

@@ -42,9 +42,9 @@ abbrev pub problemOf : Day → Problem
 problemOf d = problemBy (netNeeds d) (ratesOf (d .holding)) d
 
 -- the two tables as they are filled in: a day's demands, upkeep and ends decide them
-pub record FilledFrom (demand holding : List ℕ) (ends : Ends) (net held : List ℕ) : Type 0 where
+pub record FilledFrom (demand holding : List ℕ) (ends : Ends) (net rate : List ℕ) : Type 0 where
   pub needs : net ≡ netNeeds (dayOf demand [] [] [] [] ends)
-  pub rates : held ≡ ratesOf holding
+  pub rates : rate ≡ ratesOf holding
 
 abbrev pub NetTables : Day → (net rates : List ℕ) → Type 0
 NetTables d net rates = FilledFrom (d .demand) (d .holding) (endsOf d) net rates
@@ -60,7 +60,7 @@ pub record NetFits (d : Day) : Type 0 where
   pub few : periods d ≤ maxPeriods
   pub small : required d ≤ maxTotal
 
--- and what the rates ask to be of 32 bits: no upkeep is above its limit
+-- what the rates ask to be of 32 bits, and within the loops' limit: no upkeep is above its own
 abbrev pub HalfRates : List ℕ → Type 0
 HalfRates holding = (k : ℕ) → at holding k ≤ maxHalfRate
 
@@ -182,5 +182,5 @@ module _ (d : Day) where
       }
 
   -- the tables that were filled in are the problem's
-  pub problem-is : {net held : List ℕ} → NetTables d net held → problemBy net held d ≡ problemOf d
+  pub problem-is : {net rates : List ℕ} → NetTables d net rates → problemBy net rates d ≡ problemOf d
   problem-is t = ap₂ (λ (needs rates : List ℕ). problemBy needs rates d) (t .needs) (t .rates)

@@ -128,7 +128,7 @@ module _ (d : Day) (x : ℕ → ℕ) where
       ended : suc k ≡ periods d → d .opening + sumTo x (suc k) ≡ demandTo d (suc k) + d .closing
       ended e = omega (arith, ap (sumTo x) e, ap (demandTo d) e, f .ends)
 
-  -- through periods that break no rule no charge is below 0
+  -- after periods that break no rule the charge is not below 0
   pub passed-served : (i : ℕ) → find (breaks d x) i ≡ none → demandTo d i ≤ d .opening + sumTo x i
   passed-served zero e = omega arith
   passed-served (suc k) e =

@@ -79,7 +79,7 @@ enum Ruling {
     Broke(Rule),
 }
 
-// One period's rules in their order, then what making costs, then the holding cost on the charge before the period and the charge left.
+// One period's rules in their order, then what making costs, then the holding cost on the inventory before the period and the one left.
 fn judge(p: Entries, amount: u16, last: bool, s: Sums, closing: u16) -> Ruling
     requires { ⌜ Room s ⌝ }
     ensures { λ r. ⌜ r ≡ rulingOf p amount last s closing ⌝ }

@@ -150,7 +150,7 @@ fn files_with_holding() -> Vec<Case> {
         ("the tie row", plain::file_of(&tie), Some("periods 2 cost 20 starts 1\n1 made 4 left 2\n2 made 0 left 0\n")),
         ("M4, upkeep at its limit", m4_with(500_000, 500_000), Some("periods 2 cost 25 starts 2\n1 made 2 left 0\n2 made 3 left 0\n")),
         ("M4, upkeep above its limit", m4_with(500_000, 500_001), Some("refused 3 period 2\n")),
-        ("M4, upkeep at the limit of before", m4_with(1_000_000, 0), Some("refused 3 period 1\n")),
+        ("M4, upkeep at the limit before 2.2", m4_with(1_000_000, 0), Some("refused 3 period 1\n")),
         ("the most charge at the highest upkeep", plain::file_of(&kept), Some("periods 1 cost 4096000000 starts 0\n1 made 0 left 4096\n")),
     ]
 }
