@@ -152,7 +152,7 @@ module _ (d : Day) where
       go (yes h) = g .limits .within k h .holding
       go (no h) = omega (arith, List·getD-eq-default (d .holding) 0 {n = k} (omega (arith, g .limits .lengths .holding)))
 
-  -- what filling the two tables asks, where each is the front of n cells of 96
+  -- what filling the two tables asks, where each is the front of n cells of 96; a part from 0 to n has n - 0
   pub limits-fill : DayLimits d
       → let front : List ℕ = take (n - 0) (replicate maxPeriods 0) in
       (length front ≡ length (d .demand))

@@ -85,7 +85,7 @@ module _ (d : Day) (m : Memory) (ok : Admitted uncapped d (sizesOf m)) where
     loops = uncapacitated net (d .setup) (d .unit) rates
 
     loops-are : loops ≡ loopsOf d
-    loops-are = ap₂ (λ (needs held : List ℕ). uncapacitated needs (d .setup) (d .unit) held) (filled .needs) (filled .rates)
+    loops-are = ap₂ (λ (needs rate : List ℕ). uncapacitated needs (d .setup) (d .unit) rate) (filled .needs) (filled .rates)
 
     pub solvable : Solvable loops m
     solvable =
