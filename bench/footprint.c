@@ -77,7 +77,7 @@ static void make(size_t periods, int shape, uint16_t most) {
         capacity[i] = most;
         start[i] = i % 3 ? 1000000000 : 7;
         unit[i] = i % 5 ? 1000000 : 3;
-        upkeep[i] = i % 2 ? 1000000 : 1;
+        upkeep[i] = i % 2 ? 500000 : 1;
     }
 }
 

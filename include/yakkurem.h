@@ -5,7 +5,8 @@
  * hand on (closing). A plan is one whole amount for each period. The charge left after a period is opening + what was made
  * so far - what was needed so far. A plan holds if no amount is above its period's capacity, the charge left after every
  * period is at least 0, and after the last period it is closing. It costs, for each period, nothing for making if the
- * amount is 0, else start + unit * amount; and upkeep * the charge left.
+ * amount is 0, else start + unit * amount; and upkeep * (the charge before the period + the charge left), so upkeep is per
+ * half period. The charge before period 1 is opening.
  *
  * Every slice is passed as a pointer and the number of its elements. What a caller must see to, and nothing else: a pointer
  * is not NULL (also with length 0), is aligned for its elements, and leads to as many as are said; and what a call may
@@ -13,7 +14,7 @@
  * it is passed. What it only reads may overlap. Any contents and any lengths are answered.
  *
  * Limits: n is 1 to 96; need at most 4096, in one period and, with closing, over the day; start at most 1000000000; unit
- * and upkeep at most 1000000. Opening and closing have no limit of their own.
+ * at most 1000000; upkeep at most 500000. Opening and closing have no limit of their own.
  *
  * Every call returns a code:
  *     0                                   accepted

@@ -10,6 +10,11 @@ fn production(day: &Day, i: usize, x: u64) -> u64 {
     }
 }
 
+/// What a unit left after period i, counted from 0, costs: upkeep there and, as the charge before it, in the next period.
+fn rate(day: &Day, i: usize) -> u64 {
+    day.holding[i] as u64 + day.holding.get(i + 1).map_or(0, |&v| v as u64)
+}
+
 /// Recursion (5) over the totals that can be reached, two cost rows taking turns. Of the totals before a period that a total after it
 /// can come from, a queue keeps the cheapest at its head: both ends of that window only move up.
 pub fn full(day: &Day, costs: &mut [u64], choices: &mut [u16], slots: &mut [u16]) -> u64 {
@@ -20,7 +25,7 @@ pub fn full(day: &Day, costs: &mut [u64], choices: &mut [u16], slots: &mut [u16]
     let (mut low, mut high) = (0, 0);
     let mut queue = Vec::with_capacity(width);
     for i in 0..n {
-        let (capacity, setup, unit) = (day.capacity[i] as usize, day.setup[i] as u64, day.unit[i] as u64);
+        let (capacity, setup, unit, rate) = (day.capacity[i] as usize, day.setup[i] as u64, day.unit[i] as u64, rate(day, i));
         let (floor, top) = (low + day.demand[i] as usize, (high + capacity).min(total));
         let key = |y: usize| before[y] + unit * (top - y) as u64;
         let (mut head, mut next) = (0, low);
@@ -44,7 +49,7 @@ pub fn full(day: &Day, costs: &mut [u64], choices: &mut [u16], slots: &mut [u16]
                     (best, amount) = (price, x);
                 }
             }
-            after[made] = best + day.holding[i] as u64 * (made - floor) as u64;
+            after[made] = best + rate * (made - floor) as u64;
             choices[i * width + made] = amount as u16;
         }
         (low, high) = (floor, top);
@@ -62,6 +67,7 @@ pub fn full(day: &Day, costs: &mut [u64], choices: &mut [u16], slots: &mut [u16]
 /// Wagner and Whitin: of the candidates for the last lot, from the last to the first, the sums are kept up.
 pub fn uncapped(day: &Day, costs: &mut [u64], choices: &mut [u16], slots: &mut [u16]) -> u64 {
     let n = day.periods();
+    let rates: Vec<u64> = (0..n).map(|i| rate(day, i)).collect();
     costs[0] = 0;
     for m in 0..n {
         let mut made = day.demand[m] as u64;
@@ -70,7 +76,7 @@ pub fn uncapped(day: &Day, costs: &mut [u64], choices: &mut [u16], slots: &mut [
         let mut from = m;
         if made > 0 {
             for l in (0..m).rev() {
-                held += day.holding[l] as u64 * made;
+                held += rates[l] * made;
                 made += day.demand[l] as u64;
                 let price = costs[l] + production(day, l, made) + held;
                 if price <= best {
@@ -139,6 +145,7 @@ fn run(day: &Day, l: usize, m: usize, top: usize, part: u64, costs: &mut [u64], 
     for i in l..m {
         due += day.demand[i] as u64;
         let row = &mut picks[(i - l) * width..][..width];
+        let rate = rate(day, i);
         for s in (0..=top).rev() {
             let made = (s as u64 / 2) * c + (s as u64 % 2) * part;
             if made < due {
@@ -155,7 +162,7 @@ fn run(day: &Day, l: usize, m: usize, top: usize, part: u64, costs: &mut [u64], 
                 best = costs[s - 2] + production(day, i, c);
                 amount = c;
             }
-            costs[s] = best + day.holding[i] as u64 * (made - due);
+            costs[s] = best + rate * (made - due);
             row[s] = amount as u16;
         }
     }

@@ -15,23 +15,11 @@ fn day(n: usize, total: usize, capacity: u16, opening: u16, closing: u16) -> Day
     }
 }
 
-/// The input of a call with as much lent as is needed; the plans to weigh make what is wanted in the last period.
+/// The input of a call; the plans to weigh make what is wanted in the last period.
 fn input(call: Call, day: &Day) -> Input {
     let mut plan = vec![0; day.periods()];
     *plan.last_mut().unwrap() = day.least_by(day.periods()).min(65_535) as u16;
-    let plans = match call {
-        Call::Weigh => vec![plan],
-        Call::Compare => vec![plan.clone(), plan],
-        _ => vec![],
-    };
-    let mut input = Input { call, day: day.clone(), plans, file: vec![], period: 0, lent: vec![] };
-    if matches!(call, Call::Read | Call::Lookup) {
-        input.file = plain::file_of(day);
-        input.period = day.periods();
-        input.day = Day::default();
-    }
-    input.lent = input.needed();
-    input
+    Input::exact(call, day, [&plan, &plan])
 }
 
 /// Every call on days whose need and closing charge are at, just below and just above the limit of 4,096, or as large as they can be;

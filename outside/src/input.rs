@@ -89,6 +89,19 @@ pub enum Size {
 }
 
 impl Input {
+    /// A call on a day, with as much lent as is needed; the plans are for the calls that weigh.
+    pub fn exact(call: Call, day: &Day, plans: [&[u16]; 2]) -> Input {
+        let plans = plans.iter().take(call.plans()).map(|plan| plan.to_vec()).collect();
+        let mut input = Input { call, day: day.clone(), plans, file: vec![], period: 0, lent: vec![] };
+        if call.reads_file() {
+            input.file = plain::file_of(day);
+            input.period = day.periods();
+            input.day = Day::default();
+        }
+        input.lent = input.needed();
+        input
+    }
+
     /// The refusals whose conditions hold, in order; the first is the answer.
     pub fn refusals(&self) -> Vec<plain::Refusal> {
         match self.call {
@@ -214,7 +227,7 @@ fn give_opening(random: &mut Random, size: Size, day: &mut Day) {
             }
             more
         }
-        _ => 1,
+        _ => asked.min(1) as u16,
     };
 }
 
@@ -241,14 +254,14 @@ pub fn day(random: &mut Random, call: Call, size: Size, ends: Ends) -> Day {
             random.between(100, 500),
             random.pick(&[15, 60, 65_535]),
             random.pick(&[50, 5000, plain::MAX_SETUP]),
-            random.pick(&[3, 100, plain::MAX_RATE]),
+            random.pick(&[3, 100, plain::MAX_UNIT]),
         ),
         Size::Limits => (
             random.pick(&[1, 95, 96, 96, 96]),
             random.pick(&[4095, 4096, 4096]),
             random.pick(&[60, 60, 65_535]),
             plain::MAX_SETUP,
-            plain::MAX_RATE,
+            plain::MAX_UNIT,
         ),
     };
     let n = n as usize;
@@ -259,7 +272,7 @@ pub fn day(random: &mut Random, call: Call, size: Size, ends: Ends) -> Day {
         capacity: narrow16(table(random, n, capacity)),
         setup: narrow32(costs(random, setup)),
         unit: narrow32(costs(random, rate)),
-        holding: narrow32(costs(random, rate)),
+        holding: narrow32(costs(random, rate.min(plain::MAX_HOLDING))),
         opening: 0,
         closing: 0,
     };
@@ -327,7 +340,7 @@ fn enough(random: &mut Random, needed: usize) -> usize {
 }
 
 /// Fills in what goes with the day, and lends enough.
-fn complete(random: &mut Random, call: Call, day: Day) -> Input {
+pub fn complete(random: &mut Random, call: Call, day: Day) -> Input {
     let plans = (0..call.plans()).map(|_| weighed(random, &day)).collect();
     let mut input = Input { call, day, plans, file: vec![], period: 0, lent: vec![] };
     if call.reads_file() {
@@ -388,8 +401,8 @@ fn raise_value(random: &mut Random, day: &mut Day) {
     match random.between(0, 3) {
         0 => day.demand[i] = over(random, plain::MAX_DEMAND, 65_535) as u16,
         1 if i < day.setup.len() => day.setup[i] = over(random, plain::MAX_SETUP, u32::MAX as u64) as u32,
-        2 if i < day.unit.len() => day.unit[i] = over(random, plain::MAX_RATE, u32::MAX as u64) as u32,
-        _ if i < day.holding.len() => day.holding[i] = over(random, plain::MAX_RATE, u32::MAX as u64) as u32,
+        2 if i < day.unit.len() => day.unit[i] = over(random, plain::MAX_UNIT, u32::MAX as u64) as u32,
+        _ if i < day.holding.len() => day.holding[i] = over(random, plain::MAX_HOLDING, u32::MAX as u64) as u32,
         _ => {}
     }
 }
@@ -500,7 +513,12 @@ fn damage_file(random: &mut Random, file: &mut Vec<u8>, ends: Ends, number: u64)
 
 /// An input that was damaged for each of the numbers.
 pub fn damaged(random: &mut Random, call: Call, size: Size, ends: Ends, numbers: &[u64]) -> Input {
-    let mut day = day(random, call, size, ends);
+    let day = day(random, call, size, ends);
+    damage(random, call, day, ends, numbers)
+}
+
+/// An input with this day, damaged for each of the numbers.
+pub fn damage(random: &mut Random, call: Call, mut day: Day, ends: Ends, numbers: &[u64]) -> Input {
     // in an order in which what comes later mostly keeps what came before
     for number in [7, 8, 9, 4, 3, 1, 2, 14] {
         if numbers.contains(&number) {
@@ -568,7 +586,7 @@ pub fn changed(random: &mut Random, call: Call, size: Size, ends: Ends) -> Input
                 1 => input.day.capacity[i] = random.pick(&[0, 1, 4095, 4096, 65_535]),
                 2 => input.day.setup[i] = random.pick(&[0, 999_999_999, 1_000_000_000, 1_000_000_001, u32::MAX]),
                 3 => input.day.unit[i] = random.pick(&[0, 999_999, 1_000_000, 1_000_001, u32::MAX]),
-                4 => input.day.holding[i] = random.pick(&[0, 999_999, 1_000_000, 1_000_001, u32::MAX]),
+                4 => input.day.holding[i] = random.pick(&[0, 499_999, 500_000, 500_001, u32::MAX]),
                 6 => input.day.opening = random.pick(&[0, 1, 4095, 4096, 4097, 65_535]),
                 7 => input.day.closing = random.pick(&[0, 1, 4095, 4096, 4097, 65_535]),
                 _ if input.plans.is_empty() => {}

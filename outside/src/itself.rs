@@ -1,5 +1,5 @@
 //! The plain implementation against itself and the papers, before anything is compared with it.
-use crate::input::{self, Call, Ends, Size};
+use crate::input::{self, Call, Ends, Input, Size, CALLS};
 use crate::plain::{self, Day, Planned, Refusal, Totals};
 use crate::random::Random;
 
@@ -17,41 +17,53 @@ struct Row {
 
 #[rustfmt::skip]
 const ROWS: &[Row] = &[
-    // document 01's marked days
+    // document 01's marked days, with request 2.2's upkeep, and the tie that it adds
     Row { demand: &[0], capacity: &[0], setup: &[5], unit: &[1], holding: &[1], ends: (0, 0), claim: Ok((&[0], 0, 0)) },
     Row { demand: &[1], capacity: &[1], setup: &[5], unit: &[2], holding: &[9], ends: (0, 0), claim: Ok((&[1], 7, 1)) },
     Row { demand: &[2], capacity: &[1], setup: &[5], unit: &[2], holding: &[9], ends: (0, 0), claim: Err((7, 1)) },
-    Row { demand: &[2, 3], capacity: &[5, 5], setup: &[10], unit: &[1], holding: &[1], ends: (0, 0), claim: Ok((&[5, 0], 18, 1)) },
+    Row { demand: &[2, 3], capacity: &[5, 5], setup: &[10], unit: &[1], holding: &[1], ends: (0, 0), claim: Ok((&[5, 0], 21, 1)) },
     Row { demand: &[2, 3], capacity: &[5, 5], setup: &[10], unit: &[1], holding: &[4], ends: (0, 0), claim: Ok((&[2, 3], 25, 2)) },
-    Row { demand: &[2, 2], capacity: &[4, 4], setup: &[10], unit: &[1], holding: &[5], ends: (0, 0), claim: Ok((&[4, 0], 24, 1)) },
-    Row { demand: &[0, 4], capacity: &[3, 3], setup: &[10], unit: &[1], holding: &[1], ends: (0, 0), claim: Ok((&[1, 3], 25, 2)) },
+    Row { demand: &[2, 2], capacity: &[4, 4], setup: &[10], unit: &[1], holding: &[5], ends: (0, 0), claim: Ok((&[2, 2], 24, 2)) },
+    Row { demand: &[0, 4], capacity: &[3, 3], setup: &[10], unit: &[1], holding: &[1], ends: (0, 0), claim: Ok((&[1, 3], 26, 2)) },
     Row { demand: &[1, 5], capacity: &[2, 3], setup: &[0], unit: &[1], holding: &[1], ends: (0, 0), claim: Err((7, 2)) },
-    Row { demand: &[1, 4], capacity: &[2, 3], setup: &[0], unit: &[1], holding: &[1], ends: (0, 0), claim: Ok((&[2, 3], 6, 2)) },
+    Row { demand: &[1, 4], capacity: &[2, 3], setup: &[0], unit: &[1], holding: &[1], ends: (0, 0), claim: Ok((&[2, 3], 7, 2)) },
     Row { demand: &[3, 0], capacity: &[2, 9], setup: &[0], unit: &[1], holding: &[1], ends: (0, 0), claim: Err((7, 1)) },
-    Row { demand: &[2, 2, 3], capacity: &[4, 4, 4], setup: &[6], unit: &[1], holding: &[1], ends: (0, 0), claim: Ok((&[4, 0, 3], 21, 2)) },
+    Row { demand: &[2, 2, 3], capacity: &[4, 4, 4], setup: &[6], unit: &[1], holding: &[1], ends: (0, 0), claim: Ok((&[4, 0, 3], 23, 2)) },
     Row { demand: &[0, 0], capacity: &[0, 0], setup: &[5], unit: &[1], holding: &[1], ends: (0, 0), claim: Ok((&[0, 0], 0, 0)) },
-    // ties that only demand 3 settles
-    Row { demand: &[1, 0, 2], capacity: &[2, 3, 1], setup: &[3], unit: &[1], holding: &[1], ends: (0, 0), claim: Ok((&[1, 2, 0], 11, 2)) },
-    Row { demand: &[0, 0, 0, 4], capacity: &[3, 3, 3, 3], setup: &[0, 1, 0, 1], unit: &[1, 0, 0, 1], holding: &[0, 0, 1, 1],
+    Row { demand: &[2, 2], capacity: &[4, 4], setup: &[8], unit: &[1], holding: &[2], ends: (0, 0), claim: Ok((&[4, 0], 20, 1)) },
+    // ties that only demand 3 settles: not the larger first amount, nor the fewest starts; with one capacity, not where the last run begins
+    Row { demand: &[1, 0, 2], capacity: &[2, 3, 1], setup: &[3], unit: &[1], holding: &[1], ends: (0, 0), claim: Ok((&[1, 2, 0], 13, 2)) },
+    Row { demand: &[1, 1, 0, 2], capacity: &[3, 2, 1, 2], setup: &[4, 4, 1, 3], unit: &[0], holding: &[2, 1, 0, 0],
+          ends: (0, 0), claim: Ok((&[1, 2, 1, 0], 10, 3)) },
+    Row { demand: &[0, 0, 0, 4], capacity: &[3, 3, 3, 3], setup: &[0, 1, 0, 1], unit: &[1, 0, 0, 1], holding: &[0, 0, 0, 1],
           ends: (0, 0), claim: Ok((&[0, 3, 1, 0], 5, 2)) },
-    Row { demand: &[3, 2, 0, 1], capacity: &[5, 5, 5, 5], setup: &[3], unit: &[0], holding: &[1], ends: (0, 0), claim: Ok((&[3, 3, 0, 0], 8, 2)) },
+    Row { demand: &[3, 2, 0, 1], capacity: &[5, 5, 5, 5], setup: &[6], unit: &[0], holding: &[1], ends: (0, 0), claim: Ok((&[3, 3, 0, 0], 16, 2)) },
+    Row { demand: &[1, 2, 1, 1], capacity: &[5, 5, 5, 5], setup: &[6], unit: &[0], holding: &[1, 1, 2, 3],
+          ends: (0, 0), claim: Ok((&[3, 0, 2, 0], 21, 2)) },
     // charge at both ends: of the fourth marked day; with nothing to make, and one unit more than that
-    Row { demand: &[2, 3], capacity: &[5, 5], setup: &[10], unit: &[1], holding: &[1], ends: (1, 1), claim: Ok((&[5, 0], 20, 1)) },
-    Row { demand: &[2, 3], capacity: &[5, 5], setup: &[10], unit: &[1], holding: &[1], ends: (6, 1), claim: Ok((&[0, 0], 5, 0)) },
-    Row { demand: &[2, 3], capacity: &[0, 0], setup: &[10], unit: &[1], holding: &[1], ends: (5, 0), claim: Ok((&[0, 0], 3, 0)) },
+    Row { demand: &[2, 3], capacity: &[5, 5], setup: &[10], unit: &[1], holding: &[1], ends: (1, 1), claim: Ok((&[5, 0], 25, 1)) },
+    Row { demand: &[2, 3], capacity: &[5, 5], setup: &[10], unit: &[1], holding: &[1], ends: (6, 1), claim: Ok((&[0, 0], 15, 0)) },
+    Row { demand: &[2, 3], capacity: &[0, 0], setup: &[10], unit: &[1], holding: &[1], ends: (5, 0), claim: Ok((&[0, 0], 11, 0)) },
     Row { demand: &[2, 3], capacity: &[5, 5], setup: &[10], unit: &[1], holding: &[1], ends: (7, 1), claim: Err((14, 0)) },
     Row { demand: &[0], capacity: &[0], setup: &[0], unit: &[0], holding: &[0], ends: (1, 0), claim: Err((14, 0)) },
     // nothing needed, and something to hand on; more than can be made, by one unit
     Row { demand: &[0, 0], capacity: &[5, 5], setup: &[10], unit: &[1], holding: &[1], ends: (0, 3), claim: Ok((&[0, 3], 16, 1)) },
-    Row { demand: &[0, 0], capacity: &[1, 1], setup: &[10], unit: &[1], holding: &[1], ends: (0, 2), claim: Ok((&[1, 1], 25, 2)) },
+    Row { demand: &[0, 0], capacity: &[1, 1], setup: &[10], unit: &[1], holding: &[1], ends: (0, 2), claim: Ok((&[1, 1], 26, 2)) },
     Row { demand: &[0, 0], capacity: &[1, 1], setup: &[10], unit: &[1], holding: &[1], ends: (0, 3), claim: Err((7, 2)) },
-    Row { demand: &[0, 0], capacity: &[1, 1], setup: &[10], unit: &[1], holding: &[1], ends: (1, 3), claim: Ok((&[1, 1], 27, 2)) },
+    Row { demand: &[0, 0], capacity: &[1, 1], setup: &[10], unit: &[1], holding: &[1], ends: (1, 3), claim: Ok((&[1, 1], 30, 2)) },
     // more at the beginning than the first periods need; a shortage that it only puts off
-    Row { demand: &[1, 1, 4], capacity: &[1, 1, 1], setup: &[0], unit: &[1], holding: &[1], ends: (3, 0), claim: Ok((&[1, 1, 1], 9, 3)) },
+    Row { demand: &[1, 1, 4], capacity: &[1, 1, 1], setup: &[0], unit: &[1], holding: &[1], ends: (3, 0), claim: Ok((&[1, 1, 1], 18, 3)) },
     Row { demand: &[5, 0], capacity: &[2, 9], setup: &[0], unit: &[1], holding: &[1], ends: (2, 0), claim: Err((7, 1)) },
     Row { demand: &[1, 5, 0], capacity: &[2, 1, 9], setup: &[0], unit: &[1], holding: &[1], ends: (2, 4), claim: Err((7, 2)) },
-    // a tie between what is made for closing at once and later
-    Row { demand: &[2, 0], capacity: &[4, 4], setup: &[10], unit: &[1], holding: &[5], ends: (0, 2), claim: Ok((&[4, 0], 34, 1)) },
+    // ties: what is made for closing at once or later, each at its own period's upkeep; the marked tie with some charge to begin with
+    Row { demand: &[2, 0], capacity: &[4, 4], setup: &[10], unit: &[1], holding: &[2, 3], ends: (0, 2), claim: Ok((&[4, 0], 30, 1)) },
+    Row { demand: &[3, 2], capacity: &[4, 4], setup: &[8], unit: &[1], holding: &[2], ends: (1, 0), claim: Ok((&[4, 0], 22, 1)) },
+    // upkeep on the charge before the first period; on the charge after the last; on both; period by period, at different upkeep
+    Row { demand: &[3], capacity: &[0], setup: &[5], unit: &[2], holding: &[7], ends: (3, 0), claim: Ok((&[0], 21, 0)) },
+    Row { demand: &[0], capacity: &[3], setup: &[5], unit: &[2], holding: &[7], ends: (0, 3), claim: Ok((&[3], 32, 1)) },
+    Row { demand: &[0], capacity: &[0], setup: &[5], unit: &[2], holding: &[7], ends: (3, 3), claim: Ok((&[0], 42, 0)) },
+    Row { demand: &[1, 2], capacity: &[0, 0], setup: &[5], unit: &[2], holding: &[100, 10], ends: (3, 0), claim: Ok((&[0, 0], 520, 0)) },
+    Row { demand: &[1, 0], capacity: &[5, 0], setup: &[5], unit: &[2], holding: &[100, 10], ends: (0, 2), claim: Ok((&[3, 0], 251, 1)) },
 ];
 
 fn all(values: &[u32], n: usize) -> Vec<u32> {
@@ -62,17 +74,34 @@ fn all(values: &[u32], n: usize) -> Vec<u32> {
     }
 }
 
-fn check_row(row: &Row) {
-    let n = row.demand.len();
-    let day = Day {
-        demand: row.demand.to_vec(),
-        capacity: row.capacity.to_vec(),
-        setup: all(row.setup, n),
-        unit: all(row.unit, n),
-        holding: all(row.holding, n),
-        opening: row.ends.0,
-        closing: row.ends.1,
+impl Row {
+    fn day(&self) -> Day {
+        let n = self.demand.len();
+        Day {
+            demand: self.demand.to_vec(),
+            capacity: self.capacity.to_vec(),
+            setup: all(self.setup, n),
+            unit: all(self.unit, n),
+            holding: all(self.holding, n),
+            opening: self.ends.0,
+            closing: self.ends.1,
+        }
+    }
+}
+
+/// The rows as inputs of every call. The row's plan, or nothing, is weighed, and compared with making each need in its own period: on the
+/// marked tie that costs the same.
+pub fn inputs() -> Vec<Input> {
+    let of = |row: &Row| {
+        let (day, nothing) = (row.day(), vec![0; row.demand.len()]);
+        let plan = row.claim.map_or(&nothing[..], |(plan, _, _)| plan);
+        CALLS.map(|call| Input::exact(call, &day, [plan, row.demand]))
     };
+    ROWS.iter().flat_map(of).collect()
+}
+
+fn check_row(row: &Row) {
+    let day = row.day();
     let expected = row.claim.ok().map(|(plan, cost, setups)| Planned { plan: plan.to_vec(), totals: Totals { cost, setups } });
     assert_eq!(plain::search(&day), expected, "{day:?}");
     assert_eq!(plain::recursion(&day), expected, "{day:?}");
@@ -90,11 +119,12 @@ fn net(day: &Day) -> Day {
     Day { demand: demand.map(|v| v as u16).collect(), opening: 0, closing: 0, ..day.clone() }
 }
 
-/// The upkeep that every plan pays beyond the one of the net day: on what the day begins with until it is used up, and on what it hands on.
+/// The upkeep that every plan pays beyond the one of the net day: on what the day begins with until it is used up, before the first period
+/// as after each; and on what it hands on.
 fn standing(day: &Day) -> u64 {
     let n = day.periods();
     let held = |i: usize| if i == n { day.closing as u64 } else { (day.opening as u64).saturating_sub(day.demand_to(i)) };
-    (1..=n).map(|i| day.holding[i - 1] as u64 * held(i)).sum()
+    (1..=n).map(|i| day.holding[i - 1] as u64 * (held(i - 1) + held(i))).sum()
 }
 
 /// Document 01's file of the fourth marked day, alone and with charge at both ends; and what a walk says of broken files.

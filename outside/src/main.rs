@@ -9,8 +9,9 @@ mod published;
 mod shrink;
 
 use input::{Call, Ends, Input, Size, CALLS};
-use outside::{ends, input, plain, random};
+use outside::{ends, holding, input, plain, random};
 use random::Random;
+use std::iter::once;
 use std::process::exit;
 use std::time::Instant;
 
@@ -77,6 +78,41 @@ impl Run {
             }
         }
         panic!("{call:?}: no input found for refusals {first} and {second}");
+    }
+
+    /// Upkeep around its limit in one period of an input that is otherwise valid, and of inputs for each other refusal of the call.
+    fn holding(&mut self, call: Call, times: usize) {
+        let order = call.refusals(self.ends);
+        for value in holding::VALUES {
+            for other in once(3).chain(order.iter().copied().filter(|&number| number != 3)) {
+                for _ in 0..times {
+                    let input = self.holding_input(call, value, other);
+                    self.try_input(&input);
+                }
+            }
+        }
+    }
+
+    /// An input with this upkeep in one period, for which the condition of `other` holds; for 3 nothing else is damaged. The condition of 3
+    /// holds there exactly if the value is above the limit and the call comes to test values.
+    fn holding_input(&mut self, call: Call, value: u32, other: u64) -> Input {
+        for _ in 0..10_000 {
+            let mut day = input::day(&mut self.random, call, Size::Tiny, self.ends);
+            let i = self.random.index(day.periods());
+            day.holding[i] = value;
+            let input = match other {
+                3 => input::complete(&mut self.random, call, day),
+                _ => input::damage(&mut self.random, call, day, self.ends, &[other]),
+            };
+            let refusals = input.refusals();
+            let tested = call != Call::Lookup && !matches!(other, 10..=12);
+            let above = value as u64 > plain::MAX_HOLDING;
+            let by_value = refusals.contains(&plain::Refusal { number: 3, period: i + 1 });
+            if by_value == (tested && above) && (other == 3 || refusals.iter().any(|r| r.number == other)) {
+                return input;
+            }
+        }
+        panic!("{call:?}: no input found for upkeep {value} and refusal {other}");
     }
 
     fn valid(&mut self, call: Call, size: Size, times: usize) {
@@ -164,6 +200,11 @@ fn main() {
     let published = published::inputs();
     run.try_inputs(&published);
     run.made_up(Ends::Any, 2);
+    for call in CALLS {
+        run.holding(call, 3);
+    }
+    run.try_inputs(&holding::dearest());
+    run.try_inputs(&itself::inputs());
     run.try_inputs(&ends::limits(&CALLS));
     for file in ends::files() {
         run.try_inputs(&ends::on_file(&file));
@@ -171,6 +212,6 @@ fn main() {
     let refused = (1..=LAST).map(|number| format!("{number}: {}", run.refused[number])).collect::<Vec<_>>().join(", ");
     println!("outside: seed {seed}, {} inputs of {} calls as the plain implementation has them", run.inputs, CALLS.len());
     println!("accepted {}, broken plans {}, refused {refused}", run.accepted, run.broken);
-    println!("published instances: {} inputs, each with the published cost", published.len());
+    println!("published instances: {} inputs, each with the published cost, doubled", published.len());
     eprintln!("{} seconds", start.elapsed().as_secs());
 }

@@ -1,4 +1,4 @@
-//! Documents 01 and 02 (request 2.1) and the report in plain code, written from these alone: what every call should answer.
+//! Documents 01 and 02 (requests 2.1 and 2.2) and the report in plain code, written from these alone: what every call should answer.
 //! Names are lot sizing's; document 01 says need for demand, start for setup, upkeep for holding.
 
 /// A day: one entry a period in each table, and the charge at both its ends, A and Z.
@@ -54,7 +54,8 @@ pub enum Path {
 pub const MAX_PERIODS: usize = 96;
 pub const MAX_DEMAND: u64 = 4096;
 pub const MAX_SETUP: u64 = 1_000_000_000;
-pub const MAX_RATE: u64 = 1_000_000;
+pub const MAX_UNIT: u64 = 1_000_000;
+pub const MAX_HOLDING: u64 = 500_000;
 pub const MAX_TOTAL: u64 = 4096;
 
 /// The file's kinds: a period, the end, and the charge at both ends of the day; with the lengths of their bodies.
@@ -102,7 +103,7 @@ impl Day {
         asked.saturating_sub(self.opening as u64)
     }
 
-    /// The charge left after the first i periods, in which so much was made; below 0 where it does not reach.
+    /// The charge left after the first i periods, in which so much was made; below 0 where it does not reach. After none it is A.
     pub fn left(&self, i: usize, made: u64) -> i64 {
         self.opening as i64 + made as i64 - self.demand_to(i) as i64
     }
@@ -124,14 +125,16 @@ fn production(day: &Day, i: usize, x: u64) -> u64 {
     }
 }
 
-/// h_i I_i, where so much is made by then.
-fn holding(day: &Day, i: usize, made: u64) -> u64 {
-    day.holding[i] as u64 * u64::try_from(day.left(i + 1, made)).expect("a plan that is not short")
+/// h_i on a charge: that before the period, I_{i-1}, or that left, I_i.
+fn holding(day: &Day, i: usize, charge: i64) -> u64 {
+    day.holding[i] as u64 * u64::try_from(charge).expect("a plan that is not short")
 }
 
 /// Sum (1) of a plan that keeps the conditions.
 pub fn cost(day: &Day, plan: &[u16]) -> u64 {
-    (0..day.periods()).map(|i| production(day, i, plan[i] as u64) + holding(day, i, sum_to(plan, i + 1))).sum()
+    let charge = |i: usize| day.left(i, sum_to(plan, i));
+    let period = |i: usize| production(day, i, plan[i] as u64) + holding(day, i, charge(i)) + holding(day, i, charge(i + 1));
+    (0..day.periods()).map(period).sum()
 }
 
 pub fn totals(day: &Day, plan: &[u16]) -> Totals {
@@ -197,7 +200,8 @@ pub fn search(day: &Day) -> Option<Planned> {
     best
 }
 
-/// The plan of a day by recursion (5), by its letter: D_i(X) for every X, and the smallest x that gives it.
+/// The plan of a day by recursion (5), by its letter: D_i(X) for every X, and the smallest x that gives it. Upkeep on the charge left goes
+/// by X and stands outside the minimum, as in the report; that on the charge before goes by X - x and stands inside.
 pub fn recursion(day: &Day) -> Option<Planned> {
     let n = day.periods();
     let whole = day.whole()? as usize;
@@ -205,21 +209,23 @@ pub fn recursion(day: &Day) -> Option<Planned> {
     before[0] = 0;
     let mut chosen = Vec::new();
     for i in 1..=n {
+        let begin = |(made, &cost)| if cost == INFINITE { cost } else { cost + holding(day, i - 1, day.left(i - 1, made as u64)) };
+        let begun: Vec<u64> = before.iter().enumerate().map(begin).collect();
         let mut costs = vec![INFINITE; whole + 1];
         let mut amounts = vec![0u16; whole + 1];
         for made in day.least_by(i) as usize..=whole {
             for x in 0..=(day.capacity[i - 1] as usize).min(made) {
-                if before[made - x] == INFINITE {
+                if begun[made - x] == INFINITE {
                     continue;
                 }
-                let price = before[made - x] + production(day, i - 1, x as u64);
+                let price = begun[made - x] + production(day, i - 1, x as u64);
                 if price < costs[made] {
                     costs[made] = price;
                     amounts[made] = x as u16;
                 }
             }
             if costs[made] != INFINITE {
-                costs[made] += holding(day, i - 1, made as u64);
+                costs[made] += holding(day, i - 1, day.left(i, made as u64));
             }
         }
         before = costs;
@@ -273,8 +279,8 @@ pub fn bad_value(day: &Day) -> Option<Refusal> {
     refused_at(3, day.periods(), |i| {
         day.demand[i - 1] as u64 > MAX_DEMAND
             || above(&day.setup, i, MAX_SETUP)
-            || above(&day.unit, i, MAX_RATE)
-            || above(&day.holding, i, MAX_RATE)
+            || above(&day.unit, i, MAX_UNIT)
+            || above(&day.holding, i, MAX_HOLDING)
     })
 }
 

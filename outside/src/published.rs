@@ -34,7 +34,9 @@ const INSTANCES: [Instance; 2] = [
 ];
 
 /// Every instance as an input of every path, with one capacity throughout that can't bind: the largest there is, and the whole
-/// demand. The plain implementation has the plan and the published cost of each.
+/// demand. The plain implementation has the plan and the published cost of each, doubled: there upkeep is paid once on what a period leaves;
+/// here it is paid again in the next period, on the charge before it, and there is no charge at the ends. With starts doubled too, every plan
+/// costs twice as much.
 pub fn inputs() -> Vec<Input> {
     let mut inputs = vec![];
     for Instance { demand, setup, holding, plan, cost } in INSTANCES {
@@ -42,18 +44,17 @@ pub fn inputs() -> Vec<Input> {
             let day = Day {
                 demand: demand.into(),
                 capacity: vec![capacity; 12],
-                setup: setup.into(),
+                setup: setup.map(|b| 2 * b).into(),
                 unit: vec![0; 12],
                 holding: vec![holding; 12],
                 opening: 0,
                 closing: 0,
             };
             let setups = plan.iter().filter(|&&x| x > 0).count() as u64;
-            assert_eq!(plain::recursion(&day), Some(Planned { plan: plan.into(), totals: Totals { cost, setups } }));
+            let totals = Totals { cost: 2 * cost, setups };
+            assert_eq!(plain::recursion(&day), Some(Planned { plan: plan.into(), totals }));
             for call in [Call::Full, Call::Uncapped, Call::Equal] {
-                let mut input = Input { call, day: day.clone(), plans: vec![], file: vec![], period: 0, lent: vec![] };
-                input.lent = input.needed();
-                inputs.push(input);
+                inputs.push(Input::exact(call, &day, [&[]; 2]));
             }
         }
     }

@@ -20,7 +20,7 @@ use Rattle.day.specs.declared.Refusal.the-variants.{PeriodCount, TableLength, A
 use Rattle.day.specs.declared.Refusal.the-variants.{Shortage, UnequalCapacities, BindingCapacity}
 use Rattle.day.specs.Sums.{at}
 use Rattle.day.specs.Find.{find, none-found, nothing-found, some-found}
-use Rattle.day.specs.Day.{Day, periods, maxPeriods, maxDemand, maxCapacity, maxSetup, maxRate, maxTotal}
+use Rattle.day.specs.Day.{Day, periods, maxPeriods, maxDemand, maxCapacity, maxSetup, maxRate, maxHalfRate, maxTotal}
 use Rattle.day.specs.Day.{demandTo, capacityTo, required, total, netTo, net-before, net-end}
 use Rattle.day.specs.Refusals.{numberOf, periodOf, refuseAt, anywhere, first, badCount, badLengths, aboveLimit, badValue, tableTests}
 use Rattle.day.specs.Refusals.{badTotal, badOpening, totalTests, dayTests}
@@ -46,7 +46,7 @@ pub record Within (d : Day) (k : ℕ) : Type 0 where
   pub capacity : at (d .capacity) k ≤ maxCapacity
   pub setup : at (d .setup) k ≤ maxSetup
   pub unit : at (d .unit) k ≤ maxRate
-  pub holding : at (d .holding) k ≤ maxRate
+  pub holding : at (d .holding) k ≤ maxHalfRate
 
 -- what tests 1, 2 and 3 leave
 pub record Limits (d : Day) : Type 0 where
@@ -101,7 +101,7 @@ values-within d k e =
     let c = ltb maxCapacity (at (d .capacity) k) in
     let b = ltb maxSetup (at (d .setup) k) in
     let p = ltb maxRate (at (d .unit) k) in
-    let h = ltb maxRate (at (d .holding) k) in
+    let h = ltb maxHalfRate (at (d .holding) k) in
     let rcbp-h = neither (r || c || b || p) h e in
     let rcb-p = neither (r || c || b) p (rcbp-h .0) in
     let rc-b = neither (r || c) b (rcb-p .0) in

@@ -7,7 +7,7 @@ ghost use Prim.Native.Nat.{_+_, _-_, _*_, _^_, _≤_, _<_};
 ghost use lib.Dec.{ltb};
 ghost use lib.ListN.{length};
 ghost use Rattle.day.specs.Sums.{Term, at, sumTo};
-ghost use Rattle.day.specs.Day.{dayOf, tablesOf, required, dueOf, total, maxPeriods, maxDemand, maxCapacity, maxSetup, maxRate, maxSum};
+ghost use Rattle.day.specs.Day.{dayOf, tablesOf, required, dueOf, total, maxPeriods, maxDemand, maxCapacity, maxSetup, maxRate, maxHalfRate, maxSum};
 ghost use Rattle.day.specs.Lent.{dayBefore, tablesBefore};
 ghost use Rattle.day.specs.Refusals.{checked, first, badCount, badLengths, badValue, tableTests, totalTests, dayTests};
 ghost use Rattle.checks.specs.Passed.{Readable};
@@ -15,7 +15,7 @@ use day::Check;
 use day::Ends;
 use day::Refusal;
 
-// document 01's limits
+// the documents' limits; upkeep is paid for half a period (2.2)
 const MAX_PERIODS: usize = 96;
 
 const MAX_DEMAND: u16 = 4096;
@@ -23,6 +23,8 @@ const MAX_DEMAND: u16 = 4096;
 const MAX_SETUP: u32 = 1_000_000_000;
 
 const MAX_RATE: u32 = 1_000_000;
+
+const MAX_HALF_RATE: u32 = 500_000;
 
 const MAX_TOTAL: u64 = 4096;
 
@@ -49,9 +51,9 @@ fn lengths(demand: &[u16], capacity: &[u16], setup: &[u32], unit: &[u32], holdin
 
 // Whether one of a period's values is above its limit. A capacity of 16 bits never is.
 fn above_limit(demand: u16, setup: u32, unit: u32, holding: u32) -> bool
-    ensures { λ r. ⌜ r ≡ (ltb maxDemand demand || ltb maxSetup setup || ltb maxRate unit || ltb maxRate holding) ⌝ }
+    ensures { λ r. ⌜ r ≡ (ltb maxDemand demand || ltb maxSetup setup || ltb maxRate unit || ltb maxHalfRate holding) ⌝ }
 {
-    MAX_DEMAND < demand || MAX_SETUP < setup || MAX_RATE < unit || MAX_RATE < holding
+    MAX_DEMAND < demand || MAX_SETUP < setup || MAX_RATE < unit || MAX_HALF_RATE < holding
 }
 
 // 3, for at most 96 periods in tables of one length: the first period with a value above its limit

@@ -1,4 +1,4 @@
--- A day: its five tables and its two ends, its limits, and the sums R, C and T (document 01, "The day and its plan"; document 02, 2.1;
+-- A day: its five tables and its two ends, its limits, and the sums R, C and T (document 01, "The day and its plan"; document 02, 2.1, 2.2;
 -- report, section 2).
 -- Assumes nothing.
 use mathlib.Core.Path.{_≡_, refl}
@@ -53,7 +53,8 @@ endsOf d = endsWith (d .opening) (d .closing)
 abbrev pub periods : Day → ℕ
 periods d = length (d .demand)
 
--- the most that the documents allow: n, r, c, b, p and h, and R + Z over the day; A and Z are numbers of 16 bits
+-- the most that the documents allow: n, r, c, b, p; h, which is paid for half a period (document 02, 2.2); and R + Z over the day.
+-- A and Z are numbers of 16 bits.
 abbrev pub maxPeriods : ℕ
 maxPeriods = 96
 
@@ -68,6 +69,9 @@ maxSetup = 1000000000
 
 abbrev pub maxRate : ℕ
 maxRate = 1000000
+
+abbrev pub maxHalfRate : ℕ
+maxHalfRate = 500000
 
 abbrev pub maxTotal : ℕ
 maxTotal = 4096

@@ -1,4 +1,5 @@
--- Document 01's marked days: the table, and the theorem that each row's outcome is what the meaning and the contracts' refusals say (demands 2 and 3).
+-- The marked days of document 01, as document 02, 2.2 has them, and its tie row: the table, and the theorem that each row's outcome is what the
+-- meaning and the contracts' refusals say (demands 2 and 3).
 -- Main statement: `marked-right`. One test is computed over the table; what it gives is the proof. Assumes nothing.
 use mathlib.Core.Path.{_≡_, refl, _∙_}
 use mathlib.Core.List.{List, [], _∷_}
@@ -33,21 +34,22 @@ pub record MarkedRow : Type 0 where
 abbrev row : (demand capacity : List ℕ) (b p h : ℕ) → List Claim → MarkedRow
 row demand capacity b p h claims = record { demand = demand; capacity = capacity; setup = b; unit = p; holding = h; claims = claims }
 
--- M1 to M12
+-- M1 to M12, and the row of 2.2 in which two plans cost the same
 abbrev pub marked : List MarkedRow
 marked =
     row (0 ∷ []) (0 ∷ []) 5 1 1 (planned (0 ∷ []) 0 0 ∷ [])
     ∷ row (1 ∷ []) (1 ∷ []) 5 2 9 (planned (1 ∷ []) 7 1 ∷ [])
     ∷ row (2 ∷ []) (1 ∷ []) 5 2 9 (refused 1 ∷ [])
-    ∷ row (2 ∷ 3 ∷ []) (5 ∷ 5 ∷ []) 10 1 1 (planned (5 ∷ 0 ∷ []) 18 1 ∷ [])
+    ∷ row (2 ∷ 3 ∷ []) (5 ∷ 5 ∷ []) 10 1 1 (planned (5 ∷ 0 ∷ []) 21 1 ∷ [])
     ∷ row (2 ∷ 3 ∷ []) (5 ∷ 5 ∷ []) 10 1 4 (planned (2 ∷ 3 ∷ []) 25 2 ∷ [])
-    ∷ row (2 ∷ 2 ∷ []) (4 ∷ 4 ∷ []) 10 1 5 (planned (4 ∷ 0 ∷ []) 24 1 ∷ costs (2 ∷ 2 ∷ []) 24 ∷ [])
-    ∷ row (0 ∷ 4 ∷ []) (3 ∷ 3 ∷ []) 10 1 1 (planned (1 ∷ 3 ∷ []) 25 2 ∷ [])
+    ∷ row (2 ∷ 2 ∷ []) (4 ∷ 4 ∷ []) 10 1 5 (planned (2 ∷ 2 ∷ []) 24 2 ∷ [])
+    ∷ row (0 ∷ 4 ∷ []) (3 ∷ 3 ∷ []) 10 1 1 (planned (1 ∷ 3 ∷ []) 26 2 ∷ [])
     ∷ row (1 ∷ 5 ∷ []) (2 ∷ 3 ∷ []) 0 1 1 (refused 2 ∷ [])
-    ∷ row (1 ∷ 4 ∷ []) (2 ∷ 3 ∷ []) 0 1 1 (planned (2 ∷ 3 ∷ []) 6 2 ∷ [])
+    ∷ row (1 ∷ 4 ∷ []) (2 ∷ 3 ∷ []) 0 1 1 (planned (2 ∷ 3 ∷ []) 7 2 ∷ [])
     ∷ row (3 ∷ 0 ∷ []) (2 ∷ 9 ∷ []) 0 1 1 (refused 1 ∷ [])
-    ∷ row (2 ∷ 2 ∷ 3 ∷ []) (4 ∷ 4 ∷ 4 ∷ []) 6 1 1 (planned (4 ∷ 0 ∷ 3 ∷ []) 21 2 ∷ [])
+    ∷ row (2 ∷ 2 ∷ 3 ∷ []) (4 ∷ 4 ∷ 4 ∷ []) 6 1 1 (planned (4 ∷ 0 ∷ 3 ∷ []) 23 2 ∷ [])
     ∷ row (0 ∷ 0 ∷ []) (0 ∷ 0 ∷ []) 5 1 1 (planned (0 ∷ 0 ∷ []) 0 0 ∷ [])
+    ∷ row (2 ∷ 2 ∷ []) (4 ∷ 4 ∷ []) 8 1 2 (planned (4 ∷ 0 ∷ []) 20 1 ∷ costs (2 ∷ 2 ∷ []) 20 ∷ [])
     ∷ []
 
 -- the day of a row

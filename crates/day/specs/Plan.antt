@@ -1,5 +1,5 @@
 -- Plans of a day: the conditions that they keep, what they cost, how two of equal cost are told apart, and the plan wanted.
--- After the report, section 2, with the charge at both ends of document 02, 2.1.
+-- After the report, section 2, with the charge at both ends of document 02, 2.1, and the upkeep of 2.2.
 -- A plan is a function from periods to amounts; only its values in the day's periods count.
 -- Main definition: `Optimal`. Assumes nothing.
 use mathlib.Core.Path.{_≡_}
@@ -21,9 +21,9 @@ making b p (suc x) = b + p * suc x
 abbrev pub production : Day → ℕ → ℕ → ℕ
 production d k x = making (at (d .setup) k) (at (d .unit) k) x
 
--- what one period costs: p_i(x_i) + h_i(I_i), the upkeep paid on what is left at its end
+-- what one period costs: p_i(x_i), and upkeep at h_i on the charge before it and on the charge left, I_(i−1) + I_i, where I_0 is A
 abbrev pub costAt : Day → (ℕ → ℕ) → ℕ → ℕ
-costAt d x k = production d k (x k) + at (d .holding) k * inventory d x (suc k)
+costAt d x k = production d k (x k) + at (d .holding) k * (inventory d x k + inventory d x (suc k))
 
 -- sum (1) through the first i periods
 abbrev pub costTo : Day → (ℕ → ℕ) → ℕ → ℕ

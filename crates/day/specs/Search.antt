@@ -95,19 +95,19 @@ precedes? costs n x y =
 
 -- only the amounts in the day's periods count
 module _ (d : Day) (x y : ℕ → ℕ) (same : (k : ℕ) → k < periods d → x k ≡ y k) where
-  sums-alike : (k : ℕ) → k < periods d → sumTo x (suc k) ≡ sumTo y (suc k)
-  sums-alike k l = sum-ext x y (suc k) (λ j h. same j (omega arith))
+  pub sums-alike : (i : ℕ) → i ≤ periods d → sumTo x i ≡ sumTo y i
+  sums-alike i l = sum-ext x y i (λ j h. same j (omega arith))
 
   pub feasible-alike : Feasible d x → Feasible d y
   feasible-alike f =
       record {
-        served = λ k l. omega (arith, f .served k l, sums-alike k l);
-        ends = omega (arith, f .ends, sum-ext x y (periods d) same);
+        served = λ k l. omega (arith, f .served k l, sums-alike (suc k) l);
+        ends = omega (arith, f .ends, sums-alike (periods d) (omega arith));
         within = λ k l. omega (arith, f .within k l, same k l);
       }
 
   pub cost-alike : cost d x ≡ cost d y
-  cost-alike = sum-ext (costAt d x) (costAt d y) (periods d) (λ k l. let e = same k l in let s = sums-alike k l in rw (s, e) refl)
+  cost-alike = sum-ext (costAt d x) (costAt d y) (periods d) (λ k l. let s = sums-alike k (omega arith) in let e = same k l in rw (s, e) refl)
 
 -- of a fact about every feasible plan
 abbrev pub everyFeasible : (d : Day) {P : (ℕ → ℕ) → Type 0} → ((y : ℕ → ℕ) → Option (P y))

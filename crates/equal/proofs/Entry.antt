@@ -1,6 +1,6 @@
 -- Laws of the call: what passed tests leave for the work, and what the work leaves is what an accepted call leaves.
 -- Assumes nothing.
-use mathlib.Core.Path.{_≡_, refl, sym, ap, _∙_}
+use mathlib.Core.Path.{_≡_, refl, sym, ap, subst, _∙_}
 use mathlib.Core.List.{List, _++_}
 use Prim.Native.Nat.{ℕ, _-_, _≤_, _<_}
 use native.Mathlib.Omega.{arith}
@@ -18,9 +18,9 @@ use Rattle.checks.specs.Passed.{Admitted, equal-passed}
 use Rattle.path_checks.specs.Needed.{NeededBy}
 use Rattle.weigher.specs.Verdict.{totalsOf}
 use Rattle.weigher.specs.Walk.{FeasiblePlan}
-use Rattle.theory.specs.Problem.{Problem, problemWith, modelOf}
+use Rattle.theory.specs.Problem.{Problem, modelOf}
 use Rattle.theory.specs.Problem as Problem
-use Rattle.theory.specs.Net.{netNeeds, problemOf, limits-fit, periods-is, supplied-iff, bounded}
+use Rattle.theory.specs.Net.{NetTables, problemBy, problemOf, limits-fit, periods-is, supplied-iff, bounded, problem-is}
 use Rattle.theory.specs.Base.{optimal-iff}
 use Rattle.theory.specs.Cut.{optimal-ext}
 use Rattle.equal_rows.specs.Rows.{areas}
@@ -38,7 +38,7 @@ abbrev pub back : (k : ℕ) (l part : List ℕ) → List ℕ
 back k l part = putMid 0 (k - 0) l part
 
 module _ (k : ℕ) (l part : List ℕ) (e : length part ≡ length (front k l)) where
-  back-length : length (back k l part) ≡ length l
+  pub back-length : length (back k l part) ≡ length l
   back-length = same-len-mid 0 (k - 0) l part e
 
   back-rest : k ≤ length l → drop k (back k l part) ≡ drop k l
@@ -65,15 +65,15 @@ module _ (d : Day) (m : Memory) (ok : Admitted equal d (sizesOf m)) (r : Needed)
       → r .choices ≤ length (back (r .choices) (m .choices) choices)
   choices-back choices e = omega (arith, choices-inside, back-length (r .choices) (m .choices) choices e)
 
-  -- The net needs as they were filled in.
-  module _ (net : List ℕ) (is-net : net ≡ netNeeds d) where
+  -- The net needs and the rates as they were filled in.
+  module _ (net rates : List ℕ) (filled : NetTables d net rates) where
     abbrev p : Problem
-    p = problemWith net (d .capacity) (d .setup) (d .unit) (d .holding)
+    p = problemBy net rates d
 
     pub solvable : Solvable p (areas (front (r .costs) (m .costs)) (front (r .choices) (m .choices))) (front n (m .slots))
     solvable =
         let size = periods-is d in
-        rw is-net
+        rw (problem-is d filled)
         (record {
           constant = record {
             bounded = bounded d (ok .day);
@@ -95,7 +95,7 @@ module _ (d : Day) (m : Memory) (ok : Admitted equal d (sizesOf m)) (r : Needed)
       same k h = sym (List·getD-append slots _ 0 k (omega (arith, size, front-length n (m .slots) (ok .room .slots), periods-is d)))
 
       found-net : PlanFound (problemOf d) slots
-      found-net = rw is-net at found
+      found-net = subst (λ (q : Problem). PlanFound q slots) (problem-is d filled) found
 
       slots-optimal : Optimal d (at slots′)
       slots-optimal =

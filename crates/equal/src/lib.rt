@@ -1,5 +1,5 @@
 //! The equal path: Florian and Klein (report, section 3), for days with one capacity throughout.
-//! It tests, takes the net needs, finds the plan row by row, hands out the last row, clears its areas, and weighs the plan.
+//! It tests, takes the net needs and the rates, finds the plan row by row, hands out the last row, clears its areas, and weighs the plan.
 ghost use lib.ListN.{length};
 ghost use Rattle.day.specs.Day.{dayOf};
 ghost use Rattle.day.specs.Lent.{dayBefore, memoryBefore, memoryAfter};
@@ -69,9 +69,11 @@ fn work(
         (memoryAfter costs choices slots) ⌝ }
 {
     let n = demand.len();
-    let mut table = [0u16; 96];
-    let net = &mut table[0..n];
-    net::fill(demand, net, ends);
+    let mut need_table = [0u16; 96];
+    let mut rate_table = [0u32; 96];
+    let net = &mut need_table[0..n];
+    let rates = &mut rate_table[0..n];
+    net::fill(demand, holding, net, rates, ends);
     let needed = path_checks::cells(PathKind::Equal, n, 0);
     let cost_cells = needed.costs;
     let choice_cells = needed.choices;
@@ -80,7 +82,7 @@ fn work(
         capacity,
         setup,
         unit,
-        holding,
+        rates,
         &mut costs[0..cost_cells],
         &mut choices[0..choice_cells],
         &mut slots[0..n],

@@ -1,5 +1,5 @@
-//! Writes the day files of examples/ by the project's own writer: the marked days M1 to M12 (document 01), a day with charge at both ends
-//! (document 02, 2.1), and a day of 96 periods.
+//! Writes the day files of examples/ by the project's own writer: the marked days M1 to M12 (document 01), a day on which two plans cost the
+//! same (document 02, 2.2), one with charge at both ends (2.1), and a day of 96 periods.
 use day::Ends;
 use dayfile::WriteAnswer;
 use libc::STDOUT_FILENO;
@@ -76,6 +76,7 @@ fn save_marked() {
     save_row(b"m10.day", &[3, 0], &[2, 9], 0, 1, 1, none);
     save_row(b"m11.day", &[2, 2, 3], &[4, 4, 4], 6, 1, 1, none);
     save_row(b"m12.day", &[0, 0], &[0, 0], 5, 1, 1, none);
+    save_row(b"tie.day", &[2, 2], &[4, 4], 8, 1, 2, none);
 }
 
 // M11's tables, with charge at both ends: the first period makes nothing, and the last one more than it needs.
@@ -115,7 +116,7 @@ fn save_passes() {
     let capacity = [12u16; 96];
     let setup = [4000u32; 96];
     let unit = fuel();
-    let holding = [40u32; 96];
+    let holding = [20u32; 96];
     save(
         b"passes.day",
         &demand,

@@ -18,8 +18,8 @@ use Rattle.checks.specs.Passed.{Admitted}
 use Rattle.path_checks.specs.Needed.{NeededBy}
 use Rattle.weigher.specs.Verdict.{totalsOf}
 use Rattle.weigher.specs.Walk.{FeasiblePlan}
-use Rattle.theory.specs.Problem.{Problem, problemWith, periods}
-use Rattle.theory.specs.Net.{netNeeds, limits-fit, periods-is, total-is, supplied-iff, bounded}
+use Rattle.theory.specs.Problem.{Problem, periods}
+use Rattle.theory.specs.Net.{NetTables, problemBy, limits-fit, periods-is, total-is, supplied-iff, bounded, problem-is}
 use Rattle.theory.specs.Base.{optimal-iff}
 use Rattle.full_table.specs.Table.{cellAt, Fillable, TableFilled, Traceable, planRead}
 use Rattle.full_table.specs.Right.{back-length, filled-longer, filled-traced, filled-optimal}
@@ -83,16 +83,12 @@ module _ {p : Problem} {T : ℕ} {c : Needed} {m : Memory} (w : Workable p T c m
           choices = drop-front (c .choices) k′ front′ (m .choices) (omega arith) (size′ ∙ lent′);
         })
 
--- the problem of a day whose net needs stand in a table
-abbrev pub problemIn : List ℕ → Day → Problem
-problemIn net d = problemWith net (d .capacity) (d .setup) (d .unit) (d .holding)
-
-module _ {d : Day} {m : Memory} {net : List ℕ} (a : Admitted full d (sizesOf m)) (filled : net ≡ netNeeds d) where
-  pub workable : {T : ℕ} {c : Needed} → T ≡ Day.total d → NeededBy full (Day.periods d) T c → Workable (problemIn net d) T c m
+module _ {d : Day} {m : Memory} {net rates : List ℕ} (a : Admitted full d (sizesOf m)) (filled : NetTables d net rates) where
+  pub workable : {T : ℕ} {c : Needed} → T ≡ Day.total d → NeededBy full (Day.periods d) T c → Workable (problemBy net rates d) T c m
   workable t n =
       let e = periods-is d in
       let pos = a .day .limits .nonempty in
-      rw filled
+      rw (problem-is d filled)
       (record {
         fillable = record {
           bounded = bounded d (a .day);
@@ -105,9 +101,9 @@ module _ {d : Day} {m : Memory} {net : List ℕ} (a : Admitted full d (sizesOf m
         needed = rw e n;
       })
 
-  module _ {c : Needed} {after : Memory} (left : PlanLeft (problemIn net d) c m after) (size : length (after .slots) ≡ length (m .slots)) where
+  module _ {c : Needed} {after : Memory} (left : PlanLeft (problemBy net rates d) c m after) (size : length (after .slots) ≡ length (m .slots)) where
     left-optimal : Optimal d (at (after .slots))
-    left-optimal = optimal-iff d (limits-fit (a .day)) (at (after .slots)) .1 ((rw filled at left) .plan)
+    left-optimal = optimal-iff d (limits-fit (a .day)) (at (after .slots)) .1 ((rw (problem-is d filled) at left) .plan)
 
     pub left-feasible : FeasiblePlan d (after .slots)
     left-feasible =
@@ -126,7 +122,7 @@ module _ {d : Day} {m : Memory} {net : List ℕ} (a : Admitted full d (sizesOf m
           plan = left-optimal;
           counts = rw e refl;
           size = size;
-          rest = rw (periods-is d) at ((rw filled at left) .slots);
+          rest = rw (periods-is d) at ((rw (problem-is d filled) at left) .slots);
           costs = rw (n .costs, t) at (rw (left .costs) at costs);
           choices = rw (n .choices, t) at (rw (left .choices) at choices);
         }

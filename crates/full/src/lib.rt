@@ -50,7 +50,7 @@ fn fill_and_read(
     full_table::read_back(choices, slots, demand.len(), total);
 }
 
-// The work, once the tests have passed: the loops run on the net needs, the plan is weighed on the day itself.
+// The work, once the tests have passed: the loops run on the net needs and the rates, the plan is weighed on the day itself.
 fn work(
     demand: &[u16],
     capacity: &[u16],
@@ -74,15 +74,17 @@ fn work(
     let n = demand.len();
     let total = checks::total(demand, ends) as usize;
     let needed = path_checks::cells(PathKind::Full, n, total);
-    let mut table = [0u16; 96];
-    let net = &mut table[0..n];
-    net::fill(demand, net, ends);
+    let mut need_table = [0u16; 96];
+    let mut rate_table = [0u32; 96];
+    let net = &mut need_table[0..n];
+    let rates = &mut rate_table[0..n];
+    net::fill(demand, holding, net, rates, ends);
     fill_and_read(
         net,
         capacity,
         setup,
         unit,
-        holding,
+        rates,
         costs,
         choices,
         slots,

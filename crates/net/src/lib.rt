@@ -1,13 +1,14 @@
-//! The net needs of a day, which every path's loops run on: what each period adds to what must have been made.
+//! What every path's loops run on in place of a day's demands and upkeep: the net needs, which are what each period adds to what must have
+//! been made, and the rates, which are what a unit left after each period costs to hold.
 ghost use mathlib.Core.Path.{_≡_};
 ghost use mathlib.Core.List.{[]};
 ghost use lib.ListN.{length};
 ghost use Rattle.day.specs.Day.{dayOf};
-ghost use Rattle.theory.specs.Net.{netNeeds, NetFits};
+ghost use Rattle.theory.specs.Net.{netNeeds, ratesOf, NetFits, HalfRates, NetTables};
 use day::Ends;
 
 // The net need of every period.
-pub fn fill(demand: &[u16], net: &mut [u16], ends: Ends)
+fn fill_needs(demand: &[u16], net: &mut [u16], ends: Ends)
     requires { ⌜ length (now net) ≡ length (now demand) ⌝ }
     requires { ⌜ NetFits (dayOf (now demand) [] [] [] [] ends) ⌝ }
     ensures { λ _. ⌜ now (net .exit) ≡ netNeeds (dayOf (now (demand .entry)) [] [] [] [] ends) ⌝ }
@@ -22,4 +23,31 @@ pub fn fill(demand: &[u16], net: &mut [u16], ends: Ends)
         made = next;
         i += 1;
     }
+}
+
+// The rate of every period, from the last one back: its own upkeep, and that of the next, which pays on the charge before it.
+fn fill_rates(holding: &[u32], rates: &mut [u32])
+    requires { ⌜ length (now rates) ≡ length (now holding) ⌝ }
+    requires { ⌜ HalfRates (now holding) ⌝ }
+    ensures { λ _. ⌜ now (rates .exit) ≡ ratesOf (now (holding .entry)) ⌝ }
+{
+    let mut next: u32 = 0;
+    let mut i = holding.len();
+    while 0 < i {
+        i -= 1;
+        rates[i] = holding[i] + next;
+        next = holding[i];
+    }
+}
+
+// The net needs and the rates of a day.
+pub fn fill(demand: &[u16], holding: &[u32], net: &mut [u16], rates: &mut [u32], ends: Ends)
+    requires { ⌜ length (now net) ≡ length (now demand) ⌝ }
+    requires { ⌜ length (now rates) ≡ length (now holding) ⌝ }
+    requires { ⌜ NetFits (dayOf (now demand) [] [] [] [] ends) ⌝ }
+    requires { ⌜ HalfRates (now holding) ⌝ }
+    ensures { λ _. ⌜ NetTables (dayOf (now (demand .entry)) [] [] [] (now (holding .entry)) ends) (now (net .exit)) (now (rates .exit)) ⌝ }
+{
+    fill_needs(demand, net, ends);
+    fill_rates(holding, rates);
 }

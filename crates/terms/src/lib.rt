@@ -14,7 +14,7 @@ pub fn making_cost(setup: u32, unit: u32, amount: u64) -> u64
     (setup as u64) + (unit as u64) * amount
 }
 
-// What keeping a charge through one period costs (report: h_i); document 01: upkeep.
+// What holding a charge costs at a rate (report: h_i); the documents say upkeep.
 pub fn holding_cost(rate: u32, charge: u64) -> u64
     requires { ⌜ charge < 2 ^ 24 ⌝ }
     ensures { λ r. ⌜ Term (rate * charge) (2 ^ 56) r ⌝ }

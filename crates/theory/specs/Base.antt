@@ -1,4 +1,4 @@
--- A day's plan is its problem's: conditions (2) to (4) are the model's rules, and sum (1) is the model's cost and what every plan pays.
+-- A day's plan is its problem's: conditions (2) to (4) are the model's rules, and sum (1) is the model's cost and what every plan pays alike.
 -- Main statement: `optimal-iff`, a plan is the day's just where it is the problem's. Assumes nothing.
 use mathlib.Core.Path.{_≡_, sym, ap, subst}
 use mathlib.Core.Logic.{_↔_}
@@ -7,24 +7,24 @@ use native.Mathlib.Decide.{decLt}
 use native.Mathlib.Omega.{arith}
 use Rattle.day.specs.Sums.{at, sumTo, sum-grows}
 use Rattle.day.specs.Day.{Day, periods, demandTo, total, netTo, net-before, net-end}
-use Rattle.day.specs.Plan.{Feasible, Optimal, Precedes, costAt, cost}
+use Rattle.day.specs.Plan.{Feasible, Optimal, Precedes, inventory, cost}
+use Rattle.day.specs.Plan as Plan
 use Rattle.theory.specs.Model.{Model, FeasibleTo, OptimalTo, costTo}
-use Rattle.theory.specs.Model as Model
 use Rattle.theory.specs.Problem.{modelOf}
 use Rattle.theory.specs.Problem as Problem
-use Rattle.theory.specs.Net.{problemOf, Fits, periods-is, net-covers, floor-is, total-is}
+use Rattle.theory.specs.Net.{rateOf, problemOf, Fits, rate-is, periods-is, net-covers, floor-is, total-is}
 
 -- the charge that every plan holds after i periods: A − R while A lasts, then 0, and Z at the end
 abbrev heldBy : Day → ℕ → ℕ
 heldBy d i = d .opening + netTo d i - demandTo d i
 
--- what every plan pays to hold it
-abbrev standing : Day → ℕ
-standing d = sumTo (λ k. at (d .holding) k * heldBy d (suc k)) (periods d)
+-- what every plan pays to hold it, at the rates of i periods, and on A before period 1
+abbrev standingTo : Day → ℕ → ℕ
+standingTo d i = at (d .holding) 0 * d .opening + sumTo (λ k. rateOf (d .holding) k * heldBy d (suc k)) i
 
-sum-plus : (f g h : ℕ → ℕ) (n : ℕ) → ((k : ℕ) → k < n → f k ≡ g k + h k) → sumTo f n ≡ sumTo g n + sumTo h n
-sum-plus f g h zero e = omega arith
-sum-plus f g h (suc n) e = omega (arith, sum-plus f g h n (λ k l. e k (omega arith)), e n (omega arith))
+-- what the last rate adds on Z where the table of h goes on past n, which `Fits` does not rule out; 0 for a table of n entries
+abbrev pastEnd : Day → ℕ
+pastEnd d = at (d .holding) (periods d) * d .closing
 
 -- costs that differ by what every plan pays order plans alike
 precedes-shift : (f g : (ℕ → ℕ) → ℕ) (a b n : ℕ) (x y : ℕ → ℕ) → f x + a ≡ g x + b → f y + a ≡ g y + b → Precedes f n x y → Precedes g n x y
@@ -65,19 +65,29 @@ module _ (d : Day) (fits : Fits d) where
         within = f .within;
       }
 
-  -- sum (1) is the model's cost and what every plan pays
-  cost-is : (x : ℕ → ℕ) → FeasibleTo M n (total d) x → costTo M x n + standing d ≡ cost d x
+  -- Sum (1) through i periods, with what the next pays on the charge before it, is the model's cost and what every plan pays.
+  cost-through : (x : ℕ → ℕ) → FeasibleTo M n (total d) x → (i : ℕ) → i ≤ n
+      → Plan.costTo d x i + at (d .holding) i * inventory d x i ≡ costTo M x i + standingTo d i
+  cost-through x f zero l =
+      let e : inventory d x 0 ≡ d .opening = omega arith in
+      omega (arith, ap (λ (v : ℕ). at (d .holding) 0 * v) e)
+  cost-through x f (suc k) l =
+      let floor = floor-here (suc k) l in
+      let covers = net-covers d (suc k) l in
+      let served = f .served k l in
+      let h = at (d .holding) in
+      let above = sumTo x (suc k) - M .floor (suc k) in
+      let split : inventory d x (suc k) ≡ above + heldBy d (suc k) = omega arith in
+      let left = ap (λ (v : ℕ). h k * v) split in
+      let next = ap (λ (v : ℕ). h (suc k) * v) split in
+      let rate = ap (λ (v : ℕ). v * above) (rate-is (d .holding) k) in
+      omega (arith, cost-through x f k (omega arith), left, next, rate)
+
+  -- so sum (1) and the model's cost differ by what every plan pays
+  cost-is : (x : ℕ → ℕ) → FeasibleTo M n (total d) x → cost d x + pastEnd d ≡ costTo M x n + standingTo d n
   cost-is x f =
-      sym (sum-plus (costAt d x) (Model.costAt M x) (λ k. at (d .holding) k * heldBy d (suc k)) n (λ k l. each k l))
-    where
-      each : (k : ℕ) → k < n → costAt d x k ≡ Model.costAt M x k + at (d .holding) k * heldBy d (suc k)
-      each k l =
-          let floor = floor-here (suc k) l in
-          let covers = net-covers d (suc k) l in
-          let served = f .served k l in
-          let split : d .opening + sumTo x (suc k) - demandTo d (suc k) ≡ sumTo x (suc k) - M .floor (suc k) + heldBy d (suc k) = omega arith in
-          let e = ap (λ (v : ℕ). at (d .holding) k * v) split in
-          omega arith
+      let e : inventory d x n ≡ d .closing = omega (arith, f .total, fits .used) in
+      omega (arith, cost-through x f n (omega arith), ap (λ (v : ℕ). at (d .holding) n * v) e)
 
   pub same-plan : (x : ℕ → ℕ) → Optimal d x ↔ OptimalTo M n (total d) x
   same-plan x = (
@@ -85,15 +95,15 @@ module _ (d : Day) (fits : Fits d) where
         record {
           feasible = feasible-model x (o .feasible);
           first = λ y f.
-              precedes-shift (cost d) (λ z. costTo M z n) 0 (standing d) n x y
-              (omega (arith, cost-is x (feasible-model x (o .feasible)))) (omega (arith, cost-is y f)) (o .first y (model-feasible y f));
+              precedes-shift (cost d) (λ z. costTo M z n) (pastEnd d) (standingTo d n) n x y
+              (cost-is x (feasible-model x (o .feasible))) (cost-is y f) (o .first y (model-feasible y f));
         },
     λ o.
         record {
           feasible = model-feasible x (o .feasible);
           first = λ y f.
-              precedes-shift (λ z. costTo M z n) (cost d) (standing d) 0 n x y
-              (omega (arith, cost-is x (o .feasible))) (omega (arith, cost-is y (feasible-model y f))) (o .first y (feasible-model y f));
+              precedes-shift (λ z. costTo M z n) (cost d) (standingTo d n) (pastEnd d) n x y
+              (sym (cost-is x (o .feasible))) (sym (cost-is y (feasible-model y f))) (o .first y (feasible-model y f));
         },
   )
 

@@ -1,16 +1,20 @@
--- The days of documents 01 and 02 as problems: net needs, which the opening charge lowers and the closing charge raises.
--- Main definitions: `netNeed`, `problemOf`, `Fits`. Main statements: `floor-is`, `total-is`, the net needs sum to what must have been made;
--- `bounded`, a day within the limits gives what the loops rely on; `net-listed`, what a loop that fills the net needs ends with.
+-- The days of documents 01 and 02 as problems: net needs, which the opening charge lowers and the closing charge raises; rates, by which what is
+-- left after a period is paid for in that period and in the next.
+-- Main definitions: `netNeed`, `rateOf`, `problemOf`, `Fits`. Main statements: `floor-is`, `total-is`, the net needs sum to what must have been
+-- made; `bounded`, a day within the limits gives what the loops rely on; `problem-is`, the two tables as they are filled in are the problem's.
 -- Assumes nothing.
-use mathlib.Core.Path.{_≡_, sym, ap, _∙_}
+use mathlib.Core.Path.{_≡_, sym, ap, ap₂, _∙_}
 use mathlib.Core.List.{List, []}
 use mathlib.Core.Logic.{_↔_}
 use Prim.Native.Nat.{ℕ, zero, suc, _+_, _-_, _≤_, _<_}
 use native.Mathlib.Decide.{decLt}
 use native.Mathlib.Omega.{arith}
-use lib.ListN.{length}
-use Rattle.day.specs.Sums.{at, sumTo, sum-ext, listOf, at-listOf, length-listOf, listOf-at}
-use Rattle.day.specs.Day.{Day, dayOf, endsOf, periods, demandTo, capacityTo, required, total, netTo, net-before, net-end, maxPeriods, maxTotal}
+use lib.ListN.{length, take, replicate, length-replicate, List·getD-eq-default}
+use lib.Seq.{length-take-le}
+use Rattle.day.specs.declared.Ends.{Ends}
+use Rattle.day.specs.Sums.{at, sumTo, sum-ext, listOf, at-listOf, length-listOf}
+use Rattle.day.specs.Day.{Day, dayOf, endsOf, periods, demandTo, capacityTo, required, total, netTo, net-before, net-end}
+use Rattle.day.specs.Day.{maxPeriods, maxHalfRate, maxTotal}
 use Rattle.checks.specs.Passed.{DayLimits}
 use Rattle.theory.specs.Problem.{Problem, problemWith, Bounded, Supplied}
 use Rattle.theory.specs.Problem as Problem
@@ -22,9 +26,28 @@ netNeed d k = netTo d (suc k) - netTo d k
 abbrev pub netNeeds : Day → List ℕ
 netNeeds d = listOf (netNeed d) (periods d)
 
+-- h_k + h_(k+1): what is left after a period is paid for in it, and in the next as the charge before that
+abbrev pub rateOf : List ℕ → ℕ → ℕ
+rateOf holding k = at holding k + at holding (suc k)
+
+abbrev pub ratesOf : List ℕ → List ℕ
+ratesOf holding = listOf (rateOf holding) (length holding)
+
+-- a day's problem, by two tables in place of its demands and its upkeep
+abbrev pub problemBy : (needs rates : List ℕ) → Day → Problem
+problemBy needs rates d = problemWith needs (d .capacity) (d .setup) (d .unit) rates
+
 -- what the loops run on, for a day
 abbrev pub problemOf : Day → Problem
-problemOf d = problemWith (netNeeds d) (d .capacity) (d .setup) (d .unit) (d .holding)
+problemOf d = problemBy (netNeeds d) (ratesOf (d .holding)) d
+
+-- the two tables as they are filled in: a day's demands, upkeep and ends decide them
+pub record FilledFrom (demand holding : List ℕ) (ends : Ends) (net rate : List ℕ) : Type 0 where
+  pub needs : net ≡ netNeeds (dayOf demand [] [] [] [] ends)
+  pub rates : rate ≡ ratesOf holding
+
+abbrev pub NetTables : Day → (net rates : List ℕ) → Type 0
+NetTables d net rates = FilledFrom (d .demand) (d .holding) (endsOf d) net rates
 
 -- what tests 1 and 14 leave: there is a period, and A ≤ R + Z
 pub record Fits (d : Day) : Type 0 where
@@ -37,12 +60,30 @@ pub record NetFits (d : Day) : Type 0 where
   pub few : periods d ≤ maxPeriods
   pub small : required d ≤ maxTotal
 
+-- what the rates ask to be of 32 bits, and within the loops' limit: no upkeep is above its own
+abbrev pub HalfRates : List ℕ → Type 0
+HalfRates holding = (k : ℕ) → at holding k ≤ maxHalfRate
+
 -- of a day's demands and ends alone, as the function has it that fills the net needs
-pub limits-net : {d : Day} → DayLimits d → NetFits (dayOf (d .demand) [] [] [] [] (endsOf d))
+limits-net : {d : Day} → DayLimits d → NetFits (dayOf (d .demand) [] [] [] [] (endsOf d))
 limits-net g = record { nonempty = g .limits .nonempty; few = g .limits .few; small = g .small }
 
 pub limits-fit : {d : Day} → DayLimits d → Fits d
 limits-fit g = record { nonempty = g .limits .nonempty; used = g .used }
+
+-- past a table's end the entries are 0, and so are the rates
+pub rate-is : (holding : List ℕ) (k : ℕ) → at (ratesOf holding) k ≡ rateOf holding k
+rate-is holding k = go (decLt k (length holding))
+  where
+    go : Dec (k < length holding) → at (ratesOf holding) k ≡ rateOf holding k
+    go (yes h) = at-listOf (rateOf holding) (length holding) k h
+    go (no h) =
+        omega (
+          arith,
+          List·getD-eq-default (ratesOf holding) 0 {n = k} (omega (arith, length-listOf (rateOf holding) (length holding))),
+          List·getD-eq-default holding 0 {n = k} (omega arith),
+          List·getD-eq-default holding 0 {n = suc k} (omega arith),
+        )
 
 module _ (d : Day) where
   abbrev n : ℕ
@@ -50,10 +91,6 @@ module _ (d : Day) where
 
   pub periods-is : Problem.periods (problemOf d) ≡ n
   periods-is = length-listOf (netNeed d) n
-
-  -- a table of the net needs is the problem's
-  pub net-listed : (net : List ℕ) → length net ≡ n → ((k : ℕ) → k < n → at net k ≡ netNeed d k) → net ≡ netNeeds d
-  net-listed net e each = sym (listOf-at n net (netNeed d) e (λ k l. sym (each k l)))
 
   -- what must have been made never falls, and ends with T
   pub net-rises : (i : ℕ) → i < n → netTo d i ≤ netTo d (suc i)
@@ -108,6 +145,23 @@ module _ (d : Day) where
     net-limit : (top : ℕ) → required d ≤ top → (k : ℕ) → k < n → at (netNeeds d) k ≤ top
     net-limit top h k l = omega (arith, at-listOf (netNeed d) n k l, net-below (suc k) l)
 
+  limits-half : DayLimits d → HalfRates (d .holding)
+  limits-half g k = go (decLt k n)
+    where
+      go : Dec (k < n) → at (d .holding) k ≤ maxHalfRate
+      go (yes h) = g .limits .within k h .holding
+      go (no h) = omega (arith, List·getD-eq-default (d .holding) 0 {n = k} (omega (arith, g .limits .lengths .holding)))
+
+  -- what filling the two tables asks, where each is the front of n cells of 96; a part from 0 to n has n - 0
+  pub limits-fill : DayLimits d
+      → let front : List ℕ = take (n - 0) (replicate maxPeriods 0) in
+      (length front ≡ length (d .demand))
+      × ((length front ≡ length (d .holding)) × (NetFits (dayOf (d .demand) [] [] [] [] (endsOf d)) × HalfRates (d .holding)))
+  limits-fill g =
+      let l = g .limits in
+      let size = length-take-le (n - 0) (replicate {A = ℕ} maxPeriods 0) (omega (arith, l .few, length-replicate {A = ℕ} maxPeriods 0)) in
+      (omega (arith, size), (omega (arith, size, l .lengths .holding), (limits-net g, limits-half g)))
+
   pub bounded : DayLimits d → Bounded (problemOf d)
   bounded g =
       let e = periods-is in
@@ -118,11 +172,15 @@ module _ (d : Day) where
         capacities = l .lengths .capacity ∙ sym e;
         setups = l .lengths .setup ∙ sym e;
         units = l .lengths .unit ∙ sym e;
-        holdings = l .lengths .holding ∙ sym e;
+        holdings = length-listOf (rateOf (d .holding)) (length (d .holding)) ∙ l .lengths .holding ∙ sym e;
         demand = λ k h. net-limit (l .nonempty) _ (g .small) k (omega arith);
         capacity = λ k h. l .within k (omega arith) .capacity;
         setup = λ k h. l .within k (omega arith) .setup;
         unit = λ k h. l .within k (omega arith) .unit;
-        holding = λ k h. l .within k (omega arith) .holding;
+        holding = λ k h. omega (arith, rate-is (d .holding) k, limits-half g k, limits-half g (suc k));
         small = omega (arith, total-is (l .nonempty), g .small);
       }
+
+  -- the tables that were filled in are the problem's
+  pub problem-is : {net rates : List ℕ} → NetTables d net rates → problemBy net rates d ≡ problemOf d
+  problem-is t = ap₂ (λ (needs rates : List ℕ). problemBy needs rates d) (t .needs) (t .rates)

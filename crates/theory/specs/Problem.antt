@@ -12,6 +12,7 @@ use Rattle.day.specs.Day.{maxPeriods, maxDemand, maxCapacity, maxSetup, maxRate
 use Rattle.theory.specs.Model.{Model, Rising, Unlimited}
 use Rattle.theory.specs.Reachable.{high, high-open, Covered}
 
+-- net needs, c, b, p, and rates: H, what a unit above N costs to hold
 pub record Problem : Type 0 where
   pub demand : List ℕ
   pub capacity : List ℕ

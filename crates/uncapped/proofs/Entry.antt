@@ -1,6 +1,6 @@
 -- Laws of the call: what passed tests leave for the loops, and what the loops leave is what an accepted call leaves.
 -- Assumes nothing.
-use mathlib.Core.Path.{_≡_, refl, sym, ap, _∙_, subst}
+use mathlib.Core.Path.{_≡_, refl, sym, ap, ap₂, _∙_, subst}
 use mathlib.Core.List.{List, _++_}
 use Prim.Native.Nat.{ℕ, _+_, _<_}
 use native.Mathlib.Omega.{arith}
@@ -20,7 +20,7 @@ use Rattle.weigher.specs.Walk.{FeasiblePlan}
 use Rattle.theory.specs.Cut.{optimal-ext}
 use Rattle.theory.specs.Model.{Model}
 use Rattle.theory.specs.Problem.{Problem, Bounded, periods, total, modelOf, model-rising, model-unlimited}
-use Rattle.theory.specs.Net.{netNeeds, problemOf, limits-fit, periods-is, floor-is, total-is, bounded}
+use Rattle.theory.specs.Net.{netNeeds, ratesOf, NetTables, problemOf, limits-fit, periods-is, floor-is, total-is, bounded}
 use Rattle.theory.specs.Base.{optimal-iff}
 use Rattle.theory.specs.Recursion.{leads-optimal}
 use Rattle.theory.specs.Stages.{Solution}
@@ -31,7 +31,7 @@ use Rattle.uncapped.specs.Solved.{Solvable, Solved}
 
 -- what the loops run on, for a day
 abbrev loopsOf : Day → Problem
-loopsOf d = uncapacitated (netNeeds d) (d .setup) (d .unit) (d .holding)
+loopsOf d = uncapacitated (netNeeds d) (d .setup) (d .unit) (ratesOf (d .holding))
 
 module _ (d : Day) (m : Memory) (ok : Admitted uncapped d (sizesOf m)) where
   abbrev p : Problem
@@ -79,15 +79,18 @@ module _ (d : Day) (m : Memory) (ok : Admitted uncapped d (sizesOf m)) where
   unfolding wagnerWhitin
   same-rows = refl
 
-  -- The net needs as they were filled in.
-  module _ (net : List ℕ) (is-net : net ≡ netNeeds d) where
+  -- The net needs and the rates as they were filled in.
+  module _ (net rates : List ℕ) (filled : NetTables d net rates) where
     abbrev loops : Problem
-    loops = uncapacitated net (d .setup) (d .unit) (d .holding)
+    loops = uncapacitated net (d .setup) (d .unit) rates
+
+    loops-are : loops ≡ loopsOf d
+    loops-are = ap₂ (λ (needs rate : List ℕ). uncapacitated needs (d .setup) (d .unit) rate) (filled .needs) (filled .rates)
 
     pub solvable : Solvable loops m
     solvable =
         let size = periods-is d in
-        rw is-net
+        rw loops-are
         (record {
           ready = record {
             bounded = loops-bounded;
@@ -100,7 +103,7 @@ module _ (d : Day) (m : Memory) (ok : Admitted uncapped d (sizesOf m)) where
     -- The memory once the plan is found.
     module _ (after : Memory) (solved : Solved loops m after) where
       left : Solved (loopsOf d) m after
-      left = rw is-net at solved
+      left = rw loops-are at solved
 
       is : after .slots ≡ plan ++ drop n (m .slots)
       is = left .slots ∙ ap (λ (s : Solution). s .plan ++ drop n (m .slots)) same-rows

@@ -1,5 +1,6 @@
 //! The uncapped path: Wagner and Whitin (report, section 3), for days whose capacities can't bind.
-//! It tests, takes the net needs, finds the cost and the last lot of every row, reads the plan back, clears its areas, and weighs the plan.
+//! It tests, takes the net needs and the rates, finds the cost and the last lot of every row, reads the plan back, clears its areas, and
+//! weighs the plan.
 ghost use Rattle.day.specs.Day.{dayOf};
 ghost use Rattle.day.specs.Lent.{dayBefore, memoryBefore, memoryAfter};
 ghost use Rattle.day.specs.Outcome.{memoryOf, sizesOf, Accepted, Runs};
@@ -60,10 +61,12 @@ fn work(
         (memoryAfter costs choices slots) ⌝ }
 {
     let n = demand.len();
-    let mut table = [0u16; 96];
-    let net = &mut table[0..n];
-    net::fill(demand, net, ends);
-    solve(net, setup, unit, holding, costs, choices, slots);
+    let mut need_table = [0u16; 96];
+    let mut rate_table = [0u32; 96];
+    let net = &mut need_table[0..n];
+    let rates = &mut rate_table[0..n];
+    net::fill(demand, holding, net, rates, ends);
+    solve(net, setup, unit, rates, costs, choices, slots);
     areas::clear_costs(costs, n + 1);
     areas::clear_choices(choices, n + 1);
     weigher::totals(demand, capacity, setup, unit, holding, slots, ends)

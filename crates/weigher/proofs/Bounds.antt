@@ -3,7 +3,7 @@
 use mathlib.Core.Path.{_≡_, refl}
 use mathlib.Core.List.{List, [], _∷_}
 use mathlib.Core.Option.{Option, none, some}
-use Prim.Native.Nat.{ℕ, zero, suc, _+_, _-_, _*_, _^_, _≤_, _<_}
+use Prim.Native.Nat.{ℕ, zero, suc, _+_, _*_, _^_, _≤_, _<_}
 use native.Mathlib.Nat.{mul-le-mul-right, le-trans, le-of-lt, suc-mul}
 use native.Mathlib.Omega.{arith}
 use lib.ListN.{length}
@@ -12,7 +12,7 @@ use mir.Val.{Fits}
 use Rattle.day.specs.declared.Refusal.{Refusal}
 use Rattle.day.specs.Sums.{at, sumTo}
 use Rattle.day.specs.Find.{find}
-use Rattle.day.specs.Day.{Day, periods, maxPeriods}
+use Rattle.day.specs.Day.{Day, periods, demandTo, maxPeriods, maxCapacity, maxSum}
 use Rattle.day.specs.Plan.{inventory, costAt, costTo, setupAt}
 use Rattle.day.specs.Refusals.{dayTests, badSlots}
 use Rattle.day.specs.Tests.{first-split}
@@ -25,7 +25,6 @@ use Rattle.weigher.specs.Walk.{sumsTo, Room, Signed}
 
 -- every entry fits its table's width
 pub record Wide (d : Day) (x : ℕ → ℕ) : Type 0 where
-  pub demand : (k : ℕ) → Fits w16 (at (d .demand) k)
   pub setup : (k : ℕ) → Fits w32 (at (d .setup) k)
   pub unit : (k : ℕ) → Fits w32 (at (d .unit) k)
   pub holding : (k : ℕ) → Fits w32 (at (d .holding) k)
@@ -39,13 +38,9 @@ sum-low f top i few h = le-trans (go i h) (mul-le-mul-right top few)
     go zero h = omega arith
     go (suc j) h = rw suc-mul (omega (arith, go j (λ k l. h k (omega arith)), h j (omega arith)))
 
--- sums of 16-bit terms, with room for one more
-short-low : (f : ℕ → ℕ) (i : ℕ) → i ≤ maxPeriods → ((k : ℕ) → Fits w16 (f k)) → sumTo f i + 2 ^ 16 < 2 ^ 23
-short-low f i few h = omega (arith, sum-low f (2 ^ 16 - 1) i few (λ k l. omega (arith, h k)))
-
 module _ (d : Day) (x : ℕ → ℕ) (wide : Wide d x) (low : d .opening < 2 ^ 16) where
-  supplied-low : (i : ℕ) → i ≤ maxPeriods → d .opening + sumTo x i < 2 ^ 23
-  supplied-low i few = omega (arith, short-low x i few (wide .amount), low)
+  supplied-low : (i : ℕ) → i ≤ maxPeriods → d .opening + sumTo x i ≤ maxSum
+  supplied-low i few = omega (arith, sum-low x maxCapacity i few (λ k l. omega (arith, wide .amount k)), low)
 
   pub cost-low : (i : ℕ) → i ≤ maxPeriods → costTo d x i < 2 ^ 63
   cost-low i few = omega (arith, sum-low (costAt d x) (2 ^ 49 + 2 ^ 56) i few term)
@@ -55,15 +50,16 @@ module _ (d : Day) (x : ℕ → ℕ) (wide : Wide d x) (low : d .opening < 2 ^ 1
           omega (
             arith,
             making-low _ _ (x k) (le-of-lt (wide .setup k .fits)) (le-of-lt (wide .unit k .fits)) (le-of-lt (wide .amount k .fits)),
-            paid-low _ (inventory d x (suc k)) (wide .holding k .fits) (omega (arith, supplied-low (suc k) (omega arith))),
+            paid-low _ (inventory d x k + inventory d x (suc k)) (wide .holding k .fits)
+                (omega (arith, supplied-low k (omega arith), supplied-low (suc k) (omega arith))),
           )
 
-  pub sums-low : (i : ℕ) → i ≤ maxPeriods → Room (sumsTo d x i)
-  sums-low i few = record {
+  pub sums-low : (i : ℕ) → i ≤ maxPeriods → demandTo d i ≤ d .opening + sumTo x i → Room (sumsTo d x i)
+  sums-low i few served = record {
     cost = cost-low i few;
     setups = omega (arith, sum-low (λ k. setupAt (x k)) 1 i few (λ k l. setup-low (x k)));
     supplied = supplied-low i few;
-    demanded = omega (arith, short-low (at (d .demand)) i few (wide .demand));
+    served = served;
   }
 
 -- the cost that the weigher answers fits a signed 64-bit number

@@ -3,17 +3,18 @@
 use mathlib.Core.Path.{_≡_, refl}
 use mathlib.Core.Bool.{Bool, true, false}
 use mathlib.Core.Option.{none}
-use Prim.Native.Nat.{ℕ, suc, _≤_, _<_}
+use Prim.Native.Nat.{ℕ, suc, _+_, _≤_, _<_}
 use native.Mathlib.Omega.{arith}
-use Rattle.day.specs.Sums.{at}
+use Rattle.day.specs.Sums.{sumTo}
 use Rattle.day.specs.Find.{find, find-none, find-here}
-use Rattle.day.specs.Day.{Day, periods}
+use Rattle.day.specs.Day.{Day, periods, demandTo}
 use Rattle.weigher.specs.declared.Rule.{Rule}
 use Rattle.weigher.specs.declared.Verdict.the-variants.{Holds, Broken}
 use Rattle.weigher.specs.declared.Sums.{Sums}
 use Rattle.weigher.specs.declared.Ruling.{Ruling}
 use Rattle.weigher.specs.declared.Ruling.the-variants.{Kept, Broke}
 use Rattle.weigher.specs.Verdict.{breaks, ruleAt, verdictOf}
+use Rattle.weigher.specs.Theorems.{passed-served}
 use Rattle.weigher.specs.Walk.{sumsTo, rulingOn, rulingAt}
 
 -- the first i periods break no rule, and s holds the sums through them
@@ -23,6 +24,9 @@ pub record Walking (d : Day) (x : ℕ → ℕ) (i : ℕ) (s : Sums) : Type 0 whe
   pub kept : find (breaks d x) i ≡ none
 
 module _ {d : Day} {x : ℕ → ℕ} {i : ℕ} {s : Sums} (w : Walking d x i s) where
+  pub walking-served : demandTo d i ≤ d .opening + sumTo x i
+  walking-served = passed-served d x i (w .kept)
+
   pub walking-more : {o : Ruling} {t : Sums} → i < periods d → o ≡ rulingAt d x i → o ≡ Kept t → Walking d x (suc i) t
   walking-more {o} {t} l e f = go (breaks d x i) refl e
     where

@@ -9,10 +9,10 @@ use lib.Dec.{ltb}
 use lib.ListN.{length, length-append, List·getD-append}
 use borrow.Author.Tests.{le-ltb}
 use Rattle.day.specs.declared.Refusal.the-variants.{FewSlots}
-use Rattle.day.specs.Sums.{at, sumTo, sum-ext}
+use Rattle.day.specs.Sums.{at, sum-ext}
 use Rattle.day.specs.Day.{Day, periods}
 use Rattle.day.specs.Plan.{setupAt}
-use Rattle.day.specs.Search.{feasible-alike, cost-alike}
+use Rattle.day.specs.Search.{sums-alike, feasible-alike, cost-alike}
 use Rattle.day.specs.Refusals.{refuse, first, dayTests}
 use Rattle.day.specs.Figures.{acceptedWith}
 use Rattle.weigher.specs.declared.Rule.{Rule}
@@ -25,19 +25,16 @@ use Rattle.weigher.specs.Theorems.{Keeps, Breaks, Says, verdict-right, v
 
 -- only the amounts in the day's periods count
 module _ (d : Day) (x y : ℕ → ℕ) (same : (k : ℕ) → k < periods d → x k ≡ y k) where
-  sums-alike : (k : ℕ) → k < periods d → sumTo x (suc k) ≡ sumTo y (suc k)
-  sums-alike k l = sum-ext x y (suc k) (λ j h. same j (omega arith))
-
   keeps-alike : (k : ℕ) → k < periods d → Keeps d x k → Keeps d y k
   keeps-alike k l h =
-      let s = sums-alike k l in
+      let s = sums-alike d x y same (suc k) l in
       let e = same k l in
       record { within = omega (arith, h .within); served = omega (arith, h .served); ends = λ q. omega (arith, h .ends q) }
 
   breaks-alike : (r : Rule) (k : ℕ) → k < periods d → Breaks d x r k → Breaks d y r k
   breaks-alike AboveCapacity k l b = omega (arith, same k l)
-  breaks-alike Short k l b = omega (arith, same k l, sums-alike k l)
-  breaks-alike Over k l b = (omega (arith, same k l), (b .1 .0, omega (arith, sums-alike k l)))
+  breaks-alike Short k l b = omega (arith, same k l, sums-alike d x y same (suc k) l)
+  breaks-alike Over k l b = (omega (arith, same k l), (b .1 .0, omega (arith, sums-alike d x y same (suc k) l)))
 
   verdict-alike : 1 ≤ periods d → verdictOf d x ≡ verdictOf d y
   verdict-alike nonempty = verdict-only d y (verdictOf d x) (go (verdictOf d x) (verdict-right d x nonempty))

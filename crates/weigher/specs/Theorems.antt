@@ -128,6 +128,12 @@ module _ (d : Day) (x : ℕ → ℕ) where
       ended : suc k ≡ periods d → d .opening + sumTo x (suc k) ≡ demandTo d (suc k) + d .closing
       ended e = omega (arith, ap (sumTo x) e, ap (demandTo d) e, f .ends)
 
+  -- after periods that break no rule the charge is not below 0
+  pub passed-served : (i : ℕ) → find (breaks d x) i ≡ none → demandTo d i ≤ d .opening + sumTo x i
+  passed-served zero e = omega arith
+  passed-served (suc k) e =
+      le-trans (due-least (eqb (suc k) (periods d)) _ _) (passed-keeps k (none-found (breaks d x) (suc k) e k (omega arith)) .served)
+
   none-broken : (n : ℕ) → ((k : ℕ) → k < n → Keeps d x k) → find (breaks d x) n ≡ none
   none-broken n h = nothing-found (breaks d x) n (λ k l. keeps-passed k (h k l))
 

@@ -8,7 +8,7 @@ use native.Mathlib.Nat.{add-assoc}
 use lib.Dec.{eqb, ltb}
 use lib.ListN.{length}
 use Rattle.day.specs.Sums.{at, sumTo}
-use Rattle.day.specs.Day.{Day, periods, dueOf, demandTo, maxPeriods}
+use Rattle.day.specs.Day.{Day, periods, dueOf, demandTo, maxPeriods, maxSum}
 use Rattle.day.specs.Plan.{making, costTo, Feasible, setupAt, setups}
 use Rattle.checks.specs.Passed.{SameLengths}
 use Rattle.weigher.specs.declared.Rule.{Rule}
@@ -37,7 +37,7 @@ rulingAt d x k = rulingOn (breaks d x k) (ruleAt d x k) (sumsTo d x (suc k))
 -- the same from one period's entries and the sums before it, in the report's order: what making costs, then the holding cost
 abbrev pub nextOf : Entries → ℕ → Sums → Sums
 nextOf p x s = record {
-  cost = s .cost + making (p .setup) (p .unit) x + p .holding * (s .supplied + x - (s .demanded + p .demand));
+  cost = s .cost + making (p .setup) (p .unit) x + p .holding * (s .supplied - s .demanded + (s .supplied + x - (s .demanded + p .demand)));
   setups = s .setups + setupAt x;
   supplied = s .supplied + x;
   demanded = s .demanded + p .demand;
@@ -67,12 +67,12 @@ pub ruling-is : (d : Day) (x : ℕ → ℕ) (k : ℕ)
     → rulingOf (entriesAt d k) (x k) (eqb (suc k) (periods d)) (sumsTo d x k) (d .closing) ≡ rulingAt d x k
 ruling-is d x k = rw (add-assoc (d .opening), add-assoc (costTo d x k)) refl
 
--- sums that leave room for one period more
+-- sums that leave room for one period more, with a charge that is not below 0
 pub record Room (s : Sums) : Type 0 where
   pub cost : s .cost < 2 ^ 63
   pub setups : s .setups < 2 ^ 7
-  pub supplied : s .supplied < 2 ^ 23
-  pub demanded : s .demanded < 2 ^ 23
+  pub supplied : s .supplied ≤ maxSum
+  pub served : s .demanded ≤ s .supplied
 
 -- tables of one length, at most 96, and a plan that has an amount for each period
 pub record Weighable (d : Day) (plan : List ℕ) : Type 0 where
@@ -85,12 +85,13 @@ pub record FeasiblePlan (d : Day) (plan : List ℕ) : Type 0 where
   pub weighable : Weighable d plan
   pub feasible : Feasible d (at plan)
 
--- period i + 1 is to be judged, A has 16 bits, and s holds the sums through the periods before it
+-- period i + 1 is to be judged, A has 16 bits, and s holds the sums through the periods before it, which leave no charge below 0
 pub record NextPeriod (d : Day) (plan : List ℕ) (i : ℕ) (s : Sums) : Type 0 where
   pub weighable : Weighable d plan
   pub inside : i < periods d
   pub opening : d .opening < 2 ^ 16
   pub sums : s ≡ sumsTo d (at plan) i
+  pub served : demandTo d i ≤ d .opening + sumTo (at plan) i
 
 -- the cost that an answer holds, where it holds one, fits a signed 64-bit number
 abbrev pub Signed : Weighed → Type 0

@@ -77,7 +77,7 @@ fn files() -> Vec<Case> {
     let m3 = Day { demand: vec![2], capacity: vec![1], setup: vec![5], unit: vec![2], holding: vec![9], opening: 0, closing: 0 };
     vec![
         ("M3", plain::file_of(&m3), Some("refused 7 period 1\n")),
-        ("M4", plain::file_of(&m4()), Some("periods 2 cost 18 starts 1\n1 made 5 left 3\n2 made 0 left 0\n")),
+        ("M4", plain::file_of(&m4()), Some("periods 2 cost 21 starts 1\n1 made 5 left 3\n2 made 0 left 0\n")),
         ("an empty file", vec![], Some("refused 11 period 0\n")),
         ("1,635 bytes", longest.clone(), None),
         ("1,636 bytes", with(longest.clone(), &[0]), Some("refused 12 period 0\n")),
@@ -107,13 +107,13 @@ fn files_with_ends() -> Vec<Case> {
     // what is left has four digits in every period but the last, and what is made three in some
     let mut full = Day { demand: vec![0; 96], capacity: vec![249; 96], ..day(96, 0) };
     full.demand[95] = 4096;
-    full.holding = vec![1_000_000; 96];
+    full.holding = vec![500_000; 96];
     full.setup = vec![1_000_000_000; 96];
     vec![
-        ("M4 with both ends", m4_with(1, 1), Some("periods 2 cost 20 starts 1\n1 made 5 left 4\n2 made 0 left 1\n")),
-        ("M4 with an opening charge", m4_with(2, 0), Some("periods 2 cost 13 starts 1\n1 made 0 left 0\n2 made 3 left 0\n")),
-        ("M4 with a closing charge", m4_with(0, 5), Some("periods 2 cost 38 starts 2\n1 made 5 left 3\n2 made 5 left 5\n")),
-        ("M4 with nothing to make", m4_with(6, 1), Some("periods 2 cost 5 starts 0\n1 made 0 left 4\n2 made 0 left 1\n")),
+        ("M4 with both ends", m4_with(1, 1), Some("periods 2 cost 25 starts 1\n1 made 5 left 4\n2 made 0 left 1\n")),
+        ("M4 with an opening charge", m4_with(2, 0), Some("periods 2 cost 15 starts 1\n1 made 0 left 0\n2 made 3 left 0\n")),
+        ("M4 with a closing charge", m4_with(0, 5), Some("periods 2 cost 41 starts 2\n1 made 5 left 3\n2 made 5 left 5\n")),
+        ("M4 with nothing to make", m4_with(6, 1), Some("periods 2 cost 15 starts 0\n1 made 0 left 4\n2 made 0 left 1\n")),
         ("M4 with more than it asks for", m4_with(7, 1), Some("refused 14 period 0\n")),
         ("M4 with the most that there is", m4_with(65_535, 0), Some("refused 14 period 0\n")),
         ("M4, more to hand on than can be made", m4_with(0, 6), Some("refused 7 period 2\n")),
@@ -136,6 +136,22 @@ fn files_with_ends() -> Vec<Case> {
         ("2 periods with ends, two cost cells too few", ends(day(2, 1000), 501, 1), Some("refused 5 period 0\n")),
         ("much charge, nothing to make", ends(full.clone(), 4096, 0), None),
         ("much charge, all choice cells", ends(full, 3847, 0), None),
+    ]
+}
+
+/// Files of days whose upkeep decides: the tie of request 2.2, and upkeep around its limit.
+fn files_with_holding() -> Vec<Case> {
+    let m4_with = |first, second| plain::file_of(&Day { holding: vec![first, second], ..m4() });
+    let (demand, capacity) = (vec![2; 2], vec![4; 2]);
+    let tie = Day { demand, capacity, setup: vec![8; 2], unit: vec![1; 2], holding: vec![2; 2], opening: 0, closing: 0 };
+    let (demand, capacity) = (vec![0], vec![0]);
+    let kept = Day { demand, capacity, setup: vec![0], unit: vec![0], holding: vec![500_000], opening: 4096, closing: 4096 };
+    vec![
+        ("the tie row", plain::file_of(&tie), Some("periods 2 cost 20 starts 1\n1 made 4 left 2\n2 made 0 left 0\n")),
+        ("M4, upkeep at its limit", m4_with(500_000, 500_000), Some("periods 2 cost 25 starts 2\n1 made 2 left 0\n2 made 3 left 0\n")),
+        ("M4, upkeep above its limit", m4_with(500_000, 500_001), Some("refused 3 period 2\n")),
+        ("M4, upkeep at the limit before 2.2", m4_with(1_000_000, 0), Some("refused 3 period 1\n")),
+        ("the most charge at the highest upkeep", plain::file_of(&kept), Some("periods 1 cost 4096000000 starts 0\n1 made 0 left 4096\n")),
     ]
 }
 
@@ -220,7 +236,7 @@ fn main() {
     };
     let root = PathBuf::from(env!("CARGO_MANIFEST_DIR")).parent().unwrap().to_path_buf();
     let mut runs = Runs { root, count: 0 };
-    for (what, file, line) in files().into_iter().chain(files_with_ends()) {
+    for (what, file, line) in [files(), files_with_ends(), files_with_holding()].concat() {
         if let Some(line) = line {
             assert_eq!(printed(&file), line, "{what}");
         }

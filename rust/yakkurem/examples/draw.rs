@@ -69,7 +69,7 @@ fn legend(at: f64, colour: &str, name: &str) {
 fn main() {
     let demand: Vec<u16> = (0..PERIODS).map(demand).collect();
     let unit: Vec<u32> = (0..PERIODS).map(unit).collect();
-    let (capacity, setup, holding) = (vec![60; PERIODS], vec![5000; PERIODS], vec![6; PERIODS]);
+    let (capacity, setup, holding) = (vec![60; PERIODS], vec![5000; PERIODS], vec![3; PERIODS]);
     let total: usize = demand.iter().map(|&need| need as usize).sum();
     let (mut costs, mut choices, mut amounts) = (vec![0; 2 * (total + 1)], vec![0; PERIODS * (total + 1)], vec![0; PERIODS]);
     let day = Day { demand: &demand, capacity: &capacity, setup: &setup, unit: &unit, holding: &holding, opening: 0, closing: 0 };

@@ -10,6 +10,7 @@ pub struct Day<'a> {
     pub capacity: &'a [u16],
     pub setup: &'a [u32],
     pub unit: &'a [u32],
+    /// per half period: on the charge before the period, and on the charge left
     pub holding: &'a [u32],
     pub opening: u16,
     pub closing: u16,

@@ -9,7 +9,7 @@ use lib.ListN.{length}
 use borrow.Author.Tests.{le-ltb}
 use Rattle.day.specs.declared.Refusal.the-variants.{AboveLimit}
 use Rattle.day.specs.Sums.{at}
-use Rattle.day.specs.Day.{Day, tablesOf, maxDemand, maxCapacity, maxSetup, maxRate}
+use Rattle.day.specs.Day.{Day, tablesOf, maxDemand, maxCapacity, maxSetup, maxRate, maxHalfRate}
 use Rattle.day.specs.Refusals.{aboveLimit}
 use Rattle.checks.specs.Search.{Searched, searched-next, searched-all, refused-here}
 use Rattle.checks.proofs.values.Statement.{statement}
@@ -20,7 +20,7 @@ others-decide :
     (d : Day) (k : ℕ)
     → at (d .capacity) k ≤ maxCapacity
     → aboveLimit d k
-    ≡ (ltb maxDemand (at (d .demand) k) || ltb maxSetup (at (d .setup) k) || ltb maxRate (at (d .unit) k) || ltb maxRate (at (d .holding) k))
+    ≡ (ltb maxDemand (at (d .demand) k) || ltb maxSetup (at (d .setup) k) || ltb maxRate (at (d .unit) k) || ltb maxHalfRate (at (d .holding) k))
 others-decide d k low = simp (le-ltb maxCapacity (at (d .capacity) k) low, or-false)
 
 abbrev Inv-loop : tie.InvT-loop

@@ -1,14 +1,10 @@
 -- `full::work` meets its contract. Assumes nothing.
-use mathlib.Core.List.{List}
-use Prim.Native.Nat.{ℕ, _-_}
 use native.Mathlib.Omega.{arith}
-use lib.ListN.{replicate}
-use lib.Seq.{length-take-le}
-use Rattle.day.specs.Day.{Day, dayOf, periods}
+use Rattle.day.specs.Day.{Day, dayOf}
 use Rattle.day.specs.Outcome.{Memory, memoryOf}
-use Rattle.theory.specs.Net.{limits-net}
+use Rattle.theory.specs.Net.{problemBy, limits-fill}
 use Rattle.full.specs.Work.{Workable}
-use Rattle.full.proofs.Fronts.{problemIn, workable, left-feasible, work-accepted}
+use Rattle.full.proofs.Fronts.{workable, left-feasible, work-accepted}
 use borrow.Author.Needs.{needs}
 use Rattle.full.proofs.work.Statement.{statement}
 use Rattle.full.proofs.work.Tie as tie
@@ -27,48 +23,47 @@ start c = c .before .before .before .before .before .before .before .before
 abbrev begun : tie.After-cells → tie.Start
 begun c = start (c .before .before)
 
--- after the cells are known, the net needs are there, and the plan is laid
-abbrev counted : tie.After-fill → tie.After-cells
-counted c = c .before .before .before
+-- after the cells are known, the net needs and the rates are there, and the plan is laid
+abbrev counted : tie.After-fill-arg2 → tie.After-cells
+counted c = c .before .before .before .before
 
-abbrev netted : tie.After-fill-and-read → tie.After-fill
-netted c = c .before .before .before .before .before .before .before
+abbrev netted : tie.After-fill-and-read-arg3 → tie.After-fill
+netted c = c .before .before .before .before .before .before .before .before .before
 
 abbrev laid : tie.After-totals-arg → tie.After-fill-and-read
-laid c = c .before .before .before .before .before .before .before .before
+laid c = c .before .before .before .before .before .before .before .before .before
 
 total-requires : tie.Need-total-requires
 total-requires c κs = let g = start c .pre .day in (g .limits .few, g .used)
 
 fill-requires : tie.Need-fill-requires
 fill-requires c κs =
-    let s = begun (c .before .before) in
-    let zeros : List ℕ = replicate 96 0 in
-    let g = s .pre .day in
-    (omega (arith, length-take-le (periods (given s) - 0) zeros (omega (arith, g .limits .few))), limits-net g)
+    let s = begun (counted c) in
+    limits-fill (given s) (s .pre .day)
 
 ready : (c : tie.After-fill)
-    → let k = counted c in
+    → let k = counted (c .before) in
     let s = begun k in
-    Workable (problemIn (c .fill .last .1 .0) (given s)) (k .before .total .result) (k .cells .result) (lent s)
-ready c = let k = counted c in workable (begun k .pre) (c .fill .ensures) (k .before .total .ensures .is) (k .cells .ensures)
+    let tables = c .fill .last .1 .1 in
+    Workable (problemBy (tables .0) (tables .1 .0) (given s)) (k .before .total .result) (k .cells .result) (lent s)
+ready c = let k = counted (c .before) in workable (begun k .pre) (c .fill .ensures) (k .before .total .ensures .is) (k .cells .ensures)
 
 totals-requires : tie.Need-totals-requires
 totals-requires c κs =
     let called = laid c .fill-and-read in
-    let filled = netted (laid c) in
-    left-feasible (begun (counted filled) .pre) (filled .fill .ensures) (called .ensures) (called .kept .1 .1 .1 .1 .1 .1 .1 .0)
+    let filled = netted (laid c .before) in
+    left-feasible (begun (counted (filled .before)) .pre) (filled .fill .ensures) (called .ensures) (called .kept .1 .1 .1 .1 .1 .1 .1 .0)
 
 clear-costs-requires : tie.Need-clear-costs-requires
 clear-costs-requires c κs =
     let called = laid (c .before .before) in
-    let w = ready (netted called) in
+    let w = ready (netted (called .before)) in
     omega (arith, w .needed .costs, w .fillable .costCells, called .fill-and-read .kept .1 .1 .1 .1 .1 .0)
 
 clear-choices-requires : tie.Need-clear-choices-requires
 clear-choices-requires c κs =
     let called = laid (c .before .before .before .before .before .before) in
-    let w = ready (netted called) in
+    let w = ready (netted (called .before)) in
     omega (arith, w .needed .choices, w .fillable .choiceCells, called .fill-and-read .kept .1 .1 .1 .1 .1 .1 .0)
 
 returns : tie.Need-returns
@@ -77,8 +72,8 @@ returns c =
     let costs = cleared .before .before .before .before in
     let weighed = costs .before .before in
     let called = laid (weighed .before) .fill-and-read in
-    let filled = netted (laid (weighed .before)) in
-    let cells = counted filled in
+    let filled = netted (laid (weighed .before) .before) in
+    let cells = counted (filled .before) in
     work-accepted (begun cells .pre) (filled .fill .ensures) (called .ensures) (called .kept .1 .1 .1 .1 .1 .1 .1 .0)
     (cells .before .total .ensures .is) (cells .cells .ensures) (weighed .totals .ensures)
     (costs .clear-costs .ensures) (cleared .clear-choices .ensures)
@@ -88,6 +83,7 @@ work-spec =
     tie.close
     (tie.spec
     total-requires (λ c κs. (start (c .before) .pre .day .limits .few, c .total .ensures .low))
-    (λ c. search needs) (λ c. search needs) (λ c. begun c .pre .day .limits .few) fill-requires
-    (λ c κs. ready (c .before .before .before .before .before .before)) totals-requires clear-costs-requires clear-choices-requires
+    (λ c. search needs) (λ c. search needs) (λ c. begun c .pre .day .limits .few)
+    (λ c. search needs) (λ c. search needs) (λ c. begun (c .before) .pre .day .limits .few) fill-requires
+    (λ c κs. ready (netted c)) totals-requires clear-costs-requires clear-choices-requires
     (λ c. search needs) (λ c. search needs) (λ c. search needs) returns)

@@ -18,7 +18,6 @@ at-start c = c .before .before .before .before .before .before
 
 wide : (c : tie.After-shared-slice-known6) → Wide (tables (at-start c)) (at (at-start c .args .plan .now))
 wide c = record {
-  demand = c .before .before .before .before .before .shared-slice-known .given;
   setup = c .before .before .before .shared-slice-known3 .given;
   unit = c .before .before .shared-slice-known4 .given;
   holding = c .before .shared-slice-known5 .given;
@@ -29,7 +28,7 @@ judge-requires : tie.Need-judge-requires
 judge-requires c κs =
     let known = c .before .before .before .before .before .before in
     let start = at-start known in
-    rw (start .pre .sums) (sums-low _ _ (wide known) (start .pre .opening) (start .args .i) (omega arith))
+    rw (start .pre .sums) (sums-low _ _ (wide known) (start .pre .opening) (start .args .i) (omega arith) (start .pre .served))
 
 returns : tie.Need-returns
 returns c =

@@ -26,7 +26,6 @@ signed c plan w amount promised =
     (tables c)
     plan
     (record {
-      demand = c .before .before .before .before .before .before .shared-slice-known .given;
       setup = c .before .before .before .before .shared-slice-known3 .given;
       unit = c .before .before .before .shared-slice-known4 .given;
       holding = c .before .before .shared-slice-known5 .given;

@@ -37,7 +37,7 @@ returns-3 c =
 returns-4 : tie.Need-returns-4
 returns-4 c =
     let made = c .before .before .before .before in
-    let joined = made .before in
+    let joined = made .before .before in
     let tested = joined .before in
     rw
     (← tested .before .before .before .due .ensures)
@@ -51,9 +51,9 @@ returns-4 c =
     ))
 
 -- what covers the due covers the demand
-sub-holding-cost : tie.Need-sub-holding-cost
-sub-holding-cost c =
-    let tested = c .before .before .before in
+sub-left : tie.Need-sub-left
+sub-left c =
+    let tested = c .before .before in
     let known = tested .before .before .before in
     let a = known .before .before .before .before .args in
     omega (arith, tested .if2 .left, known .due .ensures, due-least (a .last) (a .s .demanded + a .p .demand) (a .closing))
@@ -63,5 +63,5 @@ judge-spec =
     tie.close
     (tie.spec
     (λ c. search needs) (λ c. search needs) (λ c. search needs) (λ c κs. search needs) returns returns-2 returns-3
-    (λ c κs. search needs) (λ c. search needs) sub-holding-cost (λ c κs. search needs) (λ c. search needs) (λ c κs. search needs)
-    (λ c. search needs) returns-4)
+    (λ c. search needs) sub-left (λ c κs. search needs) (λ c. search needs) (λ c. search needs) (λ c κs. search needs)
+    (λ c. search needs) (λ c κs. search needs) (λ c. search needs) returns-4)

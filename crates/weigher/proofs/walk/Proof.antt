@@ -9,7 +9,7 @@ use borrow.Author.Needs.{needs}
 use lib.ListN.{length}
 use Rattle.day.specs.Sums.{at}
 use Rattle.day.specs.Day.{dayOf}
-use Rattle.weigher.proofs.Walking.{Walking, walking-more, walking-broken, walking-through}
+use Rattle.weigher.proofs.Walking.{Walking, walking-served, walking-more, walking-broken, walking-through}
 use Rattle.weigher.proofs.walk.Statement.{statement}
 use Rattle.weigher.proofs.walk.Tie as tie
 
@@ -32,6 +32,7 @@ advance-requires c κs =
       inside = c .loop-test .taken;
       opening = omega (arith, c .before .before .struct-known .given);
       sums = c .before .loop .inv .sums;
+      served = walking-served (c .before .loop .inv);
     }
 
 returns : tie.Need-returns Inv-loop μ-loop

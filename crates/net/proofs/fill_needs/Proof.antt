@@ -1,4 +1,4 @@
--- `net::fill` meets its contract. The loop's invariant: R and what must have been made of the periods passed, whose net needs are filled in.
+-- `net::fill_needs` meets its contract. The loop's invariant: R and what must have been made of the periods passed, whose net needs are filled in.
 -- Assumes nothing.
 use mathlib.Core.Path.{_≡_, refl, sym, _∙_}
 use mathlib.Core.List.{List, []}
@@ -7,11 +7,11 @@ use native.Mathlib.Numerals.{add-one}
 use native.Mathlib.Omega.{arith}
 use lib.ListN.{length, set, length-set}
 use lib.Seq.{getD-set-same, getD-set-other}
-use Rattle.day.specs.Sums.{at, below}
+use Rattle.day.specs.Sums.{at, below, listOf-at}
 use Rattle.day.specs.Day.{Day, dayOf, periods, demandTo, netTo, maxPeriods, maxCapacity}
-use Rattle.theory.specs.Net.{netNeed, NetFits, net-zero, net-rises, net-below, net-listed}
-use Rattle.net.proofs.fill.Statement.{statement}
-use Rattle.net.proofs.fill.Tie as tie
+use Rattle.theory.specs.Net.{netNeed, NetFits, net-zero, net-rises, net-below}
+use Rattle.net.proofs.fill_needs.Statement.{statement}
+use Rattle.net.proofs.fill_needs.Tie as tie
 
 -- i periods are filled in
 record Filling (d : Day) (net : List ℕ) (demanded made i : ℕ) : Type 0 where
@@ -105,10 +105,10 @@ returns : tie.Need-returns Inv-loop μ-loop
 returns c =
     let p = c .before in
     let w = p .loop .inv in
-    net-listed (given p) (p .loop .net) (w .size) (λ k l. w .each k (omega (arith, c .loop-test .left)))
+    sym (listOf-at _ (p .loop .net) (netNeed (given p)) (w .size) (λ k l. sym (w .each k (omega (arith, c .loop-test .left)))))
 
-pub fill-spec : {M : Type 1} → statement M
-fill-spec =
+pub fill-needs-spec : {M : Type 1} → statement M
+fill-needs-spec =
     tie.close
     (tie.spec
     Inv-loop μ-loop (λ c. let a = c .before .before .pre in filling-none _ _ (a .1) (a .0)) (λ c. omega arith) (λ c. omega arith) cast-demanded
