@@ -5,6 +5,7 @@ pub mod Find
 -- The problem: a day, its plans, what they cost, which one is wanted (report, section 2; documents 01 and 02).
 pub mod Day
 pub mod Plan
+pub mod InTurn
 -- What is refused, and when; the day file's layout.
 pub mod Refusals
 pub mod Tests
