@@ -1,0 +1,2 @@
+-- Laws of the call.
+pub mod Entry
