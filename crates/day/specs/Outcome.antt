@@ -1,4 +1,5 @@
--- What a caller lends to a path, what the path needs of it and refuses, and what it leaves in it (document 01, "Three paths, one plan").
+-- What a caller lends to a path, what the path needs of it and refuses, and what it leaves in it (document 01, "Three paths, one plan";
+-- document 02, 2.3).
 -- Main definitions: `refusal`; `Runs`, the contract of every path (demands 1 to 3). Assumes nothing.
 use mathlib.Core.Path.{_≡_, refl}
 use mathlib.Core.List.{List, [], _∷_, _++_}
@@ -13,7 +14,8 @@ use Rattle.day.specs.declared.Answer.the-variants.{Refused, Planned}
 use Rattle.day.specs.Sums.{at}
 use Rattle.day.specs.Day.{Day, periods, total}
 use Rattle.day.specs.Plan.{Optimal, cost, setups}
-use Rattle.day.specs.Refusals.{Gives, first, dayTests, badAreas, badSlots, shortage}
+use Rattle.day.specs.Refusals.{Gives, orNext, first, dayTests, badAreas, badSlots, shortage}
+use Rattle.day.specs.Tests.{first-join}
 use Rattle.day.specs.Figures.{acceptedWith, answerFigures}
 
 -- what a caller lends: cost area, choice area, answer slots
@@ -68,7 +70,12 @@ refusal P d s = first (dayTests d ++ pathTests P d s)
 abbrev pub dayRefusal : Day → Option Refusal
 dayRefusal d = first (dayTests d ++ (shortage d ∷ []))
 
--- with room for it, a path refuses a day of its kind for what the day is, alone
+-- with room for it, a path refuses a day for what the day is, else by its own tests
+pub roomy-first : (P : Path) (d : Day) (s : Sizes) → Roomy P d s → refusal P d s ≡ orNext (dayRefusal d) (first (P .own d))
+roomy-first P d s room =
+    rw (le-ltb _ _ (room .costs), le-ltb _ _ (room .choices), le-ltb _ _ (room .slots)) (first-join (dayTests d ++ (shortage d ∷ [])) (P .own d))
+
+-- and a day of its kind for what the day is, alone
 pub roomy-refusal : (P : Path) (d : Day) (s : Sizes) → Roomy P d s → first (P .own d) ≡ none → refusal P d s ≡ dayRefusal d
 roomy-refusal P d s room kind = rw (kind, le-ltb _ _ (room .costs), le-ltb _ _ (room .choices), le-ltb _ _ (room .slots)) refl
 
