@@ -11,13 +11,13 @@ returns c = (is-gives (refused _ (c .before .before .before .path .ensures) (c .
 
 work-requires : tie.Need-work-requires
 work-requires c κs =
-    let told = c .before .before .before in
+    let told = c .before .before in
     admitted _ _ _ (passed _ (told .before .before .path .ensures) (told .enum-told .given .1))
 
 returns-2 : tie.Need-returns-2
 returns-2 c =
-    let called = c .before .before .before .before .before in
-    let told = called .before .before .before .before in
+    let called = c .before .before .before .before in
+    let told = called .before .before .before in
     (passed _ (told .before .before .path .ensures) (told .enum-told .given .1), called .work .ensures)
 
 pub plan-spec : {M : Type 1} → statement M
