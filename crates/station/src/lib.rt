@@ -3,7 +3,7 @@ ghost use mathlib.Core.Path.{_≡_};
 ghost use Rattle.day.specs.Refusals.{numberOf, periodOf};
 ghost use Rattle.day.specs.Paths.{full, uncapped, equal};
 ghost use Rattle.day.specs.Day.{endsWith};
-ghost use Rattle.day.specs.Lent.{dayBefore};
+ghost use Rattle.day.specs.Lent.{dayBefore, memoryBefore, memoryAfter};
 ghost use Rattle.day.specs.Figures.{answerFigures};
 ghost use Rattle.dayfile.specs.Answers.{readFigures, writeFigures};
 ghost use Rattle.weigher.specs.Answers.{Weighs, Compares, weighedFigures, comparedFigures, ruleNumber};
@@ -123,7 +123,9 @@ pub extern "C" fn yakkurem_full(
     slots: &mut [u16],
     answer: &mut [u64; 2],
 ) -> u64
-    ensures { λ r. ⌜ PathShows full demand capacity setup unit holding (endsWith opening closing) costs choices slots answer r ⌝ }
+    ensures { λ r. ⌜
+        PathShows full demand capacity setup unit holding (endsWith opening closing)
+        (memoryBefore costs choices slots) (memoryAfter costs choices slots) answer r ⌝ }
 {
     let ends = Ends { opening, closing };
     let a = full::plan(
@@ -155,7 +157,9 @@ pub extern "C" fn yakkurem_uncapped(
     slots: &mut [u16],
     answer: &mut [u64; 2],
 ) -> u64
-    ensures { λ r. ⌜ PathShows uncapped demand capacity setup unit holding (endsWith opening closing) costs choices slots answer r ⌝ }
+    ensures { λ r. ⌜
+        PathShows uncapped demand capacity setup unit holding (endsWith opening closing)
+        (memoryBefore costs choices slots) (memoryAfter costs choices slots) answer r ⌝ }
 {
     let ends = Ends { opening, closing };
     let a = uncapped::plan(
@@ -187,7 +191,9 @@ pub extern "C" fn yakkurem_equal(
     slots: &mut [u16],
     answer: &mut [u64; 2],
 ) -> u64
-    ensures { λ r. ⌜ PathShows equal demand capacity setup unit holding (endsWith opening closing) costs choices slots answer r ⌝ }
+    ensures { λ r. ⌜
+        PathShows equal demand capacity setup unit holding (endsWith opening closing)
+        (memoryBefore costs choices slots) (memoryAfter costs choices slots) answer r ⌝ }
 {
     let ends = Ends { opening, closing };
     let a = equal::plan(
