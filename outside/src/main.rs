@@ -27,6 +27,8 @@ struct Run {
     ends: Ends,
     inputs: usize,
     accepted: usize,
+    /// of these, by the free path
+    free: usize,
     refused: [usize; LAST + 1],
     broken: usize,
 }
@@ -39,7 +41,10 @@ impl Run {
         }
         self.inputs += 1;
         match expected.code % 256 {
-            0 => self.accepted += 1,
+            0 => {
+                self.accepted += 1;
+                self.free += usize::from(input.call == Call::Free);
+            }
             number if number <= LAST as u64 => self.refused[number as usize] += 1,
             _ => self.broken += 1,
         }
@@ -183,6 +188,9 @@ fn report(input: &Input) -> ! {
             println!("lent part {part}, cell {}: expected {}, seen {}", i as i64 - 8, e[i], s[i]);
         }
     }
+    if !compare::full_agrees(&smallest, &expected) {
+        println!("the full path says otherwise on this day than what is expected");
+    }
     exit(1);
 }
 
@@ -205,7 +213,7 @@ fn main() {
         Some(word) => word.parse().expect("the seed is a number"),
     };
     let start = Instant::now();
-    let mut run = Run { random: Random::new(seed), ends: Ends::Zero, inputs: 0, accepted: 0, refused: [0; LAST + 1], broken: 0 };
+    let mut run = Run { random: Random::new(seed), ends: Ends::Zero, inputs: 0, accepted: 0, free: 0, refused: [0; LAST + 1], broken: 0 };
     run.made_up(EARLIER, Ends::Zero, 1);
     for call in [Call::Read, Call::Lookup] {
         run.try_inputs(&long_files(call));
@@ -233,6 +241,7 @@ fn main() {
     let refused = (1..=LAST).map(|number| format!("{number}: {}", run.refused[number])).collect::<Vec<_>>().join(", ");
     println!("outside: seed {seed}, {} inputs of {} calls as the plain implementation has them", run.inputs, CALLS.len());
     println!("accepted {}, broken plans {}, refused {refused}", run.accepted, run.broken);
+    println!("free path: {} plans, each the full path's on the same day", run.free);
     println!("published instances: {} inputs, each with the published cost, doubled", published.len());
     eprintln!("{} seconds", start.elapsed().as_secs());
 }
