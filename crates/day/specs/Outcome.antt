@@ -1,7 +1,7 @@
 -- What a caller lends to a path, what the path needs of it and refuses, and what it leaves in it (document 01, "Three paths, one plan";
 -- document 02, 2.3).
 -- Main definitions: `refusal`; `Runs`, the contract of every path (demands 1 to 3). Assumes nothing.
-use mathlib.Core.Path.{_≡_, refl}
+use mathlib.Core.Path.{_≡_, _∙_}
 use mathlib.Core.List.{List, [], _∷_, _++_}
 use mathlib.Core.Option.{Option, none}
 use Prim.Native.Nat.{ℕ, _≤_}
@@ -15,7 +15,7 @@ use Rattle.day.specs.Sums.{at}
 use Rattle.day.specs.Day.{Day, periods, total}
 use Rattle.day.specs.Plan.{Optimal, cost, setups}
 use Rattle.day.specs.Refusals.{Gives, orNext, first, dayTests, badAreas, badSlots, shortage}
-use Rattle.day.specs.Tests.{first-join}
+use Rattle.day.specs.Tests.{first-join, first-one}
 use Rattle.day.specs.Figures.{acceptedWith, answerFigures}
 
 -- what a caller lends: cost area, choice area, answer slots
@@ -77,7 +77,7 @@ roomy-first P d s room =
 
 -- and a day of its kind for what the day is, alone
 pub roomy-refusal : (P : Path) (d : Day) (s : Sizes) → Roomy P d s → first (P .own d) ≡ none → refusal P d s ≡ dayRefusal d
-roomy-refusal P d s room kind = rw (kind, le-ltb _ _ (room .costs), le-ltb _ _ (room .choices), le-ltb _ _ (room .slots)) refl
+roomy-refusal P d s room kind = roomy-first P d s room ∙ rw kind (first-one (dayRefusal d))
 
 -- what is given is the plan's cost and setups, by the answer's figures
 abbrev pub Counts : Day → (ℕ → ℕ) → Totals → Type 0

@@ -229,16 +229,7 @@ pub extern "C" fn yakkurem_free(
         (cellsBefore costs slots) (cellsAfter costs slots) answer r ⌝ }
 {
     let ends = Ends { opening, closing };
-    let a = free::plan(
-        demand,
-        capacity,
-        setup,
-        unit,
-        holding,
-        costs,
-        slots,
-        ends,
-    );
+    let a = free::plan(demand, capacity, setup, unit, holding, costs, slots, ends);
     planned(a, answer)
 }
 
