@@ -8,7 +8,6 @@ use Prim.Native.Nat.{ℕ, _≤_, _<_}
 use native.Mathlib.Omega.{arith}
 use lib.ListN.{length, drop, replicate, length-append, length-drop, length-replicate, getD-replicate, List·getD-append}
 use Rattle.day.specs.Sums.{at}
-use Rattle.day.specs.Day as Day
 use Rattle.day.specs.Outcome.{Memory, memoryOf, Cleared}
 use Rattle.theory.specs.Model.{Model}
 use Rattle.theory.specs.Problem.{Problem, periods, modelOf, model-rising, model-unlimited, covered-iff}
@@ -42,11 +41,13 @@ module _ (demand capacity unit holding : List ℕ) (m : Memory) (ok : Solvable (
   abbrev M : Model
   M = modelOf p
 
+  -- the rule finds a plan
   finds : (g : List ℕ) × (greedy M n (at demand) (cleared n (m .slots)) ≡ some g) × Filled M n (cleared n (m .slots)) g
   finds =
       greedy-covered M (model-rising p) (model-unlimited p) n (λ k l. refl) (cleared n (m .slots)) (cleared-fresh n (m .slots) (ok .room))
       (at demand) (λ k l. refl) (covered-iff p .1 (ok .supplied))
 
+  -- so what the loop tells is it
   told-found : (o : Option (List ℕ)) (g slots : List ℕ) (r : Bool) → o ≡ some g → Told r o slots → o ≡ some slots
   told-found o g slots true e t = t
   told-found o g slots false e t = absurd (Option·none-ne-some g (sym t ∙ e))
