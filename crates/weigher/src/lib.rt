@@ -1,5 +1,5 @@
 //! Weighs a given plan of a day: whether it keeps the report's conditions, what it costs, how two plans compare.
-//! (Document 01, "The weigher"; document 02, 2.1, 2.2.) What the answers mean is in specs/.
+//! (Document 01, "The weigher"; document 02, 2.1, 2.2, 2.4.) What the answers mean is in specs/.
 ghost use mathlib.Core.Path.{_≡_};
 ghost use Prim.Native.Nat.{_^_, _<_};
 ghost use lib.IntN.{pos, _-ℤ_};
@@ -79,7 +79,7 @@ enum Ruling {
     Broke(Rule),
 }
 
-// One period's rules in their order, then what making costs, then the holding cost on the inventory before the period and the one left.
+// One period's rules in their order, then its terms of sum (1) in theirs: what making costs, then upkeep.
 fn judge(p: Entries, amount: u16, last: bool, s: Sums, closing: u16) -> Ruling
     requires { ⌜ Room s ⌝ }
     ensures { λ r. ⌜ r ≡ rulingOf p amount last s closing ⌝ }
@@ -96,10 +96,11 @@ fn judge(p: Entries, amount: u16, last: bool, s: Sums, closing: u16) -> Ruling
     if last && due < supplied {
         return Ruling::Broke(Rule::Over);
     }
+    let making = terms::making_cost(p.setup, p.unit, amount as u64);
     let before = s.supplied - s.demanded;
     let left = supplied - demanded;
-    let making = s.cost + terms::making_cost(p.setup, p.unit, amount as u64);
-    let cost = making + terms::holding_cost(p.holding, before + left);
+    let upkeep = terms::holding_cost(p.holding, before + left);
+    let cost = s.cost + making + upkeep;
     let setups = s.setups + terms::setup_of(amount);
     Ruling::Kept(Sums {
         cost,
