@@ -6,9 +6,10 @@ ghost use lib.IntN.{pos, _-ℤ_};
 ghost use Rattle.day.specs.Sums.{at};
 ghost use Rattle.day.specs.Day.{dayOf};
 ghost use Rattle.day.specs.Lent.{dayBefore};
-ghost use Rattle.weigher.specs.Verdict.{totalsOf, verdictOf};
+ghost use Rattle.weigher.specs.Verdict.{totalsOf};
 ghost use Rattle.weigher.specs.Answers.{Weighs, Compares, compareOf, ruleNumber};
 ghost use Rattle.weigher.specs.Walk.{rulingOf, rulingAt, Room, Weighable, FeasiblePlan, NextPeriod, Signed};
+ghost use Rattle.weigher.specs.Running.{walkOf};
 use day::Check;
 use day::Ends;
 use day::Refusal;
@@ -146,7 +147,7 @@ fn walk(
     ends: Ends,
 ) -> Verdict
     requires { ⌜ Weighable (dayOf (now demand) (now capacity) (now setup) (now unit) (now holding) ends) (now plan) ⌝ }
-    ensures { λ r. ⌜ r ≡ verdictOf (dayBefore demand capacity setup unit holding ends) (at (now (plan .entry))) ⌝ }
+    ensures { λ r. ⌜ r ≡ walkOf (dayBefore demand capacity setup unit holding ends) (at (now (plan .entry))) ⌝ }
 {
     let mut s = Sums {
         cost: 0,
