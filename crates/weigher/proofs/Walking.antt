@@ -12,7 +12,7 @@ use Rattle.weigher.specs.declared.Ruling.{Ruling}
 use Rattle.weigher.specs.declared.Ruling.the-variants.{Kept, Broke}
 use Rattle.weigher.specs.Theorems.{kept-served}
 use Rattle.weigher.specs.Walk.{sumsTo, rulingAt, ruling-is}
-use Rattle.weigher.specs.Running.{running, stopped, ruledIn, walkTo, endOf, walkOf, running-kept, stopped-stays}
+use Rattle.weigher.specs.Running.{running, ruledIn, walkTo, endOf, walkOf, running-kept, stopped-stays}
 
 -- the walk over the first i periods runs, with the sums s
 pub record Walking (d : Day) (x : ℕ → ℕ) (i : ℕ) (s : Sums) : Type 0 where

@@ -4,7 +4,7 @@
 -- Main statements, for every i: `running-sums`: where the first i periods break no rule, its sums are those through them; `running-kept`:
 -- it has no others; `broken-stops`: the first period that breaks a rule stops it, and no sum is given out. `walk-verdict`: its verdict is
 -- the report's. Assumes nothing.
-use mathlib.Core.Path.{_≡_, refl, sym, ap, _∙_}
+use mathlib.Core.Path.{_≡_, refl, sym, _∙_}
 use mathlib.Core.Bool.{Bool, true, false}
 use mathlib.Core.Logic.{⊎-elim}
 use mathlib.Core.Option.{Option, none, some}
@@ -23,7 +23,7 @@ use Rattle.weigher.specs.declared.Ruling.{Ruling}
 use Rattle.weigher.specs.declared.Ruling.the-variants.{Kept, Broke}
 use Rattle.weigher.specs.Verdict.{breaks, ruleAt, verdictAt, verdictOf}
 use Rattle.weigher.specs.Theorems.{Keeps, FirstBroken, passed-keeps, none-broken, broken-found}
-use Rattle.weigher.specs.Walk.{sumsTo, rulingOn, rulingOf, rulingAt, entriesAt, ruling-is}
+use Rattle.weigher.specs.Walk.{sumsTo, rulingOn, rulingOf, entriesAt, ruling-is}
 
 -- where the walk stands: it runs on with its sums, or a rule stopped it in a period
 pub data Walked : Type 0 where

@@ -80,7 +80,7 @@ enum Ruling {
     Broke(Rule),
 }
 
-// One period's rules in their order, then its terms of sum (1) in theirs: what making costs, then upkeep.
+// One period: its rules in their order, then its terms of sum (1) in the report's, which stands beside them at `walk`.
 fn judge(p: Entries, amount: u16, last: bool, s: Sums, closing: u16) -> Ruling
     requires { ⌜ Room s ⌝ }
     ensures { λ r. ⌜ r ≡ rulingOf p amount last s closing ⌝ }
@@ -111,7 +111,7 @@ fn judge(p: Entries, amount: u16, last: bool, s: Sums, closing: u16) -> Ruling
     })
 }
 
-// The period at index i, from the sums through those before it.
+// The period at index i: from the sums through the periods before it to those through it, or to the rule that it breaks (`rulingAt`).
 fn advance(
     demand: &[u16],
     capacity: &[u16],
@@ -136,7 +136,17 @@ fn advance(
     judge(p, plan[i], i + 1 == demand.len(), s, ends.closing)
 }
 
-// The verdict, period by period.
+// The verdict, period by period. Sum (1) of the report, with upkeep as in document 02, 2.2, beside the code that adds it up:
+//
+//     I_0 = A                               supplied = opening, demanded = 0
+//     Σ for i = 1, .., n                    the loop, period i at index i - 1; s has the sums through period i - 1
+//         A + X_i                           in judge: supplied = s.supplied + amount
+//         R_i                               demanded = s.demanded + p.demand
+//         p_i(x_i)                          making = making_cost(p.setup, p.unit, amount)
+//         I_(i−1) = A + X_(i−1) − R_(i−1)   before = s.supplied - s.demanded
+//         I_i = A + X_i − R_i               left = supplied - demanded
+//         h_i × (I_(i−1) + I_i)             upkeep = holding_cost(p.holding, before + left)
+//         the sum through period i          cost = s.cost + making + upkeep
 fn walk(
     demand: &[u16],
     capacity: &[u16],
