@@ -17,7 +17,7 @@ kept : (c : tie.Joined3)
     → let d = c .before .before .before .before in
     let a = d .before .before .before .before .args in
     (a .last && ltb (d .due .result) (a .s .supplied + a .amount)) ≡ false
-kept c = ⊎-elim (λ w. rw (w .0 .taken, w .1 .left) refl) (λ w. rw (w .left) refl) (c .if3 .came)
+kept c = ⊎-elim (λ w. rw (w .0 .taken) (w .1 .left)) (λ w. rw (w .left) refl) (c .if3 .came)
 
 returns : tie.Need-returns
 returns c = simp (lt-ltb _ _ (c .if1 .taken))
