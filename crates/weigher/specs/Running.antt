@@ -1,17 +1,15 @@
--- The walk that the weigher runs over a day's periods, and that its running sums are those of the report (document 02, 2.4).
--- The walk follows the code: from the sums before a period and its entries, nothing else. Index k is period k + 1.
+-- The walk that the weigher's code runs over a day's periods, and its running sums (document 02, 2.4). It follows the code: what a period
+-- does is found from its entries and the sums before it, nothing else. Index k is period k + 1.
 -- Main definitions: `walkTo`, where the walk stands after i periods; `walkOf`, its verdict.
--- Main statements, for every i: `running-sums`: where the first i periods break no rule, its sums are those through them; `running-kept`:
--- it has no others; `broken-stops`: the first period that breaks a rule stops it, and no sum is given out. `walk-verdict`: its verdict is
--- the report's. Assumes nothing.
+-- Main statements: `running-sums`, `running-kept`, for every i: where the first i periods break no rule, the walk runs with the sums through
+-- them, and with no others; `broken-stops`: the first period that breaks a rule stops it; `walk-verdict`: its verdict is the report's.
+-- Assumes nothing.
 use mathlib.Core.Path.{_≡_, refl, sym, _∙_}
 use mathlib.Core.Bool.{Bool, true, false}
-use mathlib.Core.Logic.{⊎-elim}
 use mathlib.Core.Option.{Option, none, some}
-use Prim.Native.Nat.{ℕ, zero, suc, _≤_, _<_}
-use native.Mathlib.Nat.{add-zero, eq-or-lt-of-le, le-of-suc-le-suc}
+use Prim.Native.Nat.{ℕ, zero, suc, _<_}
+use native.Mathlib.Nat.{add-zero}
 use native.Mathlib.Omega.{arith}
-use lib.Arith.{le-zero}
 use lib.Dec.{eqb}
 use Rattle.day.specs.Find.{orHere, find, none-found}
 use Rattle.day.specs.Day.{Day, periods}
@@ -25,16 +23,16 @@ use Rattle.weigher.specs.Verdict.{breaks, ruleAt, verdictAt, verdictOf}
 use Rattle.weigher.specs.Theorems.{Keeps, FirstBroken, passed-keeps, none-broken, broken-found}
 use Rattle.weigher.specs.Walk.{sumsTo, rulingOn, rulingOf, entriesAt, ruling-is}
 
--- where the walk stands: it runs on with its sums, or a rule stopped it in a period
+-- where the walk stands: it runs, with its sums; or it stopped, with the rule that a period broke, and has no sums
 pub data Walked : Type 0 where
   running : Sums → Walked
   stopped : Rule → (period : ℕ) → Walked
 
--- it begins with nothing paid, nothing made but A, nothing asked for
+-- it begins with A, and nothing paid, made or asked for
 abbrev pub startOf : Day → Sums
 startOf d = record { cost = 0; setups = 0; supplied = d .opening; demanded = 0 }
 
--- what the turn of a period leads to
+-- where a period's ruling leads
 abbrev pub ruledIn : (period : ℕ) → Ruling → Walked
 ruledIn i (Kept s) = running s
 ruledIn i (Broke r) = stopped r i
@@ -57,7 +55,7 @@ endOf (stopped r i) = Broken r i
 abbrev pub walkOf : Day → (ℕ → ℕ) → Verdict
 walkOf d x = endOf (walkTo d x (periods d))
 
--- where it stands by the report: at the sums through i periods where none of them breaks a rule, else stopped in the first that does
+-- where it stands in the report's terms: it runs with the sums through i periods, or the first period that breaks a rule stopped it
 abbrev standsAt : Day → (ℕ → ℕ) → ℕ → Option ℕ → Walked
 standsAt d x i none = running (sumsTo d x i)
 standsAt d x i (some k) = stopped (ruleAt d x k) (suc k)
@@ -75,11 +73,11 @@ module _ (d : Day) (x : ℕ → ℕ) where
       go (some j) = refl
       go none = rw (ruling-is d x k) (ruled (breaks d x k))
 
-  -- after periods that break no rule the running sums are those through them: the cost is sum (1) through period i
+  -- where the first i periods break no rule, the running cost is sum (1) through period i, `costTo d x i`; setups, A + X_i and R_i likewise
   pub running-sums : (i : ℕ) → ((k : ℕ) → k < i → Keeps d x k) → walkTo d x i ≡ running (sumsTo d x i)
   running-sums i h = rw (walk-stands i, none-broken d x i h) refl
 
-  -- and where it runs on, these are its sums, and no period broke a rule
+  -- and only there does the walk run, with no other sums
   pub running-kept : (i : ℕ) {s : Sums} → walkTo d x i ≡ running s → (s ≡ sumsTo d x i) × ((k : ℕ) → k < i → Keeps d x k)
   running-kept i {s} e = go (find (breaks d x) i) refl (sym (walk-stands i) ∙ e)
     where
@@ -87,18 +85,9 @@ module _ (d : Day) (x : ℕ → ℕ) where
       go (some k) f e = let z : _≡_ {A = ℕ} 0 1 = cc in absurd (omega arith)
       go none f e = (cc, λ k l. passed-keeps d x k (none-found (breaks d x) i f k l))
 
-  -- the first period that breaks a rule stops the walk with that rule, in that period, and it holds no sum from then on
+  -- where period k + 1 is the first that breaks a rule, the walk stops there with that rule, and gives out no sum
   pub broken-stops : (r : Rule) (k i : ℕ) → FirstBroken d x r k → k < i → walkTo d x i ≡ stopped r (suc k)
   broken-stops r k i f l = let b = broken-found d x r k i f l in rw (walk-stands i, b .0, b .1) refl
-
-  -- so it does from the turn on in which it was stopped
-  pub stopped-stays : (i n : ℕ) {r : Rule} {period : ℕ} → walkTo d x i ≡ stopped r period → i ≤ n → walkTo d x n ≡ stopped r period
-  stopped-stays i zero e l = rw (le-zero l) at e
-  stopped-stays i (suc n) e l =
-      ⊎-elim
-      (λ (q : i ≡ suc n). rw q at e)
-      (λ h. rw (stopped-stays i n e (le-of-suc-le-suc h)) refl)
-      (eq-or-lt-of-le l)
 
   -- its verdict is the report's
   pub walk-verdict : walkOf d x ≡ verdictOf d x
