@@ -139,8 +139,8 @@ fn advance(
 // The verdict, period by period. Sum (1) of the report, with upkeep as in document 02, 2.2, beside the code that adds it up:
 //
 //     I_0 = A                               supplied = opening, demanded = 0
-//     Σ for i = 1, .., n                    the loop, period i at index i - 1; s has the sums through period i - 1
-//         A + X_i                           in judge: supplied = s.supplied + amount
+//     Σ for i = 1, .., n                    the loop, period i at index i - 1; by `judge`, from the sums before it, s:
+//         A + X_i                           supplied = s.supplied + amount
 //         R_i                               demanded = s.demanded + p.demand
 //         p_i(x_i)                          making = making_cost(p.setup, p.unit, amount)
 //         I_(i−1) = A + X_(i−1) − R_(i−1)   before = s.supplied - s.demanded
