@@ -24,6 +24,7 @@ static int64_t difference[1];
 static void full(void) { code = yakkurem_full(DAY, MEMORY, answer); }
 static void uncapped(void) { code = yakkurem_uncapped(DAY, MEMORY, answer); }
 static void equal(void) { code = yakkurem_equal(DAY, MEMORY, answer); }
+static void free_path(void) { code = yakkurem_free(DAY, costs, PERIODS, plan, PERIODS, answer); }
 static void weigh(void) { code = yakkurem_weigh(DAY, plan, PERIODS, answer); }
 static void compare(void) { code = yakkurem_compare(DAY, plan, PERIODS, plan, PERIODS, difference); }
 static void write_file(void) { code = yakkurem_write(DAY, file, sizeof file, answer); }
@@ -33,8 +34,9 @@ static void read_file(void) {
 }
 
 static const struct { const char *name; void (*call)(void); } calls[] = {
-    {"yakkurem_full", full}, {"yakkurem_uncapped", uncapped}, {"yakkurem_equal", equal}, {"yakkurem_weigh", weigh},
-    {"yakkurem_compare", compare}, {"yakkurem_write", write_file}, {"yakkurem_read", read_file}, {"yakkurem_lookup", lookup},
+    {"yakkurem_full", full}, {"yakkurem_uncapped", uncapped}, {"yakkurem_equal", equal}, {"yakkurem_free", free_path},
+    {"yakkurem_weigh", weigh}, {"yakkurem_compare", compare}, {"yakkurem_write", write_file}, {"yakkurem_read", read_file},
+    {"yakkurem_lookup", lookup},
 };
 enum { CALLS = sizeof calls / sizeof *calls };
 
@@ -65,8 +67,9 @@ static size_t taken(void (*call)(void), unsigned char paint) {
 }
 
 /* Days of 1 to 96 periods: the whole need in one period or spread, or half of it charge to hand on, with some to begin with; costs at
- * their limits or small; capacities that can't bind, equal ones that are just enough, and ones that are too small. */
-static void make(size_t periods, int shape, uint16_t most) {
+ * their limits or small, with and without start costs; capacities that can't bind, equal ones that are just enough, and ones that are
+ * too small. */
+static void make(size_t periods, int shape, int starts, uint16_t most) {
     n = periods;
     opening = shape == 3 ? 100 : 0;
     closing = shape == 3 ? MOST / 2 : 0;
@@ -75,7 +78,7 @@ static void make(size_t periods, int shape, uint16_t most) {
         size_t whole = MOST - closing;
         need[i] = shape % 3 == 0 ? (uint16_t)(whole * (i + 1) / n - whole * i / n) : (i == (shape == 1 ? 0 : n - 1) ? MOST : 0);
         capacity[i] = most;
-        start[i] = i % 3 ? 1000000000 : 7;
+        start[i] = starts ? (i % 3 ? 1000000000 : 7) : 0;
         unit[i] = i % 5 ? 1000000 : 3;
         upkeep[i] = i % 2 ? 500000 : 1;
     }
@@ -87,10 +90,10 @@ int main(void) {
     size_t deepest[CALLS] = {0}, accepted[CALLS] = {0};
     for (size_t s = 0; s < 5; s++)
         for (int shape = 0; shape < 4; shape++)
-            for (size_t c = 0; c < 5; c++)
+            for (size_t day = 0; day < 10; day++)
                 for (size_t k = 0; k < CALLS; k++)
                     for (int paint = 0x55; paint <= 0xaa; paint += 0x55) {
-                        make(sizes[s], shape, capacities[c]);
+                        make(sizes[s], shape, day < 5, capacities[day % 5]);
                         size_t bytes = taken(calls[k].call, (unsigned char)paint);
                         if (bytes > deepest[k]) deepest[k] = bytes;
                         accepted[k] += code == 0;

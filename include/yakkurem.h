@@ -18,7 +18,7 @@
  *
  * Every call returns a code:
  *     0                                   accepted
- *     number + 256 * period               refused: the number is 1 to 14, the period 0 where none is named
+ *     number + 256 * period               refused: the number is 1 to 15, the period 0 where none is named
  *     101, 102 or 103 + 256 * period      a weighed plan breaks a rule: above capacity, short, charge over at the end
  *
  * Refusals, of which the first in a call's order is given:
@@ -36,6 +36,7 @@
  *     12  the end record's count is wrong, or bytes follow it; or a record of kind 3 is not the file's first, or holds two zeros
  *     13  the asked-for period is 0 or above n
  *     14  opening is above need over the day + closing: charge would be over at the end, whatever is made
+ *     15  a start cost above 0, in this period (yakkurem_free)
  *
  * On any code but 0 nothing that was lent changes, and the out-array (the last parameter) is not written.
  * The calls keep no state and use no heap, no file and no clock. Of the C library they use memset alone.
@@ -60,22 +61,25 @@ extern "C" {
 
 #define YAKKUREM_MEMORY uint64_t *cost_area, size_t cost_cells, uint16_t *choice_area, size_t choice_cells, uint16_t *slots, size_t slot_count
 
-/* The three paths give the same plan: of those that hold the cheapest, and of equally cheap ones that with the smaller
+/* The four paths give the same plan: of those that hold the cheapest, and of equally cheap ones that with the smaller
  * amount in the last period where they differ. Accepted, the first n slots hold it, answer holds its cost and its starts
- * (the number of amounts above 0), and the needed cells of both areas hold 0; later cells and slots keep their contents.
+ * (the number of amounts above 0), and the needed cells of the areas hold 0; later cells and slots keep their contents.
  * Refusals in order: 1, 2, 3, 4, 14, 5, 6, 7, then the path's own.
  *
  *     path                   cost area      choice area              for days with
  *     yakkurem_full          2 * (T + 1)    n * (T + 1)              any capacities
  *     yakkurem_uncapped      n + 1          n + 1                    capacities that can't bind (9)
  *     yakkurem_equal         6 * (n + 1)    4 * (n + 1) * (n + 1)    one capacity throughout (8)
+ *     yakkurem_free          n              takes none               any capacities and no start cost (15)
  *
  * T is what a plan makes in all: need over the day + closing - opening. A capacity can't bind if it is at least T less what
  * the periods before it need beyond opening (0 where opening covers them). Areas of 8194 and 393312 cells serve the full
- * path on any day, 582 and 37636 the other two. */
+ * path on any day, 582 and 37636 the uncapped and the equal one, and a cost area of 96 the free one. yakkurem_free plans
+ * like the others, for free starts; it releases nothing. */
 uint64_t yakkurem_full(YAKKUREM_DAY, YAKKUREM_MEMORY, uint64_t answer[2]);
 uint64_t yakkurem_uncapped(YAKKUREM_DAY, YAKKUREM_MEMORY, uint64_t answer[2]);
 uint64_t yakkurem_equal(YAKKUREM_DAY, YAKKUREM_MEMORY, uint64_t answer[2]);
+uint64_t yakkurem_free(YAKKUREM_DAY, uint64_t *cost_area, size_t cost_cells, uint16_t *slots, size_t slot_count, uint64_t answer[2]);
 
 /* Weighs somebody's plan. Accepted, it holds, and answer holds its cost and its starts. Else the first period that breaks
  * a rule and which, "above capacity" before the others; in period n it is short below closing, and charge is over above it.

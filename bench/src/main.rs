@@ -45,6 +45,13 @@ fn day(n: usize, total: u64, capacity: u16) -> Day {
     Day { demand, capacity: vec![capacity; n], setup, unit, holding, opening: 0, closing: 0 }
 }
 
+/// The same without starting cost, and with so little upkeep that it pays to make some of the need in periods before.
+fn free_day(n: usize, total: u64, capacity: u16) -> Day {
+    let day = day(n, total, capacity);
+    let holding = day.holding.iter().map(|h| h % 2).collect();
+    Day { setup: vec![0; n], holding, ..day }
+}
+
 fn library(path: Path, day: &Day, areas: &mut Areas) -> u64 {
     let Day { demand, capacity, setup, unit, holding, .. } = day;
     let day = yakkurem::Day { demand, capacity, setup, unit, holding, opening: 0, closing: 0 };
@@ -53,6 +60,7 @@ fn library(path: Path, day: &Day, areas: &mut Areas) -> u64 {
         Path::Full => yakkurem::full(day, memory),
         Path::Uncapped => yakkurem::uncapped(day, memory),
         Path::Equal => yakkurem::equal(day, memory),
+        Path::Free => yakkurem::free(day, memory.costs, memory.slots),
     };
     planned.expect("a day that the path accepts").cost
 }
@@ -63,6 +71,7 @@ fn same_method(path: Path, day: &Day, areas: &mut Areas) -> u64 {
         Path::Full => methods::full(day, costs, choices, slots),
         Path::Uncapped => methods::uncapped(day, costs, choices, slots),
         Path::Equal => methods::equal(day, costs, choices, slots),
+        Path::Free => methods::free(day, costs, slots),
     }
 }
 
@@ -141,6 +150,28 @@ fn alone(path: Path, day: &Day) -> Spread {
 
 const PATHS: [(Path, &str); 3] = [(Path::Full, "full"), (Path::Uncapped, "uncapped"), (Path::Equal, "equal")];
 
+/// The free path beside those that may serve the same days: what a station would take without it.
+fn without_starts() {
+    println!("\n## Days without starting cost\n");
+    println!("The library's paths on the same days; the ratios are the free path's. It serves at most 2 × n batches, whatever R is.\n");
+    println!("| n | R | Capacity | full | uncapped | free | To the plain program | To recursion (5) |");
+    println!("|---|---|---|---|---|---|---|---|");
+    let of_96 = [500, 4096].into_iter().flat_map(|total| [60, 500, 65_535].map(|capacity| (96, total, capacity)));
+    let shorter = [12, 24, 48].into_iter().flat_map(|n| [60, 65_535].map(|capacity| (n, 500, capacity)));
+    for (n, total, capacity) in of_96.chain(shorter) {
+        let day = free_day(n, total, capacity);
+        let uncapped = if (capacity as u64) < total { "–".to_string() } else { alone(Path::Uncapped, &day).time() };
+        let (time, plain, letter) = compare(Path::Free, &day);
+        println!(
+            "| {n} | {total} | {capacity} | {} | {uncapped} | {} | {} | {} |",
+            alone(Path::Full, &day).time(),
+            time.time(),
+            plain.ratio(),
+            letter.ratio()
+        );
+    }
+}
+
 fn main() {
     println!("# Benchmarks\n");
     println!("Written by `bench/run`: the library's paths beside plain Rust programs of the same methods (`bench/src/methods.rs`) and beside recursion (5) by its letter (`outside/src/plain.rs`), which knows no bounds on the totals. Same process, same days, both built for release; all work on lent memory that was not cleared before a call. The library also tests the tables and clears its areas; the plain programs do neither. Recursion (5) by its letter allocates its rows. The days have no charge at their ends, so R is T.\n");
@@ -159,16 +190,17 @@ fn main() {
             }
         }
     }
+    without_starts();
     println!("\n## Growth with n\n\nR is 500.\n");
     println!("| n | full, capacity 60 | uncapped | equal, capacity 60 |");
     println!("|---|---|---|---|");
     for n in [12, 24, 48, 96] {
         let capped = day(n, 500, 60);
-        let free = day(n, 500, 65_535);
+        let unbound = day(n, 500, 65_535);
         println!(
             "| {n} | {} | {} | {} |",
             alone(Path::Full, &capped).time(),
-            alone(Path::Uncapped, &free).time(),
+            alone(Path::Uncapped, &unbound).time(),
             alone(Path::Equal, &capped).time()
         );
     }
@@ -177,12 +209,12 @@ fn main() {
     println!("|---|---|---|---|---|");
     for total in [512, 1024, 2048, 4096] {
         let capped = day(96, total, 60);
-        let free = day(96, total, 65_535);
+        let unbound = day(96, total, 65_535);
         println!(
             "| {total} | {} | {} | {} | {} |",
             alone(Path::Full, &capped).time(),
-            alone(Path::Full, &free).time(),
-            alone(Path::Uncapped, &free).time(),
+            alone(Path::Full, &unbound).time(),
+            alone(Path::Uncapped, &unbound).time(),
             alone(Path::Equal, &capped).time()
         );
     }

@@ -1,4 +1,4 @@
-//! Plain programs of the three paths' methods, on the same lent memory, for comparison of speed.
+//! Plain programs of the four paths' methods, on the same lent memory, for comparison of speed.
 //! They are for days without charge at the ends, test nothing and leave their areas as they are.
 use crate::plain::Day;
 
@@ -96,6 +96,34 @@ pub fn uncapped(day: &Day, costs: &mut [u64], choices: &mut [u16], slots: &mut [
         m = from;
     }
     costs[n]
+}
+
+/// The greedy rule of the report's section 4, in batches: from the cheapest period with capacity left as much as it has, or as is needed.
+/// Upkeep to the end of the day, in place of that spared since its beginning, keeps the order of periods and never lies below zero.
+pub fn free(day: &Day, costs: &mut [u64], slots: &mut [u16]) -> u64 {
+    let n = day.periods();
+    let mut held = 0;
+    for k in (0..n).rev() {
+        held += rate(day, k);
+        costs[k] = day.unit[k] as u64 + held;
+    }
+    slots[..n].fill(0);
+    for due in 0..n {
+        let mut needed = day.demand[due];
+        while needed > 0 {
+            let with_room = (0..=due).filter(|&k| slots[k] < day.capacity[k]);
+            let k = with_room.min_by_key(|&k| costs[k]).expect("a day with a plan");
+            let amount = needed.min(day.capacity[k] - slots[k]);
+            slots[k] += amount;
+            needed -= amount;
+        }
+    }
+    let (mut cost, mut left) = (0, 0);
+    for k in 0..n {
+        left = left + slots[k] as u64 - day.demand[k] as u64;
+        cost += production(day, k, slots[k] as u64) + rate(day, k) * left;
+    }
+    cost
 }
 
 const NONE: u64 = u64::MAX / 4;

@@ -55,6 +55,7 @@ fn before(input: &Input) -> Vec<Vec<u64>> {
         Call::Full | Call::Uncapped | Call::Equal => {
             vec![wide::<u64>(&pattern(0, l[0])), wide::<u16>(&pattern(1, l[1])), wide::<u16>(&pattern(2, l[2]))]
         }
+        Call::Free => vec![wide::<u64>(&pattern(0, l[0])), wide::<u16>(&pattern(1, l[1]))],
         Call::Read => vec![
             wide::<u16>(&pattern(0, l[0])),
             wide::<u16>(&pattern(1, l[1])),
@@ -74,6 +75,8 @@ fn fill<T: Cell>(part: &mut [u64], cells: &[T]) {
     }
 }
 
+const NO_PLAN: &str = "no plan, and no shortage";
+
 fn broken(rule: Rule, period: usize) -> u64 {
     let number = match rule {
         Rule::AboveCapacity => 101,
@@ -84,11 +87,22 @@ fn broken(rule: Rule, period: usize) -> u64 {
 }
 
 fn accepted_path(path: Path, input: &Input, seen: &mut Seen) {
-    let planned = plain::plan(&input.day).expect("no plan, and no shortage");
+    let planned = plain::plan(&input.day).expect(NO_PLAN);
     let (costs, choices) = plain::cells(path, &input.day);
     fill(&mut seen.lent[0], &vec![0u64; costs]);
     fill(&mut seen.lent[1], &vec![0u16; choices]);
     fill(&mut seen.lent[2], &planned.plan);
+    seen.out = vec![planned.totals.cost, planned.totals.setups];
+}
+
+/// The plan by the rule. Where it does not take long, the search or recursion (5) is to give it too.
+fn accepted_free(input: &Input, seen: &mut Seen) {
+    let planned = plain::unit_by_unit(&input.day).expect(NO_PLAN);
+    if input.day.whole() <= Some(500) {
+        assert_eq!(plain::plan(&input.day).as_ref(), Some(&planned), "{:?}", input.day);
+    }
+    fill(&mut seen.lent[0], &vec![0u64; plain::cells(Path::Free, &input.day).0]);
+    fill(&mut seen.lent[1], &planned.plan);
     seen.out = vec![planned.totals.cost, planned.totals.setups];
 }
 
@@ -102,7 +116,7 @@ fn accepted_comparison(input: &Input, seen: &mut Seen) {
 /// What the papers say.
 pub fn expected(input: &Input) -> Seen {
     let unwritten = match input.call {
-        Call::Full | Call::Uncapped | Call::Equal | Call::Weigh | Call::Lookup => wide(&out::<u64, 2>()),
+        Call::Full | Call::Uncapped | Call::Equal | Call::Free | Call::Weigh | Call::Lookup => wide(&out::<u64, 2>()),
         Call::Compare => wide(&out::<i64, 1>()),
         Call::Read => wide(&out::<u64, 3>()),
         Call::Write => wide(&out::<u64, 1>()),
@@ -116,6 +130,7 @@ pub fn expected(input: &Input) -> Seen {
         Call::Full => accepted_path(Path::Full, input, &mut seen),
         Call::Uncapped => accepted_path(Path::Uncapped, input, &mut seen),
         Call::Equal => accepted_path(Path::Equal, input, &mut seen),
+        Call::Free => accepted_free(input, &mut seen),
         Call::Weigh => match plain::verdict(&input.day, &input.plans[0]) {
             Verdict::Holds(totals) => seen.out = vec![totals.cost, totals.setups],
             Verdict::Broken(rule, period) => seen.code = broken(rule, period),
@@ -158,6 +173,14 @@ fn run_path(call: PathCall, input: &Input) -> Seen {
     Seen { code, out: wide(&answer), lent: vec![wide(&costs), wide(&choices), wide(&slots)] }
 }
 
+fn run_free(input: &Input) -> Seen {
+    let mut costs: Vec<u64> = pattern(0, input.lent[0]);
+    let mut slots: Vec<u16> = pattern(1, input.lent[1]);
+    let mut answer = out();
+    let code = codes::free(day(input), lent(&mut costs), lent(&mut slots), &mut answer);
+    Seen { code, out: wide(&answer), lent: vec![wide(&costs), wide(&slots)] }
+}
+
 fn run_read(input: &Input) -> Seen {
     let l = &input.lent;
     let mut demand: Vec<u16> = pattern(0, l[0]);
@@ -184,6 +207,7 @@ pub fn actual(given: &Input) -> Seen {
         Call::Full => run_path(codes::full, input),
         Call::Uncapped => run_path(codes::uncapped, input),
         Call::Equal => run_path(codes::equal, input),
+        Call::Free => run_free(input),
         Call::Weigh => {
             let mut answer = out();
             let code = codes::weigh(day(input), &input.plans[0], &mut answer);
@@ -211,19 +235,34 @@ pub fn actual(given: &Input) -> Seen {
     seen
 }
 
+/// Whether the library's full path, lent enough, says the same of a day that the free path plans: slots, cost and starts.
+pub fn full_agrees(input: &Input, seen: &Seen) -> bool {
+    if input.call != Call::Free || seen.code != 0 {
+        return true;
+    }
+    let full = actual(&Input::exact(Call::Full, &input.day, [&[]; 2]));
+    let plan = |seen: &Seen| seen.lent.last().unwrap()[AROUND..][..input.day.periods()].to_vec();
+    full.code == 0 && full.out == seen.out && plan(&full) == plan(seen)
+}
+
 /// The same input through the crate's results, which are to say what code and out-array say.
 pub fn results_agree(input: &Input, seen: &Seen) -> bool {
     let refusal = Refusal { number: seen.code % 256, period: seen.code / 256 };
     let accepted = seen.code == 0;
+    let planned = || if accepted { Ok(yakkurem::Totals { cost: seen.out[0], setups: seen.out[1] }) } else { Err(refusal) };
     let path = |call: fn(Day, Memory) -> Result<yakkurem::Totals, Refusal>| {
         let (mut costs, mut choices, mut slots) = (vec![7u64; input.lent[0]], vec![7u16; input.lent[1]], vec![7u16; input.lent[2]]);
         let result = call(day(input), Memory { costs: &mut costs, choices: &mut choices, slots: &mut slots });
-        result == if accepted { Ok(yakkurem::Totals { cost: seen.out[0], setups: seen.out[1] }) } else { Err(refusal) }
+        result == planned()
     };
     match input.call {
         Call::Full => path(yakkurem::full),
         Call::Uncapped => path(yakkurem::uncapped),
         Call::Equal => path(yakkurem::equal),
+        Call::Free => {
+            let (mut costs, mut slots) = (vec![7; input.lent[0]], vec![7; input.lent[1]]);
+            yakkurem::free(day(input), &mut costs, &mut slots) == planned()
+        }
         Call::Weigh => match yakkurem::weigh(day(input), &input.plans[0]) {
             Ok(totals) => accepted && seen.out == [totals.cost, totals.setups],
             Err(why) => why == said(seen.code),

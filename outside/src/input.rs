@@ -12,9 +12,14 @@ pub enum Call {
     Read,
     Lookup,
     Write,
+    Free,
 }
 
-pub const CALLS: [Call; 8] = [Call::Full, Call::Uncapped, Call::Equal, Call::Weigh, Call::Compare, Call::Read, Call::Lookup, Call::Write];
+pub const CALLS: [Call; 9] =
+    [Call::Full, Call::Uncapped, Call::Equal, Call::Weigh, Call::Compare, Call::Read, Call::Lookup, Call::Write, Call::Free];
+
+/// The calls of before request 2.3. Their inputs are drawn first, so that they stay what they were.
+pub const EARLIER: &[Call] = CALLS.split_at(8).0;
 
 impl Call {
     pub fn path(self) -> Option<Path> {
@@ -22,6 +27,7 @@ impl Call {
             Call::Full => Some(Path::Full),
             Call::Uncapped => Some(Path::Uncapped),
             Call::Equal => Some(Path::Equal),
+            Call::Free => Some(Path::Free),
             _ => None,
         }
     }
@@ -32,6 +38,7 @@ impl Call {
             Call::Full => &[1, 2, 3, 4, 14, 5, 6, 7],
             Call::Uncapped => &[1, 2, 3, 4, 14, 5, 6, 7, 9],
             Call::Equal => &[1, 2, 3, 4, 14, 5, 6, 7, 8],
+            Call::Free => &[1, 2, 3, 4, 14, 5, 6, 7, 15],
             Call::Weigh | Call::Compare => &[1, 2, 3, 4, 14, 6],
             Call::Read => &[10, 11, 12, 1, 6, 3],
             Call::Lookup => &[10, 11, 12, 1, 13],
@@ -45,6 +52,15 @@ impl Call {
         match self {
             Call::Weigh => 1,
             Call::Compare => 2,
+            _ => 0,
+        }
+    }
+
+    /// How many work areas the call is lent.
+    fn areas(self) -> usize {
+        match self {
+            Call::Full | Call::Uncapped | Call::Equal => 2,
+            Call::Free => 1,
             _ => 0,
         }
     }
@@ -65,7 +81,7 @@ pub struct Input {
     pub file: Vec<u8>,
     /// the asked-for period
     pub period: usize,
-    /// lengths of what is lent: cost area, choice area and slots; or the five tables to fill; or the bytes to write
+    /// lengths of what is lent: cost area, choice area (not for the free path) and slots; or the five tables to fill; or the bytes to write
     pub lent: Vec<usize>,
 }
 
@@ -108,6 +124,7 @@ impl Input {
             Call::Full | Call::Uncapped | Call::Equal => {
                 plain::path_refusals(self.call.path().unwrap(), &self.day, self.lent[0], self.lent[1], self.lent[2])
             }
+            Call::Free => plain::path_refusals(Path::Free, &self.day, self.lent[0], 0, self.lent[1]),
             Call::Weigh | Call::Compare => {
                 plain::weigh_refusals(&self.day, &self.plans.iter().map(|plan| plan.as_slice()).collect::<Vec<_>>())
             }
@@ -124,6 +141,7 @@ impl Input {
                 let (costs, choices) = plain::cells(self.call.path().unwrap(), &self.day);
                 vec![costs, choices, self.day.periods()]
             }
+            Call::Free => vec![plain::cells(Path::Free, &self.day).0, self.day.periods()],
             Call::Read => vec![plain::walk(&self.file).map_or(self.file.len() / 17, |records| records.periods()); 5],
             Call::Write => vec![plain::file_length(&self.day)],
             Call::Weigh | Call::Compare | Call::Lookup => vec![],
@@ -168,7 +186,7 @@ fn supply(day: &mut Day) {
     }
 }
 
-/// Capacities of the form that a call's path asks for, mostly; any for other calls.
+/// Capacities or start costs of the form that a call's path asks for, mostly; any for other calls.
 fn shape(random: &mut Random, call: Call, day: &mut Day) {
     let n = day.periods();
     match call {
@@ -190,6 +208,7 @@ fn shape(random: &mut Random, call: Call, day: &mut Day) {
                 day.capacity[i] = (rest + spare).min(65_535) as u16;
             }
         }
+        Call::Free => day.setup.fill(0),
         _ => {}
     }
 }
@@ -460,6 +479,12 @@ fn damage_day(random: &mut Random, day: &mut Day, ends: Ends, number: u64) {
             let least = day.asked() + 1;
             day.opening = random.pick(&[least, least, least + 1, 65_535]).min(65_535) as u16;
         }
+        15 => {
+            // in one period, or in two
+            for _ in 0..random.pick(&[1, 2]) {
+                day.setup[random.index(n)] = random.pick(&[1, 1, 2, plain::MAX_SETUP as u32]);
+            }
+        }
         _ => {}
     }
 }
@@ -520,7 +545,7 @@ pub fn damaged(random: &mut Random, call: Call, size: Size, ends: Ends, numbers:
 /// An input with this day, damaged for each of the numbers.
 pub fn damage(random: &mut Random, call: Call, mut day: Day, ends: Ends, numbers: &[u64]) -> Input {
     // in an order in which what comes later mostly keeps what came before
-    for number in [7, 8, 9, 4, 3, 1, 2, 14] {
+    for number in [15, 7, 8, 9, 4, 3, 1, 2, 14] {
         if numbers.contains(&number) {
             damage_day(random, &mut day, ends, number);
         }
@@ -547,7 +572,7 @@ pub fn damage(random: &mut Random, call: Call, mut day: Day, ends: Ends, numbers
     let needed = input.needed();
     let short = |random: &mut Random, needed: usize| if random.once_in(3) { 0 } else { needed.saturating_sub(1) };
     if numbers.contains(&5) {
-        let area = random.index(2);
+        let area = random.index(call.areas());
         input.lent[area] = short(random, needed[area]);
     }
     if numbers.contains(&6) {
@@ -555,7 +580,7 @@ pub fn damage(random: &mut Random, call: Call, mut day: Day, ends: Ends, numbers
             let which = random.index(plans);
             input.plans[which].truncate(short(random, n));
         } else {
-            let which = if call.path().is_some() { 2 } else { random.index(needed.len()) };
+            let which = if call.path().is_some() { call.areas() } else { random.index(needed.len()) };
             input.lent[which] = short(random, needed[which]);
         }
     }

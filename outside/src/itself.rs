@@ -64,6 +64,17 @@ const ROWS: &[Row] = &[
     Row { demand: &[0], capacity: &[0], setup: &[5], unit: &[2], holding: &[7], ends: (3, 3), claim: Ok((&[0], 42, 0)) },
     Row { demand: &[1, 2], capacity: &[0, 0], setup: &[5], unit: &[2], holding: &[100, 10], ends: (3, 0), claim: Ok((&[0, 0], 520, 0)) },
     Row { demand: &[1, 0], capacity: &[5, 0], setup: &[5], unit: &[2], holding: &[100, 10], ends: (0, 2), claim: Ok((&[3, 0], 251, 1)) },
+    // without starting cost: the upkeep spared decides, that of the next period with it; the earliest of equals, below zero too
+    Row { demand: &[0, 1], capacity: &[1, 1], setup: &[0], unit: &[1, 2], holding: &[1], ends: (0, 0), claim: Ok((&[0, 1], 2, 1)) },
+    Row { demand: &[0, 0, 1], capacity: &[1, 1, 1], setup: &[0], unit: &[0, 2, 7], holding: &[0, 3, 0], ends: (0, 0), claim: Ok((&[0, 1, 0], 5, 1)) },
+    Row { demand: &[0, 1], capacity: &[1, 1], setup: &[0], unit: &[1, 3], holding: &[1], ends: (0, 0), claim: Ok((&[1, 0], 3, 1)) },
+    Row { demand: &[0, 0, 0, 2], capacity: &[9, 0, 1, 9], setup: &[0], unit: &[0, 0, 0, 2], holding: &[1], ends: (0, 0), claim: Ok((&[0, 0, 1, 1], 4, 2)) },
+    // what is handed on goes last: served first it would leave the first need without capacity; the cheapest period is full by then
+    Row { demand: &[1, 0], capacity: &[1, 1], setup: &[0], unit: &[1, 9], holding: &[0], ends: (0, 1), claim: Ok((&[1, 1], 10, 2)) },
+    Row { demand: &[0, 2, 0], capacity: &[2, 5, 5], setup: &[0], unit: &[1, 5, 6], holding: &[1], ends: (0, 2), claim: Ok((&[2, 0, 2], 20, 2)) },
+    // charge at the beginning serves the first needs, and of what is handed on where it is more than these
+    Row { demand: &[2, 2], capacity: &[2, 2], setup: &[0], unit: &[4, 1], holding: &[0], ends: (1, 0), claim: Ok((&[1, 2], 6, 2)) },
+    Row { demand: &[1, 0], capacity: &[3, 3], setup: &[0], unit: &[1, 9], holding: &[2], ends: (3, 4), claim: Ok((&[2, 0], 32, 1)) },
 ];
 
 fn all(values: &[u32], n: usize) -> Vec<u32> {
@@ -103,9 +114,18 @@ pub fn inputs() -> Vec<Input> {
 fn check_row(row: &Row) {
     let day = row.day();
     let expected = row.claim.ok().map(|(plan, cost, setups)| Planned { plan: plan.to_vec(), totals: Totals { cost, setups } });
-    assert_eq!(plain::search(&day), expected, "{day:?}");
-    assert_eq!(plain::recursion(&day), expected, "{day:?}");
+    assert_eq!(planned(&day), expected, "{day:?}");
     assert_eq!(refused(&day), row.claim.err().map(|(number, period)| Refusal { number, period }), "{day:?}");
+}
+
+/// The plan by trying all, which recursion (5) gives too, and without starting cost the rule of request 2.3.
+fn planned(day: &Day) -> Option<Planned> {
+    let found = plain::search(day);
+    assert_eq!(found, plain::recursion(day), "{day:?}");
+    if plain::started(day).is_none() {
+        assert_eq!(found, plain::unit_by_unit(day), "{day:?}");
+    }
+    found
 }
 
 /// Why a day within the limits has no plan.
@@ -168,14 +188,16 @@ fn check_files() {
     assert_eq!(plain::walk(&[3, 0, 0, 0, 1, 2, 0, 0]).map(|records| records.periods()), Ok(0));
 }
 
-/// All plans tried, against recursion (5), on days with many ties; and refusals 7 and 14 exactly where there is no plan.
-pub fn check(random: &mut Random, ends: Ends, days: usize) {
+/// All plans tried, against the other ways to a plan, on days with many ties of the kinds that the paths of these calls are for; and
+/// refusals 7 and 14 exactly where there is no plan.
+pub fn check(random: &mut Random, calls: &[Call], ends: Ends, days: usize) {
+    let paths: Vec<Call> = calls.iter().copied().filter(|call| call.path().is_some()).collect();
     for row in ROWS {
         check_row(row);
     }
     check_files();
     for _ in 0..days {
-        let call = random.pick(&[Call::Full, Call::Uncapped, Call::Equal]);
+        let call = random.pick(&paths);
         let mut day = input::day(random, call, Size::Tiny, ends);
         if ends == Ends::Any && random.once_in(8) {
             day.opening = day.asked() as u16 + random.pick(&[1, 2]);
@@ -187,8 +209,7 @@ pub fn check(random: &mut Random, ends: Ends, days: usize) {
 }
 
 fn check_day(day: &Day) {
-    let found = plain::search(day);
-    assert_eq!(found, plain::recursion(day), "{day:?}");
+    let found = planned(day);
     assert_eq!(found.is_some(), refused(day).is_none(), "{day:?}");
     if let Some(planned) = found {
         assert_eq!(plain::verdict(day, &planned.plan), plain::Verdict::Holds(planned.totals));

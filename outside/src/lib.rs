@@ -1,5 +1,6 @@
 //! What the tests from outside compare with, the papers in plain code, and the inputs that they compare on.
 pub mod ends;
+pub mod free;
 pub mod holding;
 pub mod input;
 pub mod plain;

@@ -8,8 +8,8 @@ mod itself;
 mod published;
 mod shrink;
 
-use input::{Call, Ends, Input, Size, CALLS};
-use outside::{ends, holding, input, plain, random};
+use input::{Call, Ends, Input, Size, CALLS, EARLIER};
+use outside::{ends, free, holding, input, plain, random};
 use random::Random;
 use std::iter::once;
 use std::process::exit;
@@ -18,7 +18,7 @@ use std::time::Instant;
 const SEED: u64 = 1979;
 
 /// The last number of a refusal.
-const LAST: usize = 14;
+const LAST: usize = 15;
 
 /// The inputs of one run, counted by their outcome.
 struct Run {
@@ -27,6 +27,8 @@ struct Run {
     ends: Ends,
     inputs: usize,
     accepted: usize,
+    /// of these, by the free path
+    free: usize,
     refused: [usize; LAST + 1],
     broken: usize,
 }
@@ -34,13 +36,15 @@ struct Run {
 impl Run {
     fn try_input(&mut self, input: &Input) {
         let expected = compare::expected(input);
-        let seen = compare::actual(input);
-        if seen != expected || self.inputs % 8 == 0 && !compare::results_agree(input, &expected) {
+        if differs(input, &expected) || self.inputs % 8 == 0 && !compare::results_agree(input, &expected) {
             report(input);
         }
         self.inputs += 1;
         match expected.code % 256 {
-            0 => self.accepted += 1,
+            0 => {
+                self.accepted += 1;
+                self.free += usize::from(input.call == Call::Free);
+            }
             number if number <= LAST as u64 => self.refused[number as usize] += 1,
             _ => self.broken += 1,
         }
@@ -137,16 +141,26 @@ impl Run {
         }
     }
 
-    /// Every call on made-up days with such ends, after the plain implementation against itself; `part` of the full count of each.
-    fn made_up(&mut self, ends: Ends, part: usize) {
+    /// Days without starting cost on which many periods compare alike.
+    fn level(&mut self, size: Size, times: usize) {
+        for _ in 0..times {
+            let input = free::level(&mut self.random, size, self.ends);
+            self.try_input(&input);
+        }
+    }
+
+    /// The calls on made-up days with such ends, after the plain implementation against itself; `part` of the full count of each.
+    fn made_up(&mut self, calls: &[Call], ends: Ends, part: usize) {
         self.ends = ends;
-        itself::check(&mut self.random, ends, 4000 / part);
-        for call in CALLS {
+        itself::check(&mut self.random, calls, ends, 4000 / part);
+        for &call in calls {
             self.pairs(call, 24 / part + 1);
             self.valid(call, Size::Tiny, 3000 / part);
             self.valid(call, Size::Middle, 400 / part);
             self.valid(call, Size::Long, 40 / part);
-            self.valid(call, Size::Limits, if call.path().is_some() { 4 } else { 100 } / part);
+            // recursion (5) by its letter takes long there
+            let by_letter = matches!(call, Call::Full | Call::Uncapped | Call::Equal);
+            self.valid(call, Size::Limits, if by_letter { 4 } else { 100 } / part);
             self.changed(call, Size::Tiny, 800 / part);
             self.changed(call, Size::Long, 12 / part);
             self.damaged(call, 400 / part);
@@ -154,13 +168,17 @@ impl Run {
     }
 }
 
-fn differs(input: &Input) -> bool {
+fn differs(input: &Input, expected: &compare::Seen) -> bool {
+    compare::actual(input) != *expected || !compare::full_agrees(input, expected)
+}
+
+fn fails(input: &Input) -> bool {
     let expected = compare::expected(input);
-    compare::actual(input) != expected || !compare::results_agree(input, &expected)
+    differs(input, &expected) || !compare::results_agree(input, &expected)
 }
 
 fn report(input: &Input) -> ! {
-    let smallest = shrink::shrink(input, differs);
+    let smallest = shrink::shrink(input, fails);
     let (expected, seen) = (compare::expected(&smallest), compare::actual(&smallest));
     println!("failed: {}", shrink::show(&smallest));
     println!("expected code {} (number {}, period {}), out {:?}", expected.code, expected.code % 256, expected.code / 256, expected.out);
@@ -169,6 +187,9 @@ fn report(input: &Input) -> ! {
         if let Some(i) = (0..e.len()).find(|&i| e[i] != s[i]) {
             println!("lent part {part}, cell {}: expected {}, seen {}", i as i64 - 8, e[i], s[i]);
         }
+    }
+    if !compare::full_agrees(&smallest, &expected) {
+        println!("the full path says otherwise on this day than what is expected");
     }
     exit(1);
 }
@@ -192,17 +213,25 @@ fn main() {
         Some(word) => word.parse().expect("the seed is a number"),
     };
     let start = Instant::now();
-    let mut run = Run { random: Random::new(seed), ends: Ends::Zero, inputs: 0, accepted: 0, refused: [0; LAST + 1], broken: 0 };
-    run.made_up(Ends::Zero, 1);
+    let mut run = Run { random: Random::new(seed), ends: Ends::Zero, inputs: 0, accepted: 0, free: 0, refused: [0; LAST + 1], broken: 0 };
+    run.made_up(EARLIER, Ends::Zero, 1);
     for call in [Call::Read, Call::Lookup] {
         run.try_inputs(&long_files(call));
     }
     let published = published::inputs();
     run.try_inputs(&published);
-    run.made_up(Ends::Any, 2);
-    for call in CALLS {
+    run.made_up(EARLIER, Ends::Any, 2);
+    for &call in EARLIER {
         run.holding(call, 3);
     }
+    for (ends, part) in [(Ends::Zero, 1), (Ends::Any, 2)] {
+        run.made_up(&[Call::Free], ends, part);
+        run.level(Size::Tiny, 1000);
+        run.level(Size::Middle, 200);
+        run.level(Size::Long, 40);
+    }
+    run.holding(Call::Free, 3);
+    run.try_inputs(&free::inputs());
     run.try_inputs(&holding::dearest());
     run.try_inputs(&itself::inputs());
     run.try_inputs(&ends::limits(&CALLS));
@@ -212,6 +241,7 @@ fn main() {
     let refused = (1..=LAST).map(|number| format!("{number}: {}", run.refused[number])).collect::<Vec<_>>().join(", ");
     println!("outside: seed {seed}, {} inputs of {} calls as the plain implementation has them", run.inputs, CALLS.len());
     println!("accepted {}, broken plans {}, refused {refused}", run.accepted, run.broken);
+    println!("free path: {} plans, each the full path's on the same day", run.free);
     println!("published instances: {} inputs, each with the published cost, doubled", published.len());
     eprintln!("{} seconds", start.elapsed().as_secs());
 }

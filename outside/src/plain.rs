@@ -1,4 +1,4 @@
-//! Documents 01 and 02 (requests 2.1 and 2.2) and the report in plain code, written from these alone: what every call should answer.
+//! Documents 01 and 02 (requests 2.1 to 2.3) and the report in plain code, written from these alone: what every call should answer.
 //! Names are lot sizing's; document 01 says need for demand, start for setup, upkeep for holding.
 
 /// A day: one entry a period in each table, and the charge at both its ends, A and Z.
@@ -49,6 +49,7 @@ pub enum Path {
     Full,
     Uncapped,
     Equal,
+    Free,
 }
 
 pub const MAX_PERIODS: usize = 96;
@@ -254,6 +255,36 @@ pub fn plan(day: &Day) -> Option<Planned> {
     }
 }
 
+// Request 2.3: days without starting cost.
+
+/// The upkeep spared by not making a unit in the first period but in period i, counted from 0. Made in the first it is left after every
+/// period before i, and is paid for in that period and, as charge before, in the next.
+pub fn spared(day: &Day, i: usize) -> i64 {
+    (0..i).map(|j| day.holding[j] as i64 + day.holding[j + 1] as i64).sum()
+}
+
+/// The period, counted from 0, in which each watt-hour is needed, in turn: those of the periods, and those of Z last, in the last period;
+/// less the first ones, which A serves until it has run out.
+fn needed_in(day: &Day) -> impl Iterator<Item = usize> + '_ {
+    let of_periods = (0..day.periods()).flat_map(|i| vec![i; day.demand[i] as usize]);
+    let handed_on = vec![day.periods() - 1; day.closing as usize];
+    of_periods.chain(handed_on).skip(day.opening as usize)
+}
+
+/// The plan of a day without starting cost by the rule: each watt-hour in turn from the cheapest period not after it that has capacity
+/// left, the earliest of equals. Periods compare by unit cost less the upkeep spared, which can lie below zero.
+pub fn unit_by_unit(day: &Day) -> Option<Planned> {
+    day.whole()?;
+    let price: Vec<i64> = (0..day.periods()).map(|i| day.unit[i] as i64 - spared(day, i)).collect();
+    let mut plan = vec![0u16; day.periods()];
+    for due in needed_in(day) {
+        let cheapest = (0..=due).filter(|&i| plan[i] < day.capacity[i]).min_by_key(|&i| (price[i], i))?;
+        plan[cheapest] += 1;
+    }
+    let totals = totals(day, &plan);
+    Some(Planned { plan, totals })
+}
+
 // The papers' conditions, each by itself; where tables differ in length, entries past an end count as 0.
 
 fn refused(number: u64, condition: bool) -> Option<Refusal> {
@@ -318,6 +349,10 @@ pub fn binding(day: &Day) -> Option<Refusal> {
     })
 }
 
+pub fn started(day: &Day) -> Option<Refusal> {
+    refused_at(15, day.periods(), |i| day.setup.get(i - 1).is_some_and(|&v| v > 0))
+}
+
 pub fn too_few(cells: usize, needed: usize) -> Option<Refusal> {
     refused(6, cells < needed)
 }
@@ -329,6 +364,7 @@ pub fn cells(path: Path, day: &Day) -> (usize, usize) {
         Path::Full => (2 * (whole + 1), n * (whole + 1)),
         Path::Uncapped => (n + 1, n + 1),
         Path::Equal => (6 * (n + 1), 4 * (n + 1) * (n + 1)),
+        Path::Free => (n, 0),
     }
 }
 
@@ -344,6 +380,7 @@ pub fn path_refusals(path: Path, day: &Day, costs: usize, choices: usize, slots:
         Path::Full => None,
         Path::Uncapped => binding(day),
         Path::Equal => unequal(day),
+        Path::Free => started(day),
     };
     let areas = refused(5, costs < needed.0 || choices < needed.1);
     let mut refusals = day_refusals(day);

@@ -3,6 +3,7 @@
 --     shortage-passed, shortage-refused     7: what must have been made is at most C throughout; the first period in which it is not
 --     equal-passed                          8
 --     binding-passed                        9
+--     free-passed                           15
 --     admitted                              all tests of a path: what its work relies on
 -- Assumes nothing.
 use mathlib.Core.Path.{_≡_, refl, sym, ap, _∙_}
@@ -17,14 +18,14 @@ use lib.ListN.{length}
 use borrow.Author.Tests.{ltb-true, ltb-false, lt-ltb, le-ltb, eqb-true, eqb-false, eq-eqb, ne-eqb, not-false}
 use Rattle.day.specs.declared.Refusal.{Refusal}
 use Rattle.day.specs.declared.Refusal.the-variants.{PeriodCount, TableLength, AboveLimit, TotalDemand, ShortArea, FewSlots, SurplusInventory}
-use Rattle.day.specs.declared.Refusal.the-variants.{Shortage, UnequalCapacities, BindingCapacity}
+use Rattle.day.specs.declared.Refusal.the-variants.{Shortage, UnequalCapacities, BindingCapacity, PaidSetup}
 use Rattle.day.specs.Sums.{at}
 use Rattle.day.specs.Find.{find, none-found, nothing-found, some-found}
 use Rattle.day.specs.Day.{Day, periods, maxPeriods, maxDemand, maxCapacity, maxSetup, maxRate, maxHalfRate, maxTotal}
 use Rattle.day.specs.Day.{demandTo, capacityTo, required, total, netTo, net-before, net-end}
 use Rattle.day.specs.Refusals.{numberOf, periodOf, refuseAt, anywhere, first, badCount, badLengths, aboveLimit, badValue, tableTests}
 use Rattle.day.specs.Refusals.{badTotal, badOpening, totalTests, dayTests}
-use Rattle.day.specs.Refusals.{badAreas, badSlots, short, shortage, differs, unequal, binds, binding}
+use Rattle.day.specs.Refusals.{badAreas, badSlots, short, shortage, differs, unequal, binds, binding, paid, paidSetup}
 use Rattle.day.specs.Tests.{first-split, first-passed, first-one, not-refused, nowhere, neither}
 use Rattle.day.specs.Outcome.{Path, Sizes, Roomy, memoryTests, pathTests, refusal}
 
@@ -212,6 +213,11 @@ pub binding-passed : (d : Day) → binding d ≡ none → (k : ℕ) → k < peri
 binding-passed d e k l =
     let free = none-found (binds d) (periods d) (nowhere BindingCapacity _ e) k l in
     omega (arith, net-before d k l, ltb-false (at (d .capacity) k) (total d - (demandTo d k - d .opening)) free)
+
+-- 15: setups cost nothing
+pub free-passed : (d : Day) → paidSetup d ≡ none → (k : ℕ) → k < periods d → at (d .setup) k ≡ 0
+free-passed d e k l =
+    omega (arith, ltb-false 0 (at (d .setup) k) (none-found (paid d) (periods d) (nowhere PaidSetup _ e) k l))
 
 -- what a path relies on that refuses nothing
 pub record Admitted (P : Path) (d : Day) (s : Sizes) : Type 0 where

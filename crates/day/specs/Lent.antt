@@ -1,6 +1,7 @@
 -- What a contract says of lent tables: the values that they hold when a call begins, and when it ends.
--- Main definitions: `dayBefore`, `tablesBefore`, `tablesAfter`, `memoryBefore`, `memoryAfter`. Assumes nothing.
-use mathlib.Core.List.{List}
+-- Main definitions: `dayBefore`, `tablesBefore`, `tablesAfter`; `memoryBefore`, `memoryAfter`, and of a path that is lent no choice area
+-- `cellsBefore`, `cellsAfter`. Assumes nothing.
+use mathlib.Core.List.{List, []}
 use Prim.Native.Nat.{ℕ}
 use denote.Ref.{RefT, now}
 use denote.Triple.Both.{Both}
@@ -29,3 +30,10 @@ memoryBefore costs choices slots = memoryOf (now (costs .entry)) (now (choices .
 
 abbrev pub memoryAfter : (costs choices slots : Lent) → Memory
 memoryAfter costs choices slots = memoryOf (now (costs .exit)) (now (choices .exit)) (now (slots .exit))
+
+-- memory without a choice area
+abbrev pub cellsBefore : (costs slots : Lent) → Memory
+cellsBefore costs slots = memoryOf (now (costs .entry)) [] (now (slots .entry))
+
+abbrev pub cellsAfter : (costs slots : Lent) → Memory
+cellsAfter costs slots = memoryOf (now (costs .exit)) [] (now (slots .exit))

@@ -2,9 +2,11 @@
 -- Tables: entries, sums, the first period that passes a test.
 pub mod Sums
 pub mod Find
--- The problem: a day, its plans, what they cost, which one is wanted (report, section 2; documents 01 and 02).
+-- The problem: a day, its plans, what they cost, which one is wanted (report, section 2; documents 01 and 02); the rule of document 02, 2.3
+-- (report, section 4).
 pub mod Day
 pub mod Plan
+pub mod InTurn
 -- What is refused, and when; the day file's layout.
 pub mod Refusals
 pub mod Tests

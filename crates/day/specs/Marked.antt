@@ -1,19 +1,23 @@
 -- The marked days of document 01, as document 02, 2.2 has them, and its tie row: the table, and the theorem that each row's outcome is what the
 -- meaning and the contracts' refusals say (demands 2 and 3).
 -- Main statement: `marked-right`. One test is computed over the table; what it gives is the proof. Assumes nothing.
-use mathlib.Core.Path.{_≡_, refl, _∙_}
+use mathlib.Core.Path.{_≡_, refl, ap, _∙_}
+use mathlib.Core.Bool.{Bool, true, false}
 use mathlib.Core.List.{List, [], _∷_}
 use mathlib.Core.Logic.{Dec·and}
 use mathlib.Core.Option.{Option, none, some, Option·map}
-use Prim.Native.Nat.{ℕ, _≤_, _<_}
+use Prim.Native.Nat.{ℕ, zero, suc, _≤_, _<_}
 use native.Mathlib.Decide.{decLe, decLt, ℕ-discrete}
+use lib.Dec.{ltb}
 use lib.ListN.{length, replicate}
 use Rattle.day.specs.declared.Refusal.{Refusal}
+use Rattle.day.specs.declared.Refusal.the-variants.{PaidSetup}
 use Rattle.day.specs.Sums.{at}
+use Rattle.day.specs.Find.{find}
 use Rattle.day.specs.Day.{Day, tablesOf, periods, capacityTo, netTo}
 use Rattle.day.specs.Plan.{Feasible, Optimal, cost, setups}
-use Rattle.day.specs.Refusals.{numberOf, periodOf, first}
-use Rattle.day.specs.Outcome.{Sizes, Path, Roomy, refusal, dayRefusal, roomy-refusal}
+use Rattle.day.specs.Refusals.{numberOf, periodOf, refuse, refuseAt, orNext, first, paid, paidSetup}
+use Rattle.day.specs.Outcome.{Sizes, Path, Roomy, refusal, dayRefusal, roomy-first}
 use Rattle.day.specs.Search.{given, sure, both, iff?, implies?, both-below, below?, feasible?, smaller?, precedes?, optimal?, none?}
 
 -- what a row claims of its day: its plan, with cost and setups; what some other plan costs; or the period of refusal 7
@@ -63,13 +67,14 @@ pub record Costs (d : Day) (x : List ℕ) (c : ℕ) : Type 0 where
   pub feasible : Feasible d (at x)
   pub cost : cost d (at x) ≡ c
 
--- what every path refuses whose kind of day this is, given room
+-- what every path refuses, given room: what the day brings by itself, else what the path alone tests
 abbrev pub Given : Day → Option Refusal → Type 0
-Given d o = (P : Path) → first (P .own d) ≡ none → (s : Sizes) → Roomy P d s → refusal P d s ≡ o
+Given d o = (P : Path) (s : Sizes) → Roomy P d s → refusal P d s ≡ orNext o (first (P .own d))
 
--- the plan of the day, with its cost and setups, and no path refuses it
+-- the plan of the day, with its cost and setups; a path refuses it by its own tests alone, the free path 15 with period 1 where b is above 0
 pub record PlannedAs (d : Day) (x : List ℕ) (c s : ℕ) : Type 0 where
   pub given : Given d none
+  pub paid : paidSetup d ≡ refuse (ltb 0 (at (d .setup) 0)) (PaidSetup 1)
   pub amounts : length x ≡ periods d
   pub plan : Optimal d (at x)
   pub cost : cost d (at x) ≡ c
@@ -102,7 +107,7 @@ all? p (a ∷ rest) = both (p a) (all? p rest)
 
 -- what the day brings by itself is what every path gives
 brought : (d : Day) {o : Option Refusal} → dayRefusal d ≡ o → Given d o
-brought d e P kind s room = roomy-refusal P d s room kind ∙ e
+brought d e P s room = roomy-first P d s room ∙ ap (λ (o : Option Refusal). orNext o (first (P .own d))) e
 
 -- the tests of what it brings: nothing; 7 with period i
 abbrev none-brought? : (o : Option Refusal) → Option (o ≡ none)
@@ -113,14 +118,25 @@ abbrev brought? : (i : ℕ) (o : Option Refusal) → Option ((q : Refusal) × ((
 brought? i none = none
 brought? i (some q) = Option·map (λ p. (q, (refl, p))) (both (sure (ℕ-discrete (numberOf q) 7)) (sure (ℕ-discrete (periodOf q) i)))
 
+-- the test of what the free path refuses: nothing; 15 with period 1
+abbrev paid? : (o : Option ℕ) (b : Bool) → Option (refuseAt PaidSetup o ≡ refuse b (PaidSetup 1))
+paid? none false = some refl
+paid? none true = none
+paid? (some zero) true = some refl
+paid? (some zero) false = none
+paid? (some (suc k)) b = none
+
 -- the test of a claim
 abbrev right? : (d : Day) (c : Claim) → Option (ClaimHolds d c)
 right? d (planned x c s) =
     Option·map
-    (λ p. record { given = brought d (p .0); amounts = p .1 .0; plan = p .1 .1 .0; cost = p .1 .1 .1 .0; setups = p .1 .1 .1 .1 })
+    (λ p.
+    let q = p .1 .1 in
+    record { given = brought d (p .0); paid = p .1 .0; amounts = q .0; plan = q .1 .0; cost = q .1 .1 .0; setups = q .1 .1 .1 })
     (both (none-brought? (dayRefusal d))
+    (both (paid? (find (paid d) (periods d)) (ltb 0 (at (d .setup) 0)))
     (both (sure (ℕ-discrete (length x) (periods d)))
-    (both (optimal? d (at x)) (both (sure (ℕ-discrete (cost d (at x)) c)) (sure (ℕ-discrete (setups (periods d) (at x)) s))))))
+    (both (optimal? d (at x)) (both (sure (ℕ-discrete (cost d (at x)) c)) (sure (ℕ-discrete (setups (periods d) (at x)) s)))))))
 right? d (costs x c) =
     Option·map (λ p. record { feasible = p .0; cost = p .1 }) (both (sure (feasible? d (at x))) (sure (ℕ-discrete (cost d (at x)) c)))
 right? d (refused i) =

@@ -1,6 +1,7 @@
--- What a caller lends to a path, what the path needs of it and refuses, and what it leaves in it (document 01, "Three paths, one plan").
+-- What a caller lends to a path, what the path needs of it and refuses, and what it leaves in it (document 01, "Three paths, one plan";
+-- document 02, 2.3).
 -- Main definitions: `refusal`; `Runs`, the contract of every path (demands 1 to 3). Assumes nothing.
-use mathlib.Core.Path.{_≡_, refl}
+use mathlib.Core.Path.{_≡_, _∙_}
 use mathlib.Core.List.{List, [], _∷_, _++_}
 use mathlib.Core.Option.{Option, none}
 use Prim.Native.Nat.{ℕ, _≤_}
@@ -13,7 +14,8 @@ use Rattle.day.specs.declared.Answer.the-variants.{Refused, Planned}
 use Rattle.day.specs.Sums.{at}
 use Rattle.day.specs.Day.{Day, periods, total}
 use Rattle.day.specs.Plan.{Optimal, cost, setups}
-use Rattle.day.specs.Refusals.{Gives, first, dayTests, badAreas, badSlots, shortage}
+use Rattle.day.specs.Refusals.{Gives, orNext, first, dayTests, badAreas, badSlots, shortage}
+use Rattle.day.specs.Tests.{first-join, first-one}
 use Rattle.day.specs.Figures.{acceptedWith, answerFigures}
 
 -- what a caller lends: cost area, choice area, answer slots
@@ -68,17 +70,25 @@ refusal P d s = first (dayTests d ++ pathTests P d s)
 abbrev pub dayRefusal : Day → Option Refusal
 dayRefusal d = first (dayTests d ++ (shortage d ∷ []))
 
--- with room for it, a path refuses a day of its kind for what the day is, alone
+-- with room for it, a path refuses a day for what the day is, else by its own tests
+pub roomy-first : (P : Path) (d : Day) (s : Sizes) → Roomy P d s → refusal P d s ≡ orNext (dayRefusal d) (first (P .own d))
+roomy-first P d s room =
+    rw (le-ltb _ _ (room .costs), le-ltb _ _ (room .choices), le-ltb _ _ (room .slots)) (first-join (dayTests d ++ (shortage d ∷ [])) (P .own d))
+
+-- and a day of its kind for what the day is, alone
 pub roomy-refusal : (P : Path) (d : Day) (s : Sizes) → Roomy P d s → first (P .own d) ≡ none → refusal P d s ≡ dayRefusal d
-roomy-refusal P d s room kind = rw (kind, le-ltb _ _ (room .costs), le-ltb _ _ (room .choices), le-ltb _ _ (room .slots)) refl
+roomy-refusal P d s room kind = roomy-first P d s room ∙ rw kind (first-one (dayRefusal d))
 
 -- what is given is the plan's cost and setups, by the answer's figures
 abbrev pub Counts : Day → (ℕ → ℕ) → Totals → Type 0
 Counts d x t = answerFigures (Planned t) ≡ acceptedWith (cost d x ∷ setups (periods d) x ∷ [])
 
 -- the first k cells hold zero, and the later ones what they held
+abbrev pub cleared : ℕ → List ℕ → List ℕ
+cleared k before = replicate k 0 ++ drop k before
+
 abbrev pub Cleared : ℕ → List ℕ → List ℕ → Type 0
-Cleared k before after = after ≡ replicate k 0 ++ drop k before
+Cleared k before after = after ≡ cleared k before
 
 -- an accepted call: the first n slots hold the plan, the needed cells of both areas hold zero, the rest is as it was
 pub record Accepted (P : Path) (d : Day) (t : Totals) (before after : Memory) : Type 0 where

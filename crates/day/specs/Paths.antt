@@ -1,10 +1,10 @@
--- The three paths (document 01, "Three paths, one plan"): the cells that each needs, and the tests that it alone applies.
+-- The four paths (document 01, "Three paths, one plan"; document 02, 2.3): the cells that each needs, and the tests that it alone applies.
 -- Main definition: `pathOf`. Assumes nothing.
 use mathlib.Core.List.{[], _∷_}
 use Prim.Native.Nat.{_+_, _*_}
 use Rattle.day.specs.declared.PathKind.{PathKind}
-use Rattle.day.specs.declared.PathKind.the-variants.{Full, Uncapped, Equal}
-use Rattle.day.specs.Refusals.{unequal, binding}
+use Rattle.day.specs.declared.PathKind.the-variants.{Full, Uncapped, Equal, Free}
+use Rattle.day.specs.Refusals.{unequal, binding, paidSetup}
 use Rattle.day.specs.Outcome.{Path}
 
 -- recursion (5), for any day
@@ -19,7 +19,12 @@ uncapped = record { costCells = λ n T. n + 1; choiceCells = λ n T. n + 1; own 
 abbrev pub equal : Path
 equal = record { costCells = λ n T. 6 * (n + 1); choiceCells = λ n T. 4 * ((n + 1) * (n + 1)); own = λ d. unequal d ∷ [] }
 
+-- the greedy rule of the report's section 4, for days without setup cost (document 02, 2.3)
+abbrev pub free : Path
+free = record { costCells = λ n T. n; choiceCells = λ n T. 0; own = λ d. paidSetup d ∷ [] }
+
 abbrev pub pathOf : PathKind → Path
 pathOf Full = full
 pathOf Uncapped = uncapped
 pathOf Equal = equal
+pathOf Free = free

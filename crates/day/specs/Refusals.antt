@@ -1,4 +1,4 @@
--- What is refused, and when: document 01's conditions 1 to 9 and document 02's 14, each as a definition, and the number and period of each refusal.
+-- What is refused, and when: document 01's conditions 1 to 9 and document 02's 14 and 15, each as a definition, and the number and period of each refusal.
 -- A call's first refusal in order is `first` of a list of these; laws of such lists are in `Tests`. Conditions 10 to 13 are in `File`.
 -- Assumes nothing.
 use mathlib.Core.Path.{_≡_}
@@ -11,7 +11,7 @@ use lib.ListN.{length}
 use Rattle.day.specs.declared.Refusal.{Refusal}
 use Rattle.day.specs.declared.Refusal.the-variants.{PeriodCount, TableLength, AboveLimit, TotalDemand, ShortArea, FewSlots, Shortage}
 use Rattle.day.specs.declared.Refusal.the-variants.{UnequalCapacities, BindingCapacity}
-use Rattle.day.specs.declared.Refusal.the-variants.{UnknownKind, TruncatedFile, WrongEnd, NoSuchPeriod, SurplusInventory}
+use Rattle.day.specs.declared.Refusal.the-variants.{UnknownKind, TruncatedFile, WrongEnd, NoSuchPeriod, SurplusInventory, PaidSetup}
 use Rattle.day.specs.declared.Check.{Check}
 use Rattle.day.specs.declared.Check.the-variants.{Passed, Refused}
 use Rattle.day.specs.Sums.{at}
@@ -35,6 +35,7 @@ numberOf TruncatedFile = 11
 numberOf WrongEnd = 12
 numberOf NoSuchPeriod = 13
 numberOf SurplusInventory = 14
+numberOf (PaidSetup i) = 15
 
 -- the period that it names, counted from 1; 0 where it names none
 abbrev pub periodOf : Refusal → ℕ
@@ -52,6 +53,7 @@ periodOf TruncatedFile = 0
 periodOf WrongEnd = 0
 periodOf NoSuchPeriod = 0
 periodOf SurplusInventory = 0
+periodOf (PaidSetup i) = i
 
 -- the refusal, where its condition holds
 abbrev pub refuse : Bool → Refusal → Option Refusal
@@ -152,6 +154,13 @@ binds d k = ltb (at (d .capacity) k) (total d - (demandTo d k - d .opening))
 
 abbrev pub binding : Day → Option Refusal
 binding d = refuseAt BindingCapacity (find (binds d) (periods d))
+
+-- 15: a setup cost above 0
+abbrev pub paid : Day → ℕ → Bool
+paid d k = ltb 0 (at (d .setup) k)
+
+abbrev pub paidSetup : Day → Option Refusal
+paidSetup d = refuseAt PaidSetup (find (paid d) (periods d))
 
 -- the tests that open every call on tables: 1, 2, 3
 abbrev pub tableTests : Day → List (Option Refusal)

@@ -10,10 +10,10 @@ use lib.ListN.{getD}
 use Rattle.day.specs.declared.Refusal.{Refusal}
 use Rattle.day.specs.declared.Refusal.the-variants.{PeriodCount, TableLength, AboveLimit, TotalDemand, ShortArea, FewSlots, Shortage}
 use Rattle.day.specs.declared.Refusal.the-variants.{UnequalCapacities, BindingCapacity}
-use Rattle.day.specs.declared.Refusal.the-variants.{UnknownKind, TruncatedFile, WrongEnd, NoSuchPeriod, SurplusInventory}
+use Rattle.day.specs.declared.Refusal.the-variants.{UnknownKind, TruncatedFile, WrongEnd, NoSuchPeriod, SurplusInventory, PaidSetup}
 use Rattle.day.specs.declared.Check.{Check}
 use Rattle.day.specs.declared.Check.the-variants.{Passed, Refused}
-use Rattle.day.specs.Refusals.{numberOf, periodOf, Gives, refuse, refuseAt, first, checked}
+use Rattle.day.specs.Refusals.{numberOf, periodOf, Gives, refuse, refuseAt, orNext, first, checked}
 
 passed≢refused : {r : Refusal} → Passed ≡ Refused r → ⊥
 passed≢refused e = let z : _≡_ {A = ℕ} 0 1 = cc in omega arith
@@ -45,9 +45,10 @@ withNumber number i =
     ∷ TruncatedFile
     ∷ WrongEnd
     ∷ NoSuchPeriod
+    ∷ SurplusInventory
     ∷ [])
     number
-    SurplusInventory
+    (PaidSetup i)
 
 number-fixes : (r : Refusal) → withNumber (numberOf r) (periodOf r) ≡ r
 unfolding withNumber
@@ -65,6 +66,7 @@ number-fixes TruncatedFile = refl
 number-fixes WrongEnd = refl
 number-fixes NoSuchPeriod = refl
 number-fixes SurplusInventory = refl
+number-fixes (PaidSetup i) = refl
 
 -- number and period fix a refusal: what is given is the first in order, and the other way round
 pub gives-is : {o : Option Refusal} {r : Refusal} → Gives o r → o ≡ some r
@@ -84,6 +86,11 @@ pub first-passed : (xs ys : List (Option Refusal)) → first xs ≡ none → fir
 first-passed [] ys e = refl
 first-passed (none ∷ xs) ys e = first-passed xs ys e
 first-passed (some r ∷ xs) ys e = absurd (Option·some-ne-none _ e)
+
+pub first-join : (xs ys : List (Option Refusal)) → first (xs ++ ys) ≡ orNext (first xs) (first ys)
+first-join [] ys = refl
+first-join (none ∷ xs) ys = first-join xs ys
+first-join (some r ∷ xs) ys = refl
 
 -- a list without refusals has none in either part
 pub first-split : (xs ys : List (Option Refusal)) → first (xs ++ ys) ≡ none → (first xs ≡ none) × (first ys ≡ none)

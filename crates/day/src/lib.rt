@@ -19,6 +19,7 @@ pub enum Refusal {
     WrongEnd,
     NoSuchPeriod,
     SurplusInventory,
+    PaidSetup(u16),
 }
 
 impl Refusal {
@@ -40,6 +41,7 @@ impl Refusal {
             Refusal::WrongEnd => 12,
             Refusal::NoSuchPeriod => 13,
             Refusal::SurplusInventory => 14,
+            Refusal::PaidSetup(_) => 15,
         }
     }
 
@@ -61,6 +63,7 @@ impl Refusal {
             Refusal::WrongEnd => 0,
             Refusal::NoSuchPeriod => 0,
             Refusal::SurplusInventory => 0,
+            Refusal::PaidSetup(i) => i,
         }
     }
 }
@@ -71,11 +74,12 @@ pub enum Check {
     Refused(Refusal),
 }
 
-// The paths (document 01, "Three paths, one plan"); `pathOf` gives what each needs and tests.
+// The paths (document 01, "Three paths, one plan"; document 02, 2.3); `pathOf` gives what each needs and tests.
 pub enum PathKind {
     Full,
     Uncapped,
     Equal,
+    Free,
 }
 
 // The inventory at both ends of a day (document 02: opening charge A, closing charge Z).

@@ -39,7 +39,7 @@ fn solve(
     let n = demand.len();
     let full = capacity[0];
     if full == 0 {
-        areas::clear_choices(slots, n);
+        areas::clear_narrow(slots, n);
         return;
     }
     equal_rows::rows(demand, setup, unit, holding, full, costs, choices, slots);
@@ -87,8 +87,8 @@ fn work(
         &mut choices[0..choice_cells],
         &mut slots[0..n],
     );
-    areas::clear_costs(costs, cost_cells);
-    areas::clear_choices(choices, choice_cells);
+    areas::clear_wide(costs, cost_cells);
+    areas::clear_narrow(choices, choice_cells);
     weigher::totals(demand, capacity, setup, unit, holding, slots, ends)
 }
 

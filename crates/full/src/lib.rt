@@ -92,8 +92,8 @@ fn work(
         needed,
     );
     let totals = weigher::totals(demand, capacity, setup, unit, holding, slots, ends);
-    areas::clear_costs(costs, needed.costs);
-    areas::clear_choices(choices, needed.choices);
+    areas::clear_wide(costs, needed.costs);
+    areas::clear_narrow(choices, needed.choices);
     totals
 }
 

@@ -5,7 +5,7 @@ ghost use Prim.Native.Nat.{_≤_};
 ghost use lib.ListN.{length};
 ghost use Rattle.day.specs.Day.{dayOf, tablesOf, required, maxPeriods, maxSum};
 ghost use Rattle.day.specs.Lent.{dayBefore};
-ghost use Rattle.day.specs.Refusals.{checked, first, badAreas, badSlots, shortage, unequal, binding};
+ghost use Rattle.day.specs.Refusals.{checked, first, badAreas, badSlots, shortage, unequal, binding, paidSetup};
 ghost use Rattle.day.specs.Outcome.{pathTests, refusal, sizes};
 ghost use Rattle.day.specs.Paths.{pathOf};
 ghost use Rattle.path_checks.specs.Needed.{NeededBy};
@@ -90,17 +90,37 @@ fn binding(demand: &[u16], capacity: &[u16], ends: Ends) -> Check
     Check::Passed
 }
 
+// 15, for tables of one length: the first setup cost above 0
+fn paid(demand: &[u16], setup: &[u32]) -> Check
+    requires { ⌜ length (now setup) ≡ length (now demand) ⌝ }
+    requires { ⌜ length (now demand) ≤ maxPeriods ⌝ }
+    ensures { λ r. ⌜ r ≡ checked (paidSetup (tablesOf (now (demand .entry)) [] (now (setup .entry)) [] [])) ⌝ }
+{
+    let mut i = 0;
+    while i < demand.len() {
+        if setup[i] > 0 {
+            return Check::Refused(Refusal::PaidSetup((i + 1) as u16));
+        }
+        i += 1;
+    }
+    Check::Passed
+}
+
 // The tests that a path alone applies.
-fn own(kind: PathKind, demand: &[u16], capacity: &[u16], ends: Ends) -> Check
+fn own(kind: PathKind, demand: &[u16], capacity: &[u16], setup: &[u32], ends: Ends) -> Check
     requires { ⌜ length (now capacity) ≡ length (now demand) ⌝ }
+    requires { ⌜ length (now setup) ≡ length (now demand) ⌝ }
     requires { ⌜ length (now demand) ≤ maxPeriods ⌝ }
     requires { ⌜ ends .opening ≤ required (dayOf (now demand) [] [] [] [] ends) ⌝ }
-    ensures { λ r. ⌜ r ≡ checked (first (pathOf kind .own (dayOf (now (demand .entry)) (now (capacity .entry)) [] [] [] ends))) ⌝ }
+    ensures { λ r. ⌜
+        r ≡ checked (first (pathOf kind .own (dayOf (now (demand .entry)) (now (capacity .entry)) (now (setup .entry)) [] [] ends)))
+        ⌝ }
 {
     match kind {
         PathKind::Full => Check::Passed,
         PathKind::Uncapped => binding(demand, capacity, ends),
         PathKind::Equal => equal(demand, capacity),
+        PathKind::Free => paid(demand, setup),
     }
 }
 
@@ -127,6 +147,10 @@ pub fn cells(kind: PathKind, n: usize, total: usize) -> Needed
             costs: 6 * (n + 1),
             choices: 4 * ((n + 1) * (n + 1)),
         },
+        PathKind::Free => Needed {
+            costs: n,
+            choices: 0,
+        },
     }
 }
 
@@ -135,17 +159,19 @@ fn room(
     kind: PathKind,
     demand: &[u16],
     capacity: &[u16],
+    setup: &[u32],
     costs: usize,
     choices: usize,
     slots: usize,
     ends: Ends,
 ) -> Check
     requires { ⌜ length (now capacity) ≡ length (now demand) ⌝ }
+    requires { ⌜ length (now setup) ≡ length (now demand) ⌝ }
     requires { ⌜ length (now demand) ≤ maxPeriods ⌝ }
     requires { ⌜ ends .opening ≤ required (dayOf (now demand) [] [] [] [] ends) ⌝ }
     ensures { λ r. ⌜
         r ≡ checked (first (pathTests (pathOf kind)
-        (dayOf (now (demand .entry)) (now (capacity .entry)) [] [] [] ends)
+        (dayOf (now (demand .entry)) (now (capacity .entry)) (now (setup .entry)) [] [] ends)
         (sizes costs choices slots)))
         ⌝ }
 {
@@ -157,7 +183,7 @@ fn room(
     if let Check::Refused(r) = shortage(demand, capacity, ends) {
         return Check::Refused(r);
     }
-    own(kind, demand, capacity, ends)
+    own(kind, demand, capacity, setup, ends)
 }
 
 // A path's tests in order: 1 to 4, 14, 5 to 7, then its own
@@ -178,5 +204,5 @@ pub fn path(
     if let Check::Refused(r) = checks::day(demand, capacity, setup, unit, holding, ends) {
         return Check::Refused(r);
     }
-    room(kind, demand, capacity, costs, choices, slots, ends)
+    room(kind, demand, capacity, setup, costs, choices, slots, ends)
 }

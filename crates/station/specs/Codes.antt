@@ -11,8 +11,8 @@ use denote.Ref.{RefT, now}
 use denote.Triple.Both.{Both}
 use Rattle.day.specs.declared.Ends.{Ends}
 use Rattle.day.specs.Figures.{Figures, answerFigures}
-use Rattle.day.specs.Outcome.{Path, Runs}
-use Rattle.day.specs.Lent.{Lent, dayBefore, tablesBefore, tablesAfter, memoryBefore, memoryAfter}
+use Rattle.day.specs.Outcome.{Path, Memory, Runs}
+use Rattle.day.specs.Lent.{Lent, dayBefore, tablesBefore, tablesAfter}
 use Rattle.dayfile.specs.Answers.{Reading, Writing, lookupFigures, readFigures, writeFigures}
 
 -- the code of a number and a period; 0 is the code of an accepted call, which has neither
@@ -52,13 +52,9 @@ pub record Shows {A B : Type 0} (Given : A → Type 0) (figures : A → Figures 
   pub given : Given answer
   pub shown : seen r (now (out .exit)) ≡ seenOf (now (out .entry)) (figures answer)
 
-abbrev pub PathShows : Path → (demand capacity setup unit holding : Lent) → Ends → (costs choices slots answer : Lent) → ℕ → Type 0
-PathShows P demand capacity setup unit holding ends costs choices slots answer r =
-    Shows
-    (λ a. Runs P (dayBefore demand capacity setup unit holding ends) (memoryBefore costs choices slots) a (memoryAfter costs choices slots))
-    answerFigures
-    answer
-    r
+abbrev pub PathShows : Path → (demand capacity setup unit holding : Lent) → Ends → (before after : Memory) → (answer : Lent) → ℕ → Type 0
+PathShows P demand capacity setup unit holding ends before after answer r =
+    Shows (λ a. Runs P (dayBefore demand capacity setup unit holding ends) before a after) answerFigures answer r
 
 abbrev pub ReadShows : (file demand capacity setup unit holding day : Lent) → ℕ → Type 0
 ReadShows file demand capacity setup unit holding day r =

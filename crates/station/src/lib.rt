@@ -1,9 +1,9 @@
 //! The library's calls as a C program has them: the answer as one code, its numbers in an out-array (include/yakkurem.h).
 ghost use mathlib.Core.Path.{_≡_};
 ghost use Rattle.day.specs.Refusals.{numberOf, periodOf};
-ghost use Rattle.day.specs.Paths.{full, uncapped, equal};
+ghost use Rattle.day.specs.Paths.{full, uncapped, equal, free};
 ghost use Rattle.day.specs.Day.{endsWith};
-ghost use Rattle.day.specs.Lent.{dayBefore};
+ghost use Rattle.day.specs.Lent.{dayBefore, memoryBefore, memoryAfter, cellsBefore, cellsAfter};
 ghost use Rattle.day.specs.Figures.{answerFigures};
 ghost use Rattle.dayfile.specs.Answers.{readFigures, writeFigures};
 ghost use Rattle.weigher.specs.Answers.{Weighs, Compares, weighedFigures, comparedFigures, ruleNumber};
@@ -123,7 +123,9 @@ pub extern "C" fn yakkurem_full(
     slots: &mut [u16],
     answer: &mut [u64; 2],
 ) -> u64
-    ensures { λ r. ⌜ PathShows full demand capacity setup unit holding (endsWith opening closing) costs choices slots answer r ⌝ }
+    ensures { λ r. ⌜
+        PathShows full demand capacity setup unit holding (endsWith opening closing)
+        (memoryBefore costs choices slots) (memoryAfter costs choices slots) answer r ⌝ }
 {
     let ends = Ends { opening, closing };
     let a = full::plan(
@@ -155,7 +157,9 @@ pub extern "C" fn yakkurem_uncapped(
     slots: &mut [u16],
     answer: &mut [u64; 2],
 ) -> u64
-    ensures { λ r. ⌜ PathShows uncapped demand capacity setup unit holding (endsWith opening closing) costs choices slots answer r ⌝ }
+    ensures { λ r. ⌜
+        PathShows uncapped demand capacity setup unit holding (endsWith opening closing)
+        (memoryBefore costs choices slots) (memoryAfter costs choices slots) answer r ⌝ }
 {
     let ends = Ends { opening, closing };
     let a = uncapped::plan(
@@ -187,7 +191,9 @@ pub extern "C" fn yakkurem_equal(
     slots: &mut [u16],
     answer: &mut [u64; 2],
 ) -> u64
-    ensures { λ r. ⌜ PathShows equal demand capacity setup unit holding (endsWith opening closing) costs choices slots answer r ⌝ }
+    ensures { λ r. ⌜
+        PathShows equal demand capacity setup unit holding (endsWith opening closing)
+        (memoryBefore costs choices slots) (memoryAfter costs choices slots) answer r ⌝ }
 {
     let ends = Ends { opening, closing };
     let a = equal::plan(
@@ -201,6 +207,29 @@ pub extern "C" fn yakkurem_equal(
         slots,
         ends,
     );
+    planned(a, answer)
+}
+
+// The plan of a day without setup cost; the answer is its cost and setups. No choice area is lent.
+#[no_mangle]
+pub extern "C" fn yakkurem_free(
+    demand: &[u16],
+    capacity: &[u16],
+    setup: &[u32],
+    unit: &[u32],
+    holding: &[u32],
+    opening: u16,
+    closing: u16,
+    costs: &mut [u64],
+    slots: &mut [u16],
+    answer: &mut [u64; 2],
+) -> u64
+    ensures { λ r. ⌜
+        PathShows free demand capacity setup unit holding (endsWith opening closing)
+        (cellsBefore costs slots) (cellsAfter costs slots) answer r ⌝ }
+{
+    let ends = Ends { opening, closing };
+    let a = free::plan(demand, capacity, setup, unit, holding, costs, slots, ends);
     planned(a, answer)
 }
 

@@ -1,5 +1,5 @@
 -- Any two paths agree on a day of both their kinds: the short paths give what the full path gives.
--- Main statements, demand 3: `uncapped-agrees`, `equal-agrees`. Assumes nothing.
+-- Main statements, demand 3: `uncapped-agrees`, `equal-agrees`, `free-agrees`. Assumes nothing.
 use mathlib.Core.Path.{_≡_, refl, sym, ap, ap₂, _∙_}
 use mathlib.Core.Option.{Option, none, some, Option·none-ne-some, Option·some-ne-none, Option·some-injective}
 use Prim.Native.Nat.{ℕ, _<_}
@@ -10,11 +10,11 @@ use Rattle.day.specs.declared.Answer.the-variants.{Refused, Planned}
 use Rattle.day.specs.Sums.{at, sum-ext}
 use Rattle.day.specs.Day.{Day, periods}
 use Rattle.day.specs.Plan.{setupAt}
-use Rattle.day.specs.Refusals.{first, unequal, binding}
+use Rattle.day.specs.Refusals.{first, unequal, binding, paidSetup}
 use Rattle.day.specs.Tests.{gives-is}
 use Rattle.day.specs.Figures.{first-value, second-value}
 use Rattle.day.specs.Outcome.{Memory, sizesOf, Path, Roomy, dayRefusal, roomy-refusal, Counts, Runs}
-use Rattle.day.specs.Paths.{full, uncapped, equal}
+use Rattle.day.specs.Paths.{full, uncapped, equal, free}
 use Rattle.day.specs.Search.{cost-alike}
 use Rattle.theory.specs.Demands.{plan-unique}
 
@@ -66,3 +66,7 @@ module _ (d : Day) (m m′ : Memory) (r : Answer) (after : Memory) (q : Answer) 
   -- Demand 3: and so does the equal path where capacities are equal.
   pub equal-agrees : Roomy equal d (sizesOf m) → unequal d ≡ none → Runs equal d m r after → Agree d r after q after′
   equal-agrees room kind a = paths-agree equal full d m m′ r after q after′ room room′ (rw kind refl) refl a b
+
+  -- Demand 3, by document 02, 2.3: and so does the free path where setups cost nothing.
+  pub free-agrees : Roomy free d (sizesOf m) → paidSetup d ≡ none → Runs free d m r after → Agree d r after q after′
+  free-agrees room kind a = paths-agree free full d m m′ r after q after′ room room′ (rw kind refl) refl a b

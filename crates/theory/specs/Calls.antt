@@ -1,6 +1,7 @@
 -- Demands 2 and 3 of the paths themselves, over their contracts.
 -- Main statements: `planned-iff`, `refused-first` (demand 2), `cheapest-first` (demand 3), which stand for the full path as `full-planned-iff`,
--- `full-refused-first`, `full-cheapest-first`; `equal-run-one`, `equal-run-others` (document 01, "Three paths, one plan": runs). Assumes nothing.
+-- `full-refused-first`, `full-cheapest-first`; `equal-run-one`, `equal-run-others` (document 01, "Three paths, one plan": runs); `free-in-turn-ends`,
+-- `free-in-turn` (document 02, 2.3: the rule). Assumes nothing.
 use mathlib.Core.Path.{_≡_, refl, sym, _∙_, subst}
 use mathlib.Core.List.{[], _∷_}
 use mathlib.Core.Logic.{_⊎_, inl, inr, ⊎-elim, _↔_}
@@ -14,22 +15,25 @@ use Rattle.day.specs.declared.Totals.{Totals}
 use Rattle.day.specs.declared.Answer.{Answer}
 use Rattle.day.specs.declared.Answer.the-variants.{Refused, Planned}
 use Rattle.day.specs.Sums.{at, sumTo, sum-grows}
-use Rattle.day.specs.Day.{Day, periods, netTo, net-before, net-end}
+use Rattle.day.specs.Day.{Day, periods, total, netTo, net-before, net-end}
 use Rattle.day.specs.Plan.{Feasible, Run, PartLoaded, cost}
-use Rattle.day.specs.Refusals.{first, dayTests, shortage, unequal}
+use Rattle.day.specs.InTurn.{ServedTo}
+use Rattle.day.specs.Refusals.{first, dayTests, shortage, unequal, paidSetup}
 use Rattle.day.specs.Tests.{gives-is, first-passed, first-one}
 use Rattle.day.specs.Figures.{first-value}
 use Rattle.day.specs.Outcome.{Memory, sizesOf, Path, Roomy, refusal, roomy-refusal, Runs}
-use Rattle.day.specs.Paths.{full, equal}
-use Rattle.checks.specs.Passed.{FirstShort, DayLimits, day-passes, equal-passed, admitted}
+use Rattle.day.specs.Paths.{full, equal, free}
+use Rattle.checks.specs.Passed.{FirstShort, DayLimits, day-passes, equal-passed, free-passed, admitted}
 use Rattle.theory.specs.Model.{Model, OptimalTo}
 use Rattle.theory.specs.Order.{LastSmaller, smaller-means}
 use Rattle.theory.specs.Cut.{feasible-less}
 use Rattle.theory.specs.Exchange.{Regeneration, interval-one, last-run}
+use Rattle.theory.specs.FreeSetups.{Free}
 use Rattle.theory.specs.Problem.{modelOf, model-rising, model-unlimited}
 use Rattle.theory.specs.Net.{problemOf, Fits, limits-fit, floor-is}
 use Rattle.theory.specs.Base.{same-plan}
-use Rattle.theory.specs.Demands.{shortage-iff, shortage-names}
+use Rattle.theory.specs.InTurn.{in-turn-optimal, in-turn-serves}
+use Rattle.theory.specs.Demands.{plan-unique, shortage-iff, shortage-names}
 
 -- the answer is a plan
 abbrev pub IsPlan : Answer → Type 0
@@ -139,3 +143,21 @@ module _ (d : Day) (m : Memory) (t : Totals) (after : Memory) (runs : Runs equal
       ⊎-elim (λ (e : x k ≡ at (d .capacity) k). inr (e ∙ c)) (λ (room : x k < at (d .capacity) k). absurd (h (some, room)))
       (eq-or-lt-of-le (runs .1 .plan .feasible .within k here)))
       (eq-zero-or-pos (x k))
+
+-- Document 02, 2.3: an accepted day of the free path has no setup cost,
+free-unpaid : (d : Day) (m : Memory) (t : Totals) (after : Memory) → Runs free d m (Planned t) after → Free (modelOf (problemOf d)) (periods d)
+free-unpaid d m t after runs = free-passed d (sym (first-one (paidSetup d)) ∙ admitted free d (sizesOf m) (runs .0) .own)
+
+-- the document's rule, watt-hour by watt-hour, comes to its end on it,
+pub free-in-turn-ends : (d : Day) (m : Memory) (t : Totals) (after : Memory) → Runs free d m (Planned t) after
+    → (x : ℕ → ℕ) × ServedTo d (total d) x
+free-in-turn-ends d m t after runs =
+    let ok = admitted free d (sizesOf m) (runs .0) in
+    in-turn-serves d (limits-fit (ok .day)) (free-unpaid d m t after runs) (at (after .slots)) (runs .1 .plan .feasible)
+
+-- and makes the answer's plan, though the path serves several watt-hours at once.
+pub free-in-turn : (d : Day) (m : Memory) (t : Totals) (after : Memory) → Runs free d m (Planned t) after
+    → (x : ℕ → ℕ) → ServedTo d (total d) x → (k : ℕ) → k < periods d → at (after .slots) k ≡ x k
+free-in-turn d m t after runs x served =
+    let ok = admitted free d (sizesOf m) (runs .0) in
+    plan-unique d (at (after .slots)) x (runs .1 .plan) (in-turn-optimal d (limits-fit (ok .day)) (free-unpaid d m t after runs) x served)

@@ -23,10 +23,17 @@ pub mod WagnerWhitin
 -- What the equal path computes (Florian and Klein).
 pub mod FlorianKlein
 pub mod Loads
--- What the loops run on; the days of documents 01 and 02 as such problems; demands 2 and 3; agreement of paths; the demands of the calls.
+-- What the free path computes (the greedy rule), and why.
+pub mod Compare
+pub mod Greedy
+pub mod FreeSetups
+pub mod Batches
+-- What the loops run on; the days of documents 01 and 02 as such problems; the rule of 2.3 on them; demands 2 and 3; agreement of paths; the
+-- demands of the calls.
 pub mod Problem
 pub mod Net
 pub mod Base
+pub mod InTurn
 pub mod Demands
 pub mod Agreement
 pub mod Calls

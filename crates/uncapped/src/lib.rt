@@ -67,8 +67,8 @@ fn work(
     let rates = &mut rate_table[0..n];
     net::fill(demand, holding, net, rates, ends);
     solve(net, setup, unit, rates, costs, choices, slots);
-    areas::clear_costs(costs, n + 1);
-    areas::clear_choices(choices, n + 1);
+    areas::clear_wide(costs, n + 1);
+    areas::clear_narrow(choices, n + 1);
     weigher::totals(demand, capacity, setup, unit, holding, slots, ends)
 }
 

@@ -41,6 +41,7 @@ calls_of_a_day! {
     fn yakkurem_full(*mut u64, usize, *mut u16, usize, *mut u16, usize, *mut u64);
     fn yakkurem_uncapped(*mut u64, usize, *mut u16, usize, *mut u16, usize, *mut u64);
     fn yakkurem_equal(*mut u64, usize, *mut u16, usize, *mut u16, usize, *mut u64);
+    fn yakkurem_free(*mut u64, usize, *mut u16, usize, *mut u64);
     fn yakkurem_weigh(*const u16, usize, *mut u64);
     fn yakkurem_compare(*const u16, usize, *const u16, usize, *mut i64);
     fn yakkurem_write(*mut u8, usize, *mut u64);
@@ -66,6 +67,10 @@ pub fn uncapped(day: Day, memory: Memory, answer: &mut [u64; 2]) -> u64 {
 
 pub fn equal(day: Day, memory: Memory, answer: &mut [u64; 2]) -> u64 {
     call_path!(yakkurem_equal, day, memory, answer)
+}
+
+pub fn free(day: Day, costs: &mut [u64], slots: &mut [u16], answer: &mut [u64; 2]) -> u64 {
+    call_with_day!(yakkurem_free, day, costs.as_mut_ptr(), costs.len(), slots.as_mut_ptr(), slots.len(), answer.as_mut_ptr())
 }
 
 pub fn weigh(day: Day, plan: &[u16], answer: &mut [u64; 2]) -> u64 {

@@ -33,7 +33,7 @@ pub struct Filled {
     pub closing: u16,
 }
 
-/// What a caller lends a path: its two work areas, and the slots for the plan.
+/// What a caller lends a path with two work areas: these, and the slots for the plan.
 pub struct Memory<'a> {
     pub costs: &'a mut [u64],
     pub choices: &'a mut [u16],
@@ -110,6 +110,15 @@ pub fn uncapped(day: Day, memory: Memory) -> Result<Totals, Refusal> {
 pub fn equal(day: Day, memory: Memory) -> Result<Totals, Refusal> {
     let mut answer = [0; 2];
     match codes::equal(day, memory, &mut answer) {
+        0 => Ok(totals(answer)),
+        code => Err(refusal(code)),
+    }
+}
+
+/// The plan of a day without starting cost, after Johnson and Veinott. It takes no choice area.
+pub fn free(day: Day, costs: &mut [u64], slots: &mut [u16]) -> Result<Totals, Refusal> {
+    let mut answer = [0; 2];
+    match codes::free(day, costs, slots, &mut answer) {
         0 => Ok(totals(answer)),
         code => Err(refusal(code)),
     }

@@ -67,7 +67,7 @@ returns c =
     let cleared = c .before .before in
     let none = cleared .before .before in
     let s = entry (none .before) in
-    idle (given s) (s .args .slots .now) _ (s .pre .constant) (none .if1 .taken) (cleared .clear-choices .ensures)
+    idle (given s) (s .args .slots .now) _ (s .pre .constant) (none .if1 .taken) (cleared .clear-narrow .ensures)
 
 rows-requires : tie.Need-rows-requires
 rows-requires c κs =

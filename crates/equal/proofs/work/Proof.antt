@@ -9,13 +9,13 @@ use Rattle.equal.proofs.work.Statement.{statement}
 use Rattle.equal.proofs.work.Tie as tie
 
 -- the places of the steps, each from a later one
-abbrev at-clear-choices : tie.After-totals-arg → tie.After-clear-choices
-at-clear-choices c = c .before .before .before
+abbrev at-clear-narrow : tie.After-totals-arg → tie.After-clear-narrow
+at-clear-narrow c = c .before .before .before
 
-abbrev at-clear-costs : tie.After-clear-choices-arg → tie.After-clear-costs
-at-clear-costs c = c .before .before .before
+abbrev at-clear-wide : tie.After-clear-narrow-arg → tie.After-clear-wide
+at-clear-wide c = c .before .before .before
 
-abbrev at-solve : tie.After-clear-costs-arg → tie.After-solve
+abbrev at-solve : tie.After-clear-wide-arg → tie.After-solve
 at-solve c = c .before .before .before .before .before .before .before .before .before
 
 abbrev at-cells : tie.After-solve-arg3 → tie.After-cells
@@ -48,23 +48,23 @@ solve-requires c κs =
     let s = begun n in
     solvable (given s) (lent s) (s .pre) _ (n .cells .ensures) _ _ (at-fill n .fill .ensures)
 
-clear-costs-requires : tie.Need-clear-costs-requires
-clear-costs-requires c κs =
+clear-wide-requires : tie.Need-clear-wide-requires
+clear-wide-requires c κs =
     let v = at-solve c in
     let n = at-cells (v .before) in
     let s = begun n in
     costs-back (given s) (lent s) (s .pre) _ (n .cells .ensures) (v .solve .last .1 .1 .1 .1 .1 .0) (v .solve .kept .1 .1 .1 .1 .1 .0)
 
-clear-choices-requires : tie.Need-clear-choices-requires
-clear-choices-requires c κs =
-    let v = at-solve (at-clear-costs c .before) in
+clear-narrow-requires : tie.Need-clear-narrow-requires
+clear-narrow-requires c κs =
+    let v = at-solve (at-clear-wide c .before) in
     let n = at-cells (v .before) in
     let s = begun n in
     choices-back (given s) (lent s) (s .pre) _ (n .cells .ensures) (v .solve .last .1 .1 .1 .1 .1 .1 .0) (v .solve .kept .1 .1 .1 .1 .1 .1 .0)
 
 totals-requires : tie.Need-totals-requires
 totals-requires c κs =
-    let v = at-solve (at-clear-costs (at-clear-choices c .before) .before) in
+    let v = at-solve (at-clear-wide (at-clear-narrow c .before) .before) in
     let n = at-cells (v .before) in
     let s = begun n in
     slots-feasible (given s) (lent s) (s .pre) _ (n .cells .ensures) _ _ (at-fill n .fill .ensures)
@@ -73,30 +73,30 @@ totals-requires c κs =
 -- each area is as long as it was, and so are the slots
 same-costs : tie.Need-same-length
 same-costs c =
-    let y = at-clear-costs (at-clear-choices (c .before) .before) in
+    let y = at-clear-wide (at-clear-narrow (c .before) .before) in
     let v = at-solve (y .before) in
     let n = at-cells (v .before) in
-    y .clear-costs .kept .0
+    y .clear-wide .kept .0
     ∙ back-length (n .cells .result .costs) (lent (begun n) .costs) (v .solve .last .1 .1 .1 .1 .1 .0) (v .solve .kept .1 .1 .1 .1 .1 .0)
 
 same-choices : tie.Need-same-length-2
 same-choices c =
-    let z = at-clear-choices (c .before) in
-    let v = at-solve (at-clear-costs (z .before) .before) in
+    let z = at-clear-narrow (c .before) in
+    let v = at-solve (at-clear-wide (z .before) .before) in
     let n = at-cells (v .before) in
-    z .clear-choices .kept .0
+    z .clear-narrow .kept .0
     ∙ back-length (n .cells .result .choices) (lent (begun n) .choices) (v .solve .last .1 .1 .1 .1 .1 .1 .0) (v .solve .kept .1 .1 .1 .1 .1 .1 .0)
 
 same-slots : tie.Need-same-length-3
 same-slots c =
-    let v = at-solve (at-clear-costs (at-clear-choices (c .before) .before) .before) in
+    let v = at-solve (at-clear-wide (at-clear-narrow (c .before) .before) .before) in
     let s = begun (at-cells (v .before)) in
     back-length (periods (given s)) (lent s .slots) (v .solve .last .1 .1 .1 .1 .1 .1 .1 .0) (v .solve .kept .1 .1 .1 .1 .1 .1 .1 .0)
 
 returns : tie.Need-returns
 returns c =
-    let z = at-clear-choices (c .before) in
-    let y = at-clear-costs (z .before) in
+    let z = at-clear-narrow (c .before) in
+    let y = at-clear-wide (z .before) in
     let v = at-solve (y .before) in
     let n = at-cells (v .before) in
     let s = begun n in
@@ -105,12 +105,12 @@ returns c =
     work-accepted (given s) (lent s) (s .pre) _ (n .cells .ensures) _ _ (at-fill n .fill .ensures)
     (last .1 .1 .1 .1 .1 .1 .1 .0) (kept .1 .1 .1 .1 .1 .1 .1 .0) (v .solve .ensures) _
     (last .1 .1 .1 .1 .1 .0) (last .1 .1 .1 .1 .1 .1 .0) _ _ (kept .1 .1 .1 .1 .1 .0) (kept .1 .1 .1 .1 .1 .1 .0)
-    (y .clear-costs .ensures) (z .clear-choices .ensures) (c .totals .ensures)
+    (y .clear-wide .ensures) (z .clear-narrow .ensures) (c .totals .ensures)
 
 pub work-spec : {M : Type 1} → statement M
 work-spec = tie.close (tie.spec
     (λ c. search needs) (λ c. search needs) (λ c. search needs) (λ c. search needs) (λ c. search needs) (λ c. search needs)
     fill-requires (λ c κs. search needs)
     (λ c. search needs) (λ c. search needs) (λ c. search needs) (λ c. search needs) (λ c. search needs) (λ c. search needs)
-    (λ c. search needs) (λ c. search needs) (λ c. search needs) solve-requires clear-costs-requires clear-choices-requires totals-requires
+    (λ c. search needs) (λ c. search needs) (λ c. search needs) solve-requires clear-wide-requires clear-narrow-requires totals-requires
     same-costs same-choices same-slots returns)

@@ -54,14 +54,14 @@ totals-requires c κs =
     let filled = netted (laid c .before) in
     left-feasible (begun (counted (filled .before)) .pre) (filled .fill .ensures) (called .ensures) (called .kept .1 .1 .1 .1 .1 .1 .1 .0)
 
-clear-costs-requires : tie.Need-clear-costs-requires
-clear-costs-requires c κs =
+clear-wide-requires : tie.Need-clear-wide-requires
+clear-wide-requires c κs =
     let called = laid (c .before .before) in
     let w = ready (netted (called .before)) in
     omega (arith, w .needed .costs, w .fillable .costCells, called .fill-and-read .kept .1 .1 .1 .1 .1 .0)
 
-clear-choices-requires : tie.Need-clear-choices-requires
-clear-choices-requires c κs =
+clear-narrow-requires : tie.Need-clear-narrow-requires
+clear-narrow-requires c κs =
     let called = laid (c .before .before .before .before .before .before) in
     let w = ready (netted (called .before)) in
     omega (arith, w .needed .choices, w .fillable .choiceCells, called .fill-and-read .kept .1 .1 .1 .1 .1 .1 .0)
@@ -76,7 +76,7 @@ returns c =
     let cells = counted (filled .before) in
     work-accepted (begun cells .pre) (filled .fill .ensures) (called .ensures) (called .kept .1 .1 .1 .1 .1 .1 .1 .0)
     (cells .before .total .ensures .is) (cells .cells .ensures) (weighed .totals .ensures)
-    (costs .clear-costs .ensures) (cleared .clear-choices .ensures)
+    (costs .clear-wide .ensures) (cleared .clear-narrow .ensures)
 
 pub work-spec : {M : Type 1} → statement M
 work-spec =
@@ -85,5 +85,5 @@ work-spec =
     total-requires (λ c κs. (start (c .before) .pre .day .limits .few, c .total .ensures .low))
     (λ c. search needs) (λ c. search needs) (λ c. begun c .pre .day .limits .few)
     (λ c. search needs) (λ c. search needs) (λ c. begun (c .before) .pre .day .limits .few) fill-requires
-    (λ c κs. ready (netted c)) totals-requires clear-costs-requires clear-choices-requires
+    (λ c κs. ready (netted c)) totals-requires clear-wide-requires clear-narrow-requires
     (λ c. search needs) (λ c. search needs) (λ c. search needs) returns)

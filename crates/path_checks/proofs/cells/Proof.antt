@@ -33,10 +33,13 @@ returns-2 c = rw (c .enum-told2 .given .1) (record { costs = refl; choices = ref
 returns-3 : tie.Need-returns-3
 returns-3 c = rw (c .enum-told3 .given .1) (record { costs = refl; choices = refl })
 
+returns-4 : tie.Need-returns-4
+returns-4 c = rw (c .enum-told4 .given .1) (record { costs = refl; choices = refl })
+
 pub cells-spec : {M : Type 1} → statement M
 cells-spec =
     tie.close
     (tie.spec
     (λ c. search needs) (λ c. search needs) (λ c. search needs) (λ c. search needs) mul-t8 (λ c. search needs) (λ c. search needs)
     (λ c. search needs) (λ c. search needs) (λ c. search needs) (λ c. search needs) (λ c. search needs) (λ c. search needs)
-    mul-t15 mul-t16 returns returns-2 returns-3)
+    mul-t15 mul-t16 (λ c. search needs) returns returns-2 returns-3 returns-4)

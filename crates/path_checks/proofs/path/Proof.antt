@@ -1,13 +1,11 @@
 -- `path_checks::path` meets its contract: the first refusal of the day, or that of the path after it. Assumes nothing.
 use mathlib.Core.Path.{_≡_, refl}
-use mathlib.Core.List.{List, []}
+use mathlib.Core.List.{[]}
 use mathlib.Core.Option.{none}
-use Prim.Native.Nat.{ℕ}
 use borrow.Author.Needs.{needs}
 use Rattle.day.specs.declared.PathKind.{PathKind}
-use Rattle.day.specs.declared.PathKind.the-variants.{Full, Uncapped, Equal}
-use Rattle.day.specs.declared.Ends.{Ends}
-use Rattle.day.specs.Day.{Day, dayOf}
+use Rattle.day.specs.declared.PathKind.the-variants.{Full, Uncapped, Equal, Free}
+use Rattle.day.specs.Day.{Day, dayOf, endsOf}
 use Rattle.day.specs.declared.Check.{Check}
 use Rattle.day.specs.Refusals.{checked, first, dayTests}
 use Rattle.day.specs.Tests.{passed, group-refused, group-decides}
@@ -17,13 +15,14 @@ use Rattle.checks.specs.Passed.{day-passed}
 use Rattle.path_checks.proofs.path.Statement.{statement}
 use Rattle.path_checks.proofs.path.Tie as tie
 
--- no path's tests look at costs
-two-tables : (kind : PathKind) (demand capacity setup unit holding : List ℕ) (ends : Ends) (s : Sizes) {answer : Check}
-    → answer ≡ checked (first (pathTests (pathOf kind) (dayOf demand capacity [] [] [] ends) s))
-    → answer ≡ checked (first (pathTests (pathOf kind) (dayOf demand capacity setup unit holding ends) s))
-two-tables Full demand capacity setup unit holding ends s is = is
-two-tables Uncapped demand capacity setup unit holding ends s is = is
-two-tables Equal demand capacity setup unit holding ends s is = is
+-- no path's tests look at unit costs or upkeep
+three-tables : (kind : PathKind) (d : Day) (s : Sizes) {answer : Check}
+    → answer ≡ checked (first (pathTests (pathOf kind) (dayOf (d .demand) (d .capacity) (d .setup) [] [] (endsOf d)) s))
+    → answer ≡ checked (first (pathTests (pathOf kind) d s))
+three-tables Full d s is = is
+three-tables Uncapped d s is = is
+three-tables Equal d s is = is
+three-tables Free d s is = is
 
 abbrev start : tie.After-day → tie.Start
 start c = c .before .before .before .before .before .before
@@ -48,15 +47,14 @@ returns c =
 room-requires : tie.Need-room-requires
 room-requires c κs =
     let day = day-passed (given (c .before .before)) (tested c) in
-    (day .limits .lengths .capacity, (day .limits .few, day .used))
+    (day .limits .lengths .capacity, (day .limits .lengths .setup, (day .limits .few, day .used)))
 
 returns-2 : tie.Need-returns-2
 returns-2 c =
     let p = c .before .before .before in
-    let a = start p .args in
-    let tests = pathTests (pathOf (a .kind)) (given p) (lent p) in
-    let is = two-tables (a .kind) (a .demand .now) (a .capacity .now) (a .setup .now) (a .unit .now) (a .holding .now) (a .ends) (lent p) (c .room .ensures) in
-    group-decides (dayTests (given p)) tests (tested (c .before)) is
+    let kind = start p .args .kind in
+    let is = three-tables kind (given p) (lent p) (c .room .ensures) in
+    group-decides (dayTests (given p)) (pathTests (pathOf kind) (given p) (lent p)) (tested (c .before)) is
 
 pub path-spec : {M : Type 1} → statement M
 path-spec = tie.close (tie.spec (λ c κs. search needs) (λ c. search needs) returns (λ c. search needs) room-requires returns-2)

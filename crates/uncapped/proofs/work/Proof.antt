@@ -9,13 +9,13 @@ use Rattle.uncapped.proofs.work.Statement.{statement}
 use Rattle.uncapped.proofs.work.Tie as tie
 
 -- the places of the steps, each from a later one
-abbrev at-clear-choices : tie.After-totals-arg → tie.After-clear-choices
-at-clear-choices c = c .before .before .before
+abbrev at-clear-narrow : tie.After-totals-arg → tie.After-clear-narrow
+at-clear-narrow c = c .before .before .before
 
-abbrev at-clear-costs : tie.After-clear-choices-arg → tie.After-clear-costs
-at-clear-costs c = c .before .before .before
+abbrev at-clear-wide : tie.After-clear-narrow-arg → tie.After-clear-wide
+at-clear-wide c = c .before .before .before
 
-abbrev at-solve : tie.After-clear-costs-arg → tie.After-solve
+abbrev at-solve : tie.After-clear-wide-arg → tie.After-solve
 at-solve c = c .before .before .before .before .before .before .before .before .before
 
 abbrev at-fill : tie.After-solve-arg3 → tie.After-fill
@@ -42,37 +42,37 @@ fill-requires c κs = let s = opened (lending c) in limits-fill (given s) (s .pr
 solve-requires : tie.Need-solve-requires
 solve-requires c κs = let f = at-fill c in let s = begun f in solvable (given s) (lent s) (s .pre) _ _ (f .fill .ensures)
 
-add-clear-choices : tie.Need-add-clear-choices
-add-clear-choices c =
-    let v = at-solve (at-clear-costs c .before) in
+add-clear-narrow : tie.Need-add-clear-narrow
+add-clear-narrow c =
+    let v = at-solve (at-clear-wide c .before) in
     omega (arith, begun (at-fill (v .before)) .pre .day .limits .few)
 
-clear-choices-requires : tie.Need-clear-choices-requires
-clear-choices-requires c κs =
-    let v = at-solve (at-clear-costs c .before) in
+clear-narrow-requires : tie.Need-clear-narrow-requires
+clear-narrow-requires c κs =
+    let v = at-solve (at-clear-wide c .before) in
     omega (arith, begun (at-fill (v .before)) .pre .room .choices, v .solve .kept .1 .1 .1 .1 .1 .0)
 
 totals-requires : tie.Need-totals-requires
 totals-requires c κs =
-    let v = at-solve (at-clear-costs (at-clear-choices c .before) .before) in
+    let v = at-solve (at-clear-wide (at-clear-narrow c .before) .before) in
     let f = at-fill (v .before) in
     let s = begun f in
     slots-feasible (given s) (lent s) (s .pre) _ _ (f .fill .ensures) _ (v .solve .ensures)
 
 returns : tie.Need-returns
 returns c =
-    let z = at-clear-choices (c .before) in
-    let y = at-clear-costs (z .before) in
+    let z = at-clear-narrow (c .before) in
+    let y = at-clear-wide (z .before) in
     let v = at-solve (y .before) in
     let f = at-fill (v .before) in
     let s = begun f in
     work-accepted (given s) (lent s) (s .pre) _ _ (f .fill .ensures) _ (v .solve .ensures) _ _ _ (c .totals .ensures)
-    (y .clear-costs .ensures) (z .clear-choices .ensures)
+    (y .clear-wide .ensures) (z .clear-narrow .ensures)
 
 pub work-spec : {M : Type 1} → statement M
 work-spec =
     tie.close
     (tie.spec
     (λ c. search needs) (λ c. search needs) (λ c. search needs) (λ c. search needs) (λ c. search needs) (λ c. search needs)
-    fill-requires solve-requires (λ c. search needs) (λ c κs. search needs) add-clear-choices clear-choices-requires totals-requires
+    fill-requires solve-requires (λ c. search needs) (λ c κs. search needs) add-clear-narrow clear-narrow-requires totals-requires
     (λ c. search needs) (λ c. search needs) (λ c. search needs) returns)

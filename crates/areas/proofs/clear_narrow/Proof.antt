@@ -1,18 +1,18 @@
--- `areas::clear_costs` meets its contract by the laws of `Clearing`. Assumes nothing.
+-- `areas::clear_narrow` meets its contract by the laws of `Clearing`. Assumes nothing.
 use Prim.Native.Nat.{_-_}
 use native.Mathlib.Omega.{arith}
 use Rattle.areas.proofs.Clearing.{Clearing, clearing-none, clearing-more, clearing-all}
-use Rattle.areas.proofs.clear_costs.Statement.{statement}
-use Rattle.areas.proofs.clear_costs.Tie as tie
+use Rattle.areas.proofs.clear_narrow.Statement.{statement}
+use Rattle.areas.proofs.clear_narrow.Tie as tie
 
 abbrev Inv-loop : tie.InvT-loop
-Inv-loop costs₀ cells k₀ costs k = Clearing costs₀ cells k costs
+Inv-loop narrow₀ cells k₀ narrow k = Clearing narrow₀ cells k narrow
 
 abbrev μ-loop : tie.MeasureT-loop
-μ-loop costs₀ cells k₀ costs k = cells - k
+μ-loop narrow₀ cells k₀ narrow k = cells - k
 
-pub clear-costs-spec : {M : Type 1} → statement M
-clear-costs-spec =
+pub clear-narrow-spec : {M : Type 1} → statement M
+clear-narrow-spec =
     tie.close
     (tie.spec
     Inv-loop μ-loop (λ c. clearing-none) (λ c. omega (arith, c .before .before .good)) (λ c. omega arith) (λ c. omega arith)

@@ -1,18 +1,18 @@
--- `areas::clear_choices` meets its contract by the laws of `Clearing`. Assumes nothing.
+-- `areas::clear_wide` meets its contract by the laws of `Clearing`. Assumes nothing.
 use Prim.Native.Nat.{_-_}
 use native.Mathlib.Omega.{arith}
 use Rattle.areas.proofs.Clearing.{Clearing, clearing-none, clearing-more, clearing-all}
-use Rattle.areas.proofs.clear_choices.Statement.{statement}
-use Rattle.areas.proofs.clear_choices.Tie as tie
+use Rattle.areas.proofs.clear_wide.Statement.{statement}
+use Rattle.areas.proofs.clear_wide.Tie as tie
 
 abbrev Inv-loop : tie.InvT-loop
-Inv-loop choices₀ cells k₀ choices k = Clearing choices₀ cells k choices
+Inv-loop wide₀ cells k₀ wide k = Clearing wide₀ cells k wide
 
 abbrev μ-loop : tie.MeasureT-loop
-μ-loop choices₀ cells k₀ choices k = cells - k
+μ-loop wide₀ cells k₀ wide k = cells - k
 
-pub clear-choices-spec : {M : Type 1} → statement M
-clear-choices-spec =
+pub clear-wide-spec : {M : Type 1} → statement M
+clear-wide-spec =
     tie.close
     (tie.spec
     Inv-loop μ-loop (λ c. clearing-none) (λ c. omega (arith, c .before .before .good)) (λ c. omega arith) (λ c. omega arith)

@@ -1,0 +1,3 @@
+-- Laws of the loops and of the call.
+pub mod Solving
+pub mod Entry
