@@ -153,10 +153,10 @@ const PATHS: [(Path, &str); 3] = [(Path::Full, "full"), (Path::Uncapped, "uncapp
 /// The free path beside those that may serve the same days: what a station would take without it.
 fn without_starts() {
     println!("\n## Days without starting cost\n");
-    println!("The library's paths on the same days; the ratios are the free path's. Its time grows with n and not with R.\n");
+    println!("The library's paths on the same days; the ratios are the free path's. It serves at most 2 × n batches, whatever R is.\n");
     println!("| n | R | Capacity | full | uncapped | free | To the plain program | To recursion (5) |");
     println!("|---|---|---|---|---|---|---|---|");
-    let of_96 = [500, 4000].into_iter().flat_map(|total| [60, 500, 65_535].map(|capacity| (96, total, capacity)));
+    let of_96 = [500, 4096].into_iter().flat_map(|total| [60, 500, 65_535].map(|capacity| (96, total, capacity)));
     let shorter = [12, 24, 48].into_iter().flat_map(|n| [60, 65_535].map(|capacity| (n, 500, capacity)));
     for (n, total, capacity) in of_96.chain(shorter) {
         let day = free_day(n, total, capacity);
@@ -196,11 +196,11 @@ fn main() {
     println!("|---|---|---|---|");
     for n in [12, 24, 48, 96] {
         let capped = day(n, 500, 60);
-        let free = day(n, 500, 65_535);
+        let unbound = day(n, 500, 65_535);
         println!(
             "| {n} | {} | {} | {} |",
             alone(Path::Full, &capped).time(),
-            alone(Path::Uncapped, &free).time(),
+            alone(Path::Uncapped, &unbound).time(),
             alone(Path::Equal, &capped).time()
         );
     }
@@ -209,12 +209,12 @@ fn main() {
     println!("|---|---|---|---|---|");
     for total in [512, 1024, 2048, 4096] {
         let capped = day(96, total, 60);
-        let free = day(96, total, 65_535);
+        let unbound = day(96, total, 65_535);
         println!(
             "| {total} | {} | {} | {} | {} |",
             alone(Path::Full, &capped).time(),
-            alone(Path::Full, &free).time(),
-            alone(Path::Uncapped, &free).time(),
+            alone(Path::Full, &unbound).time(),
+            alone(Path::Uncapped, &unbound).time(),
             alone(Path::Equal, &capped).time()
         );
     }

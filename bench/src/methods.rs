@@ -99,7 +99,7 @@ pub fn uncapped(day: &Day, costs: &mut [u64], choices: &mut [u16], slots: &mut [
 }
 
 /// The greedy rule of the report's section 4, in batches: from the cheapest period with capacity left as much as it has, or as is needed.
-/// Upkeep to the end of the day, in place of that spared since its beginning, keeps the order of periods and stays above zero.
+/// Upkeep to the end of the day, in place of that spared since its beginning, keeps the order of periods and never lies below zero.
 pub fn free(day: &Day, costs: &mut [u64], slots: &mut [u16]) -> u64 {
     let n = day.periods();
     let mut held = 0;

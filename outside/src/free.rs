@@ -1,4 +1,4 @@
-//! Inputs for request 2.3: days without starting cost, with ties and at the limits; start costs in every period; all lengths of what is lent.
+//! Inputs for request 2.3: days without starting cost, with ties and at the limits; start costs in every period; lent memory shorter than needed, as long, and longer.
 use crate::ends;
 use crate::input::{self, Call, Ends, Input, Size};
 use crate::plain::{self, Day};
@@ -36,13 +36,13 @@ fn costs() -> [(Vec<u32>, Vec<u32>); 8] {
         // a million less with each period, down to 94 millions below zero
         (vec![unit; N], vec![holding; N]),
         (vec![0; N], vec![holding; N]),
-        // two periods alike each time, a million less with the next two; and the same for the later of two and the next
+        // two periods alike each time, two million less with the next two; and the same for the later of two and the next
         (by(|i| i % 2 * 1_000_000), vec![holding; N]),
         (by(|i| (i + 1) % 2 * 1_000_000), vec![holding; N]),
         // all alike: without upkeep, and with
         (vec![unit; N], vec![0; N]),
         (by(|i| 10_000 * i), vec![5000; N]),
-        // dearer with each period; and cheaper, but for upkeep in one
+        // dearer with each period; and cheaper with each, with upkeep in one alone
         (by(|i| 10_500 * i), vec![5000; N]),
         (by(|i| 1_000_000 - 10_000 * i), by(|i| if i == 48 { 500_000 } else { 0 })),
     ]
@@ -97,7 +97,7 @@ fn starts() -> Vec<Input> {
     inputs
 }
 
-/// Areas and slots of every length around the needed one, on days of few and of many periods, and of more than there may be.
+/// Areas and slots shorter than needed, as long, and longer, on days of few and of many periods, and of more than there may be.
 fn lengths() -> Vec<Input> {
     let mut inputs = vec![];
     for n in [1, 2, 3, N - 1, N, N + 1] {

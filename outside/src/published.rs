@@ -33,7 +33,7 @@ const INSTANCES: [Instance; 2] = [
     },
 ];
 
-/// Every instance as an input of every path, with one capacity throughout that can't bind: the largest there is, and the whole
+/// Every instance as an input of the full, the uncapped and the equal path, with one capacity throughout that can't bind: the largest there is, and the whole
 /// demand. The plain implementation has the plan and the published cost of each, doubled: there upkeep is paid once on what a period leaves;
 /// here it is paid again in the next period, on the charge before it, and there is no charge at the ends. With starts doubled too, every plan
 /// costs twice as much.

@@ -8,21 +8,21 @@ use lib.Signed.{_≤ℤ_}
 use Rattle.day.specs.Sums.{at, sumTo}
 use Rattle.day.specs.Day.{Day, periods, netTo}
 
--- the upkeep spared by making a unit in period k + 1 and not in period 1: it is not in the charge left after each period between, on which that
--- period pays, and the next one as the charge before it
+-- the upkeep spared by making a unit in period k + 1 and not in period 1: it is then not in the charge left after periods 1 to k, for which each of
+-- them pays, and the next one as the charge before it
 abbrev pub spared : Day → ℕ → ℕ
 spared d k = sumTo (λ j. at (d .holding) j + at (d .holding) (suc j)) k
 
 -- by this periods compare: unit cost less the upkeep spared; it can lie below zero
-abbrev pub netCost : Day → ℕ → ℤ
-netCost d k = pos (at (d .unit) k) -ℤ pos (spared d k)
+abbrev pub signedCost : Day → ℕ → ℤ
+signedCost d k = pos (at (d .unit) k) -ℤ pos (spared d k)
 
 -- beside the amounts x, period k + 1 is the cheapest that is not after period i + 1 and has capacity left, the earliest of equals
 pub record Cheapest (d : Day) (x : ℕ → ℕ) (i k : ℕ) : Type 0 where
   pub before : k ≤ i
   pub room : x k < at (d .capacity) k
-  pub cheap : (j : ℕ) → j ≤ i → x j < at (d .capacity) j → netCost d k ≤ℤ netCost d j
-  pub early : (j : ℕ) → j < k → x j < at (d .capacity) j → ¬ (netCost d j ≤ℤ netCost d k)
+  pub cheap : (j : ℕ) → j ≤ i → x j < at (d .capacity) j → signedCost d k ≤ℤ signedCost d j
+  pub early : (j : ℕ) → j < k → x j < at (d .capacity) j → ¬ (signedCost d j ≤ℤ signedCost d k)
 
 -- the watt-hour after the first t is needed in period i + 1: those that A covers are not counted, and those of Z are the last
 pub record NeededIn (d : Day) (t i : ℕ) : Type 0 where

@@ -84,8 +84,11 @@ abbrev pub Counts : Day → (ℕ → ℕ) → Totals → Type 0
 Counts d x t = answerFigures (Planned t) ≡ acceptedWith (cost d x ∷ setups (periods d) x ∷ [])
 
 -- the first k cells hold zero, and the later ones what they held
+abbrev pub cleared : ℕ → List ℕ → List ℕ
+cleared k before = replicate k 0 ++ drop k before
+
 abbrev pub Cleared : ℕ → List ℕ → List ℕ → Type 0
-Cleared k before after = after ≡ replicate k 0 ++ drop k before
+Cleared k before after = after ≡ cleared k before
 
 -- an accepted call: the first n slots hold the plan, the needed cells of both areas hold zero, the rest is as it was
 pub record Accepted (P : Path) (d : Day) (t : Totals) (before after : Memory) : Type 0 where

@@ -13,7 +13,7 @@ use Rattle.day.specs.Day.{Day}
 use Rattle.day.specs.Day as Day
 use Rattle.day.specs.Plan.{Optimal}
 use Rattle.day.specs.Tests.{first-one}
-use Rattle.day.specs.Outcome.{Memory, memoryOf, sizesOf, Cleared, Accepted}
+use Rattle.day.specs.Outcome.{Memory, memoryOf, sizesOf, cleared, Cleared, Accepted}
 use Rattle.day.specs.Paths.{free}
 use Rattle.checks.specs.Passed.{Admitted, free-passed}
 use Rattle.weigher.specs.Verdict.{totalsOf}
@@ -24,7 +24,7 @@ use Rattle.theory.specs.Net.{netNeeds, ratesOf, NetTables, problemOf, limits-fi
 use Rattle.theory.specs.Base.{optimal-iff}
 use Rattle.theory.specs.FreeSetups.{Free}
 use Rattle.theory.specs.Batches.{Filled, Solves, greedy, greedy-right}
-use Rattle.free.specs.Solved.{freeOf, Solvable, cleared, Solved}
+use Rattle.free.specs.Solved.{freeOf, Solvable, Solved}
 use Rattle.free.proofs.Solving.{cleared-length, cleared-fresh}
 
 -- what the loops run on, for a day

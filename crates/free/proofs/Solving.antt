@@ -8,7 +8,7 @@ use Prim.Native.Nat.{ℕ, _≤_, _<_}
 use native.Mathlib.Omega.{arith}
 use lib.ListN.{length, drop, replicate, length-append, length-drop, length-replicate, getD-replicate, List·getD-append}
 use Rattle.day.specs.Sums.{at}
-use Rattle.day.specs.Outcome.{Memory, memoryOf, Cleared}
+use Rattle.day.specs.Outcome.{Memory, memoryOf, cleared, Cleared}
 use Rattle.theory.specs.Model.{Model}
 use Rattle.theory.specs.Problem.{Problem, periods, modelOf, model-rising, model-unlimited, covered-iff}
 use Rattle.theory.specs.Greedy.{keyOf, greedyTo, greedyTo-same}
@@ -16,7 +16,7 @@ use Rattle.theory.specs.FreeSetups.{key}
 use Rattle.theory.specs.Batches.{Fresh, Filled, greedy, greedy-covered}
 use Rattle.greedy.specs.Keys.{Keyed}
 use Rattle.greedy.specs.Search.{Told}
-use Rattle.free.specs.Solved.{freeOf, Solvable, cleared, Solved}
+use Rattle.free.specs.Solved.{freeOf, Solvable, Solved}
 
 -- n slots cleared are fresh
 pub cleared-length : (n : ℕ) (slots : List ℕ) → n ≤ length slots → length (cleared n slots) ≡ length slots
@@ -29,6 +29,11 @@ cleared-fresh n slots l =
       zeros = λ k h.
           List·getD-append (replicate n 0) (drop n slots) 0 k (omega (arith, length-replicate {A = ℕ} n 0)) ∙ getD-replicate n k 0 0 h;
     }
+
+-- what a loop tells where there is something to find
+told-found : (o : Option (List ℕ)) (g slots : List ℕ) (r : Bool) → o ≡ some g → Told r o slots → o ≡ some slots
+told-found o g slots true e t = t
+told-found o g slots false e t = absurd (Option·none-ne-some g (sym t ∙ e))
 
 -- What the steps of `solve` leave: keys in the cost cells, slots cleared, and the rule's amounts, which it finds.
 module _ (demand capacity unit holding : List ℕ) (m : Memory) (ok : Solvable (freeOf demand capacity unit holding) m) where
@@ -46,11 +51,6 @@ module _ (demand capacity unit holding : List ℕ) (m : Memory) (ok : Solvable (
   finds =
       greedy-covered M (model-rising p) (model-unlimited p) n (λ k l. refl) (cleared n (m .slots)) (cleared-fresh n (m .slots) (ok .room))
       (at demand) (λ k l. refl) (covered-iff p .1 (ok .supplied))
-
-  -- so what the loop tells is it
-  told-found : (o : Option (List ℕ)) (g slots : List ℕ) (r : Bool) → o ≡ some g → Told r o slots → o ≡ some slots
-  told-found o g slots true e t = t
-  told-found o g slots false e t = absurd (Option·none-ne-some g (sym t ∙ e))
 
   -- the keys in the cells are the model's
   cells-key : (costs : List ℕ) → Keyed unit holding (m .costs) costs → (k : ℕ) → k < n → at costs k ≡ key M n k

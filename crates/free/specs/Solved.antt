@@ -1,12 +1,12 @@
 -- What `solve` asks and leaves. Main definitions: `Solvable`, `Solved`. Assumes nothing.
 use mathlib.Core.Path.{_≡_}
-use mathlib.Core.List.{List, [], _++_}
+use mathlib.Core.List.{List, []}
 use mathlib.Core.Option.{some}
 use Prim.Native.Nat.{ℕ, _≤_}
-use lib.ListN.{length, drop, replicate}
+use lib.ListN.{length, drop}
 use Rattle.day.specs.Sums.{at}
 use Rattle.day.specs.Day.{maxPeriods}
-use Rattle.day.specs.Outcome.{Memory}
+use Rattle.day.specs.Outcome.{Memory, cleared}
 use Rattle.theory.specs.Problem.{Problem, problemWith, periods, modelOf, Supplied}
 use Rattle.theory.specs.Batches.{greedy}
 
@@ -23,10 +23,6 @@ pub record Solvable (p : Problem) (m : Memory) : Type 0 where
   pub supplied : Supplied p
   pub cost-cells : periods p ≤ length (m .costs)
   pub room : periods p ≤ length (m .slots)
-
--- n slots cleared
-abbrev pub cleared : ℕ → List ℕ → List ℕ
-cleared n slots = replicate n 0 ++ drop n slots
 
 -- the slots hold what the greedy rule gives; n cost cells are free, and all else is as it was
 pub record Solved (p : Problem) (before after : Memory) : Type 0 where

@@ -1,7 +1,8 @@
-//! The greedy rule of the free path (report, section 4): the needs in turn, each in batches from the period that is best for it.
+//! The greedy rule of the free path (report, section 4; document 02, 2.3): the needs in turn, each in batches from the period that is best for it.
 //! A batch ends the need or fills a period, so there are at most twice as many batches as periods, each found in one pass.
 ghost use mathlib.Core.Path.{_≡_};
 ghost use Prim.Native.Nat.{_≤_, min};
+ghost use lib.Dec.{ltb};
 ghost use lib.ListN.{length};
 ghost use Rattle.day.specs.Sums.{at};
 ghost use Rattle.day.specs.Day.{maxPeriods};
@@ -23,25 +24,20 @@ pub fn keys(unit: &[u32], holding: &[u32], cells: &mut [u64])
     }
 }
 
-// The best period so far, if some period has capacity left.
+// The best period so far and its key; where none has capacity left, `at` is past them all.
 pub struct Best {
-    pub found: bool,
     pub at: usize,
     pub key: u64,
 }
 
 // Period k against the best of those before it: it has to be cheaper.
-fn nearer(best: Best, k: usize, key: u64) -> Best
-    ensures { λ r. ⌜ r ≡ against best k key (best .found) ⌝ }
+fn cheaper(best: Best, k: usize, key: u64) -> Best
+    ensures { λ r. ⌜ r ≡ against best k key (ltb (best .at) k) ⌝ }
 {
-    if best.found && best.key <= key {
+    if best.at < k && best.key <= key {
         return best;
     }
-    Best {
-        found: true,
-        at: k,
-        key,
-    }
+    Best { at: k, key }
 }
 
 // And it has to have capacity left.
@@ -51,19 +47,15 @@ fn offer(best: Best, k: usize, key: u64, capacity: u16, made: u16) -> Best
     if capacity <= made {
         return best;
     }
-    nearer(best, k, key)
+    cheaper(best, k, key)
 }
 
 // The best of the first d periods.
 fn source(keys: &[u64], capacity: &[u16], slots: &[u16], d: usize) -> Best
     requires { ⌜ (d ≤ length (now keys)) × (d ≤ length (now capacity)) × (d ≤ length (now slots)) ⌝ }
-    ensures { λ r. ⌜ Found (at (now (keys .entry))) (at (now (capacity .entry))) (at (now (slots .entry))) d r ⌝ }
+    ensures { λ r. ⌜ Found (at (now (keys .entry))) (at (now (capacity .entry))) (at (now (slots .entry))) d d r ⌝ }
 {
-    let mut best = Best {
-        found: false,
-        at: 0,
-        key: 0,
-    };
+    let mut best = Best { at: d, key: 0 };
     let mut k = 0;
     while k < d {
         best = offer(best, k, keys[k], capacity[k], slots[k]);
@@ -86,7 +78,7 @@ fn serve(keys: &[u64], capacity: &[u16], slots: &mut [u16], d: usize, need: u16)
     let mut left = need;
     while 0 < left {
         let best = source(keys, capacity, slots, d);
-        if !best.found {
+        if d <= best.at {
             return false;
         }
         let k = best.at;
@@ -97,7 +89,7 @@ fn serve(keys: &[u64], capacity: &[u16], slots: &mut [u16], d: usize, need: u16)
     true
 }
 
-// Every need in turn, into slots that hold 0; false where there is no plan.
+// Every need in turn, on top of what the slots hold; false where capacities do not suffice.
 pub fn serve_all(need: &[u16], keys: &[u64], capacity: &[u16], slots: &mut [u16]) -> bool
     requires { ⌜ (length (now need) ≤ length (now keys)) × (length (now need) ≤ length (now capacity)) × (length (now need) ≤ length (now slots)) ⌝ }
     ensures { λ r. ⌜

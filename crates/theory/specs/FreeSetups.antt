@@ -1,5 +1,5 @@
 -- Where all setups are free, units served in turn, each from the period that is best for it, are units of the optimal plan (document 02, 2.3;
--- report, section 4). No limit is asked of capacities or of the total.
+-- report, section 4). No limit is asked of capacities or of the total; ceilings must not bind.
 -- Main definitions: `key`, `Progress`. Main statements: `key-order`; `progress-turn`, what is served stays part of the plan, whether units go one by
 -- one or several at once to one period; `no-plan`; `done-optimal`. Assumes nothing.
 use mathlib.Core.Path.{_≡_, refl, sym, ap}

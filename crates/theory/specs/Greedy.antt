@@ -100,13 +100,13 @@ module _ (key capacity x : ℕ → ℕ) (d : ℕ) where
       }
 
 module _ (key capacity x : ℕ → ℕ) where
-  nearer : (d j : ℕ) (t : Dec (key d < key j)) → x d < capacity d → Source key capacity x d j → Source key capacity x (suc d) (pick t d j)
-  nearer d j (yes h) r s = now-cheapest key capacity x d r (λ i l q. omega (arith, s .cheap i l q))
-  nearer d j (no h) r s = no-cheaper key capacity x d j (omega arith) s
+  cheaper : (d j : ℕ) (t : Dec (key d < key j)) → x d < capacity d → Source key capacity x d j → Source key capacity x (suc d) (pick t d j)
+  cheaper d j (yes h) r s = now-cheapest key capacity x d r (λ i l q. omega (arith, s .cheap i l q))
+  cheaper d j (no h) r s = no-cheaper key capacity x d j (omega arith) s
 
   preferred : (d : ℕ) (o : Option ℕ) → x d < capacity d → Sources key capacity x d o → Sources key capacity x (suc d) (prefer key d o)
   preferred d none r s = now-cheapest key capacity x d r (λ i l q. absurd (omega (arith, s i l)))
-  preferred d (some j) r s = nearer d j (decLt (key d) (key j)) r s
+  preferred d (some j) r s = cheaper d j (decLt (key d) (key j)) r s
 
   offered : (d : ℕ) (t : Dec (x d < capacity d)) (o : Option ℕ) → Sources key capacity x d o → Sources key capacity x (suc d) (offer t key d o)
   offered d (yes h) o s = preferred d o h s
@@ -126,7 +126,7 @@ module _ (key capacity x : ℕ → ℕ) where
       go (no l) (yes r) = absurd (omega (arith, p .early j r (q .room), q .cheap i (p .inside) (p .room)))
       go (no l) (no r) = omega arith
 
-  pub source-is : (d k : ℕ) → Source key capacity x d k → source key capacity x d ≡ some k
+  source-is : (d k : ℕ) → Source key capacity x d k → source key capacity x d ≡ some k
   source-is d k p = one (source key capacity x d) (source-right d)
     where
       one : (o : Option ℕ) → Sources key capacity x d o → o ≡ some k

@@ -17,7 +17,7 @@ use borrow.Author.Tests.{ltb-true, ltb-false}
 use Rattle.day.specs.Sums.{at, sumTo, sum-ext}
 use Rattle.day.specs.Day.{Day, periods, total, netTo, net-end}
 use Rattle.day.specs.Plan.{Feasible, Optimal}
-use Rattle.day.specs.InTurn.{spared, netCost, Cheapest, NeededIn, ServedTo}
+use Rattle.day.specs.InTurn.{spared, signedCost, Cheapest, NeededIn, ServedTo}
 use Rattle.theory.specs.Model.{Model, OptimalTo, FeasibleTo}
 use Rattle.theory.specs.Recursion.{optimal-exists}
 use Rattle.theory.specs.Cut.{floor-grows}
@@ -59,11 +59,11 @@ module _ (d : Day) where
   spared-is k = sum-ext (M .holding) (rateOf (d .holding)) k (λ j l. rate-is (d .holding) j)
 
   -- The keys, which never lie below zero, order the periods as unit cost less the upkeep spared does.
-  pub key-signed : (j k : ℕ) → j ≤ n → k ≤ n → (key M n j ≤ key M n k) ↔ (netCost d j ≤ℤ netCost d k)
+  pub key-signed : (j k : ℕ) → j ≤ n → k ≤ n → (key M n j ≤ key M n k) ↔ (signedCost d j ≤ℤ signedCost d k)
   key-signed j k a b =
       let s = key-order M n j k a b in
       let o =
-      order (at (d .unit) j) (spared d j) (at (d .unit) k) (spared d k) (netCost d j) (netCost d k)
+      order (at (d .unit) j) (spared d j) (at (d .unit) k) (spared d k) (signedCost d j) (signedCost d k)
       (less-right (at (d .unit) j) (spared d j)) (less-right (at (d .unit) k) (spared d k)) in
       let here = spared-is j in
       let there = spared-is k in
@@ -178,7 +178,8 @@ module _ (d : Day) where
       served-to (suc t) l =
           let r = served-to t (omega arith) in
           let w = needed-in fits t n (omega arith) (omega (arith, net-end d)) in
-          one-more t (w .0) (r .0) (w .1) (r .1) (source (key M n) (M .capacity) (r .0) (suc (w .0))) (source-right (key M n) (M .capacity) (r .0) (suc (w .0)))
+          one-more t (w .0) (r .0) (w .1) (r .1) (source (key M n) (M .capacity) (r .0) (suc (w .0)))
+          (source-right (key M n) (M .capacity) (r .0) (suc (w .0)))
 
       pub in-turn-serves : (y : ℕ → ℕ) × ServedTo d (total d) y
       in-turn-serves = served-to (total d) (omega arith)

@@ -109,8 +109,8 @@ fn written_alike(
     }
 }
 
-// How a file of two periods fares: the number of its refusal, 0 where it is read and written to the same bytes, 15, which no file is
-// refused, for anything else.
+// How a file of two periods fares: the number of its refusal, 0 where it is read and written to the same bytes, and for anything else
+// 15, which is no file's refusal.
 fn fare(file: &[u8]) -> usize
     ensures { λ r. ⌜ r < 16 ⌝ }
 {

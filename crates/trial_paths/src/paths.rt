@@ -1,4 +1,4 @@
-//! The three paths, in lent memory whose every cell holds the mark.
+//! The four paths, in lent memory whose every cell holds the mark.
 ghost use Prim.Native.Nat.{_≤_};
 use day::Answer;
 use day::Ends;
@@ -12,6 +12,7 @@ pub enum Path {
     Full,
     Uncapped,
     Equal,
+    Free,
 }
 
 fn named(kind: &[u8]) -> Path {
@@ -21,6 +22,9 @@ fn named(kind: &[u8]) -> Path {
     if check::same(kind, b"equal") {
         return Path::Equal;
     }
+    if check::same(kind, b"free") {
+        return Path::Free;
+    }
     Path::Full
 }
 
@@ -29,10 +33,11 @@ fn name_of(path: Path) {
         Path::Full => print::text(b" full"),
         Path::Uncapped => print::text(b" uncapped"),
         Path::Equal => print::text(b" equal"),
+        Path::Free => print::text(b" free"),
     }
 }
 
-// The cells that a path needs (document 01's table).
+// The cells that a path needs (document 01's table; document 02, 2.3).
 struct Cells {
     costs: usize,
     choices: usize,
@@ -55,6 +60,10 @@ fn cells_of(path: Path, n: usize, total: usize) -> Cells
             costs: 6 * (n + 1),
             choices: text::product(4 * (n + 1), n + 1),
         },
+        Path::Free => Cells {
+            costs: n,
+            choices: 0,
+        },
     }
 }
 
@@ -74,6 +83,7 @@ pub struct Outcome {
     pub kept: bool,
 }
 
+// The free path takes no choice area.
 fn plan(
     path: Path,
     demand: &[u16],
@@ -120,6 +130,7 @@ fn plan(
             slots,
             ends,
         ),
+        Path::Free => free::plan(demand, capacity, setup, unit, holding, costs, slots, ends),
     }
 }
 
@@ -304,6 +315,16 @@ pub fn all(
     );
     roomy(
         Path::Equal,
+        line,
+        demand,
+        capacity,
+        setup,
+        unit,
+        holding,
+        ends,
+    );
+    roomy(
+        Path::Free,
         line,
         demand,
         capacity,

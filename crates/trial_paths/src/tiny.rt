@@ -1,4 +1,4 @@
-//! Made-up tiny days: the three paths beside the plain search.
+//! Made-up tiny days: the four paths beside the plain search.
 ghost use Prim.Native.Nat.{_<_};
 use crate::paths;
 use crate::paths::Path;
@@ -61,7 +61,8 @@ fn see(
 }
 
 // Counts: 0, days with a plan; 1, 2, 3, days on which the full, the uncapped and the equal path agreed with the search; 4, calls that
-// refused the day's capacities (8 or 9); 5, calls that left lent cells as they must; 6, calls that refused its opening charge (14).
+// refused the day's capacities (8 or 9); 5, calls that left lent cells as they must; 6, calls that refused its opening charge (14); 7, days
+// on which the free path agreed with the search; 8, calls that refused its starting costs (15).
 fn count(counts: &mut [u64; 16], k: usize, seen: Seen)
     requires { ⌜ k < 16 ⌝ }
 {
@@ -70,6 +71,7 @@ fn count(counts: &mut [u64; 16], k: usize, seen: Seen)
     cells::count_if(counts, 4, number == 8 || number == 9);
     cells::count_if(counts, 5, seen.kept);
     cells::count_if(counts, 6, number == 14);
+    cells::count_if(counts, 8, number == 15);
 }
 
 fn compare(
@@ -125,15 +127,41 @@ fn compare(
             ends,
         ),
     );
+    count(
+        counts,
+        7,
+        see(
+            Path::Free,
+            best,
+            demand,
+            capacity,
+            setup,
+            unit,
+            holding,
+            ends,
+        ),
+    );
+}
+
+// The setup costs of a day: those drawn, or none.
+fn setups(drawn: [u32; 4], free: bool) -> [u32; 4] {
+    if free { [0; 4] } else { drawn }
 }
 
 // The day of a seed, and the seed of the next one.
-fn one_day(seed: u32, capacities: Capacities, counts: &mut [u64; 16], most: u16) -> u32 {
+fn one_day(
+    seed: u32,
+    capacities: Capacities,
+    free: bool,
+    counts: &mut [u64; 16],
+    most: u16,
+) -> u32 {
     let d = tiny_days::make_up(seed, capacities, most);
     let n = d.n;
     let demand = d.demand;
     let capacity = d.capacity;
-    let setup = d.setup;
+    let drawn = d.setup;
+    let setup = setups(drawn, free);
     let unit = d.unit;
     let holding = d.holding;
     let ends = d.ends;
@@ -149,11 +177,18 @@ fn one_day(seed: u32, capacities: Capacities, counts: &mut [u64; 16], most: u16)
     d.seed
 }
 
-fn days(capacities: Capacities, seed: u32, days: u32, counts: &mut [u64; 16], most: u16) {
+fn days(
+    capacities: Capacities,
+    free: bool,
+    seed: u32,
+    days: u32,
+    counts: &mut [u64; 16],
+    most: u16,
+) {
     let mut s = seed;
     let mut i = 0;
     while i < days {
-        s = one_day(s, capacities, counts, most);
+        s = one_day(s, capacities, free, counts, most);
         i += 1;
     }
 }
@@ -168,12 +203,13 @@ fn named(name: &[u8]) -> Capacities {
     Capacities::Any
 }
 
-// Made-up days with the capacities that the trial is named after: from the seed of field 1, as many as field 2 says, with ends of at most
-// the number in field 3.
+// Made-up days with the capacities that the trial is named after; of one named free any, and no setup cost. They are made from the seed of
+// field 1, as many as field 2 says, with ends of at most the number in field 3.
 pub fn made_up(line: &[u8]) {
     let mut counts = [0u64; 16];
     days(
         named(text::name(line)),
+        check::same(text::name(line), b"free"),
         text::number_in(line, 1),
         text::number_in(line, 2),
         &mut counts,

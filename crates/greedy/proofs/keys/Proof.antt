@@ -2,7 +2,6 @@
 use mathlib.Core.Path.{_≡_}
 use Prim.Native.Nat.{_-_}
 use native.Mathlib.Omega.{arith}
-use lib.ListN.{length}
 use Rattle.greedy.specs.Keys.{Keying, keying-start, keying-next, keying-end}
 use Rattle.greedy.proofs.keys.Statement.{statement}
 use Rattle.greedy.proofs.keys.Tie as tie

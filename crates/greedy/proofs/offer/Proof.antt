@@ -7,11 +7,11 @@ use Rattle.greedy.proofs.offer.Tie as tie
 returns : tie.Need-returns
 returns c = simp (le-leb _ _ (c .if1 .taken))
 
-nearer-requires : tie.Need-nearer-requires
-nearer-requires c κs = search needs
+cheaper-requires : tie.Need-cheaper-requires
+cheaper-requires c κs = search needs
 
 returns-2 : tie.Need-returns-2
-returns-2 c = simp (lt-leb _ _ (c .before .if1 .left)) (c .nearer .ensures)
+returns-2 c = simp (lt-leb _ _ (c .before .if1 .left)) (c .cheaper .ensures)
 
 pub offer-spec : {M : Type 1} → statement M
-offer-spec = tie.close (tie.spec returns nearer-requires returns-2)
+offer-spec = tie.close (tie.spec returns cheaper-requires returns-2)

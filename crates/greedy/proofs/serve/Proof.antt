@@ -3,11 +3,10 @@ use mathlib.Core.Path.{_≡_, refl, sym, ap, _∙_}
 use Prim.Native.Nat.{ℕ, _<_}
 use native.Mathlib.Omega.{arith}
 use borrow.Author.Needs.{needs}
-use borrow.Author.Tests.{not-true, not-false}
 use lib.ListN.{length, length-set}
 use Rattle.day.specs.Sums.{at}
 use Rattle.theory.specs.Greedy.{Source, serve, serve-done}
-use Rattle.greedy.specs.Search.{source-of, served-turn, served-stuck}
+use Rattle.greedy.specs.Search.{served-turn, served-stuck}
 use Rattle.greedy.proofs.serve.Statement.{statement}
 use Rattle.greedy.proofs.serve.Tie as tie
 
@@ -34,7 +33,7 @@ found c =
     let t = turn c in
     let a = start t .args in
     let s = c .before .before .source in
-    source-of (at (a .keys .now)) (at (a .capacity .now)) (a .d) (t .loop .slots) (s .result) (s .ensures) (not-false (s .result .found) (c .if1 .left))
+    s .ensures .some (omega arith) .0
 
 -- it is inside the tables
 inside : (c : tie.Else1 Inv-loop μ-loop)
@@ -57,8 +56,8 @@ returns c =
     let t = c .before .before .before .before .before in
     let a = start t .args in
     let s = c .before .before .source in
-    served-stuck (at (a .keys .now)) (at (a .capacity .now)) (a .d) (t .loop .slots) (s .result) (t .loop .left) _ (s .ensures)
-    (c .before .before .before .before .loop-test .taken) (t .loop .inv .1) (not-true (s .result .found) (c .if1 .taken))
+    served-stuck (at (a .keys .now)) (at (a .capacity .now)) (a .d) (t .loop .slots) (s .result) (s .ensures) (t .loop .left) _
+    (c .before .before .before .before .loop-test .taken) (t .loop .inv .1) (c .if1 .taken)
 
 add-slots : tie.Need-add-slots Inv-loop μ-loop
 add-slots c =
@@ -72,9 +71,9 @@ loop-again c =
     let a = start t .args in
     let s = f .before .before .source in (
       length-set (t .loop .slots) (s .result .at) _ ∙ t .loop .inv .0,
-      served-turn (at (a .keys .now)) (at (a .capacity .now)) (a .d) (t .loop .slots) (s .result) (t .loop .left) _ (s .ensures)
-          (f .before .before .before .before .loop-test .taken) (t .loop .inv .1) (c .before .least .result)
-          (not-false (s .result .found) (f .if1 .left)) (c .before .least .ensures),
+      served-turn (at (a .keys .now)) (at (a .capacity .now)) (a .d) (t .loop .slots) (s .result) (s .ensures) (t .loop .left) _
+          (f .before .before .before .before .loop-test .taken) (t .loop .inv .1) (c .before .least .result) (f .if1 .left)
+          (c .before .least .ensures),
     )
 
 returns-2 : tie.Need-returns-2 Inv-loop μ-loop

@@ -1,5 +1,5 @@
 -- `greedy::source` meets its contract. The invariant: the best of the first k periods. Assumes nothing.
-use mathlib.Core.Path.{_≡_}
+use mathlib.Core.Path.{_≡_, refl}
 use Prim.Native.Nat.{_-_, _≤_}
 use native.Mathlib.Omega.{arith}
 use native.Mathlib.Numerals.{add-one}
@@ -10,19 +10,20 @@ use Rattle.greedy.proofs.source.Statement.{statement}
 use Rattle.greedy.proofs.source.Tie as tie
 
 abbrev Inv-loop : tie.InvT-loop
-Inv-loop keys capacity slots d best₀ k₀ best k = (k ≤ d) × Found (at keys) (at capacity) (at slots) k best
+Inv-loop keys capacity slots d best₀ k₀ best k = (k ≤ d) × Found (at keys) (at capacity) (at slots) d k best
 
 abbrev μ-loop : tie.MeasureT-loop
 μ-loop keys capacity slots d best₀ k₀ best k = d - k
 
 loop-holds : tie.Need-loop-holds Inv-loop μ-loop
-loop-holds c = (omega arith, λ j l. absurd (omega arith))
+loop-holds c = (omega arith, record { some = λ l. absurd (omega arith); none = λ l j h. absurd (omega arith); past = λ l. refl })
 
 loop-again : tie.Need-loop-again Inv-loop μ-loop
 loop-again c =
     let t = c .before .before .before .before .before in
     let a = t .before .before .before .before .args in
-    let more = found-more (at (a .keys .now)) (at (a .capacity .now)) (at (a .slots .now)) (t .loop .k) (t .loop .best) (t .loop .inv .1) in
+    let more = found-more (at (a .keys .now)) (at (a .capacity .now)) (at (a .slots .now)) (a .d) (t .loop .k) (t .loop .best) (omega arith)
+    (t .loop .inv .1) in
     (omega arith, rw (add-one (t .loop .k), c .offer .ensures) more)
 
 returns : tie.Need-returns Inv-loop μ-loop
