@@ -6,5 +6,6 @@ pub mod Answers
 pub mod Theorems
 pub mod Cells
 pub mod Difference
--- What the code carries from period to period.
+-- What the code carries from period to period; the walk that it runs, and its running sums.
 pub mod Walk
+pub mod Running

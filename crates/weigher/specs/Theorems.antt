@@ -78,7 +78,7 @@ tested d x k = go (aboveAt d x k) (shortAt d x k) (eqb (suc k) (periods d)) (ltb
         keeps (record { within = ltb-false _ _ p; served = ltb-false _ _ q; ends = λ l. absurd (eqb-false _ _ r l) }) (rw (p, q, r) refl)
 
 module _ (d : Day) (x : ℕ → ℕ) where
-  passed-keeps : (k : ℕ) → breaks d x k ≡ false → Keeps d x k
+  pub passed-keeps : (k : ℕ) → breaks d x k ≡ false → Keeps d x k
   passed-keeps k e = go (tested d x k)
     where
       go : Tested d x k → Keeps d x k
@@ -129,13 +129,17 @@ module _ (d : Day) (x : ℕ → ℕ) where
       ended e = omega (arith, ap (sumTo x) e, ap (demandTo d) e, f .ends)
 
   -- after periods that break no rule the charge is not below 0
-  pub passed-served : (i : ℕ) → find (breaks d x) i ≡ none → demandTo d i ≤ d .opening + sumTo x i
-  passed-served zero e = omega arith
-  passed-served (suc k) e =
-      le-trans (due-least (eqb (suc k) (periods d)) _ _) (passed-keeps k (none-found (breaks d x) (suc k) e k (omega arith)) .served)
+  pub kept-served : (i : ℕ) → ((k : ℕ) → k < i → Keeps d x k) → demandTo d i ≤ d .opening + sumTo x i
+  kept-served zero h = omega arith
+  kept-served (suc k) h = le-trans (due-least (eqb (suc k) (periods d)) _ _) (h k (omega arith) .served)
 
-  none-broken : (n : ℕ) → ((k : ℕ) → k < n → Keeps d x k) → find (breaks d x) n ≡ none
+  pub none-broken : (n : ℕ) → ((k : ℕ) → k < n → Keeps d x k) → find (breaks d x) n ≡ none
   none-broken n h = nothing-found (breaks d x) n (λ k l. keeps-passed k (h k l))
+
+  pub broken-found : (r : Rule) (k n : ℕ) → FirstBroken d x r k → k < n → (find (breaks d x) n ≡ some k) × (ruleAt d x k ≡ r)
+  broken-found r k n f l =
+      let b = breaks-rule r k (f .broken) in
+      (find-here (breaks d x) k n (none-broken k (f .before)) (b .0) l, b .1)
 
   -- the weigher's verdict is right, on a day that has a period: (3) is tested in the last one
   pub verdict-right : 1 ≤ periods d → Says d x (verdictOf d x)
@@ -153,9 +157,7 @@ module _ (d : Day) (x : ℕ → ℕ) where
   pub verdict-only : (v : Verdict) → Says d x v → v ≡ verdictOf d x
   verdict-only (Holds t) s = rw (none-broken (periods d) (feasible-keeps (s .0)), ← first-value (s .1), ← second-value (s .1)) refl
   verdict-only (Broken r zero) s = absurd s
-  verdict-only (Broken r (suc k)) s =
-      let b = breaks-rule r k (s .broken) in
-      rw (find-here (breaks d x) k (periods d) (none-broken k (s .before)) (b .0) (s .inside), b .1) refl
+  verdict-only (Broken r (suc k)) s = let b = broken-found r k (periods d) s (s .inside) in rw (b .0, b .1) refl
 
   -- it is "holds" exactly if the plan keeps (2) to (4), with sum (1) and the count of amounts above 0
   pub holds-feasible : 1 ≤ periods d → (t : Totals) → verdictOf d x ≡ Holds t → Feasible d x × Counts d x t

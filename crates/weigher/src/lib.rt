@@ -1,14 +1,15 @@
 //! Weighs a given plan of a day: whether it keeps the report's conditions, what it costs, how two plans compare.
-//! (Document 01, "The weigher"; document 02, 2.1, 2.2.) What the answers mean is in specs/.
+//! (Document 01, "The weigher"; document 02, 2.1, 2.2, 2.4.) What the answers mean is in specs/.
 ghost use mathlib.Core.Path.{_≡_};
 ghost use Prim.Native.Nat.{_^_, _<_};
 ghost use lib.IntN.{pos, _-ℤ_};
 ghost use Rattle.day.specs.Sums.{at};
 ghost use Rattle.day.specs.Day.{dayOf};
 ghost use Rattle.day.specs.Lent.{dayBefore};
-ghost use Rattle.weigher.specs.Verdict.{totalsOf, verdictOf};
+ghost use Rattle.weigher.specs.Verdict.{totalsOf};
 ghost use Rattle.weigher.specs.Answers.{Weighs, Compares, compareOf, ruleNumber};
 ghost use Rattle.weigher.specs.Walk.{rulingOf, rulingAt, Room, Weighable, FeasiblePlan, NextPeriod, Signed};
+ghost use Rattle.weigher.specs.Running.{walkOf};
 use day::Check;
 use day::Ends;
 use day::Refusal;
@@ -79,7 +80,7 @@ enum Ruling {
     Broke(Rule),
 }
 
-// One period's rules in their order, then what making costs, then the holding cost on the inventory before the period and the one left.
+// One period: its rules in their order, then its terms of sum (1) in the report's, which stands beside them at `walk`.
 fn judge(p: Entries, amount: u16, last: bool, s: Sums, closing: u16) -> Ruling
     requires { ⌜ Room s ⌝ }
     ensures { λ r. ⌜ r ≡ rulingOf p amount last s closing ⌝ }
@@ -96,10 +97,11 @@ fn judge(p: Entries, amount: u16, last: bool, s: Sums, closing: u16) -> Ruling
     if last && due < supplied {
         return Ruling::Broke(Rule::Over);
     }
+    let making = terms::making_cost(p.setup, p.unit, amount as u64);
     let before = s.supplied - s.demanded;
     let left = supplied - demanded;
-    let making = s.cost + terms::making_cost(p.setup, p.unit, amount as u64);
-    let cost = making + terms::holding_cost(p.holding, before + left);
+    let upkeep = terms::holding_cost(p.holding, before + left);
+    let cost = s.cost + making + upkeep;
     let setups = s.setups + terms::setup_of(amount);
     Ruling::Kept(Sums {
         cost,
@@ -109,7 +111,7 @@ fn judge(p: Entries, amount: u16, last: bool, s: Sums, closing: u16) -> Ruling
     })
 }
 
-// The period at index i, from the sums through those before it.
+// The period at index i: from the sums through the periods before it to those through it, or to the rule that it breaks (`rulingAt`).
 fn advance(
     demand: &[u16],
     capacity: &[u16],
@@ -134,7 +136,17 @@ fn advance(
     judge(p, plan[i], i + 1 == demand.len(), s, ends.closing)
 }
 
-// The verdict, period by period.
+// The verdict, period by period. Sum (1) of the report, with upkeep as in document 02, 2.2, beside the code that adds it up:
+//
+//     I_0 = A                               supplied = opening, demanded = 0
+//     Σ for i = 1, .., n                    the loop, period i at index i - 1; by `judge`, from the sums before it, s:
+//         A + X_i                           supplied = s.supplied + amount
+//         R_i                               demanded = s.demanded + p.demand
+//         p_i(x_i)                          making = making_cost(p.setup, p.unit, amount)
+//         I_(i−1) = A + X_(i−1) − R_(i−1)   before = s.supplied - s.demanded
+//         I_i = A + X_i − R_i               left = supplied - demanded
+//         h_i × (I_(i−1) + I_i)             upkeep = holding_cost(p.holding, before + left)
+//         the sum through period i          cost = s.cost + making + upkeep
 fn walk(
     demand: &[u16],
     capacity: &[u16],
@@ -145,7 +157,7 @@ fn walk(
     ends: Ends,
 ) -> Verdict
     requires { ⌜ Weighable (dayOf (now demand) (now capacity) (now setup) (now unit) (now holding) ends) (now plan) ⌝ }
-    ensures { λ r. ⌜ r ≡ verdictOf (dayBefore demand capacity setup unit holding ends) (at (now (plan .entry))) ⌝ }
+    ensures { λ r. ⌜ r ≡ walkOf (dayBefore demand capacity setup unit holding ends) (at (now (plan .entry))) ⌝ }
 {
     let mut s = Sums {
         cost: 0,

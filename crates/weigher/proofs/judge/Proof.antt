@@ -17,7 +17,7 @@ kept : (c : tie.Joined3)
     → let d = c .before .before .before .before in
     let a = d .before .before .before .before .args in
     (a .last && ltb (d .due .result) (a .s .supplied + a .amount)) ≡ false
-kept c = ⊎-elim (λ w. rw (w .0 .taken, w .1 .left) refl) (λ w. rw (w .left) refl) (c .if3 .came)
+kept c = ⊎-elim (λ w. rw (w .0 .taken) (w .1 .left)) (λ w. rw (w .left) refl) (c .if3 .came)
 
 returns : tie.Need-returns
 returns c = simp (lt-ltb _ _ (c .if1 .taken))
@@ -36,8 +36,9 @@ returns-3 c =
 
 returns-4 : tie.Need-returns-4
 returns-4 c =
-    let made = c .before .before .before .before in
-    let joined = made .before .before in
+    let held = c .before .before .before in
+    let made = held .before .before in
+    let joined = made .before in
     let tested = joined .before in
     rw
     (← tested .before .before .before .due .ensures)
@@ -46,14 +47,14 @@ returns-4 c =
       le-ltb _ _ (tested .if2 .left),
       kept joined,
       made .making-cost .ensures .is,
-      c .before .before .holding-cost .ensures .is,
+      held .holding-cost .ensures .is,
       c .before .setup-of .ensures .is,
     ))
 
 -- what covers the due covers the demand
 sub-left : tie.Need-sub-left
 sub-left c =
-    let tested = c .before .before in
+    let tested = c .before .before .before in
     let known = tested .before .before .before in
     let a = known .before .before .before .before .args in
     omega (arith, tested .if2 .left, known .due .ensures, due-least (a .last) (a .s .demanded + a .p .demand) (a .closing))
@@ -63,5 +64,5 @@ judge-spec =
     tie.close
     (tie.spec
     (λ c. search needs) (λ c. search needs) (λ c. search needs) (λ c κs. search needs) returns returns-2 returns-3
-    (λ c. search needs) sub-left (λ c κs. search needs) (λ c. search needs) (λ c. search needs) (λ c κs. search needs)
+    (λ c κs. search needs) (λ c. search needs) sub-left (λ c. search needs) (λ c κs. search needs) (λ c. search needs)
     (λ c. search needs) (λ c κs. search needs) (λ c. search needs) returns-4)

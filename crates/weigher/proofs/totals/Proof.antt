@@ -1,24 +1,30 @@
 -- `weigher::totals` meets its contract: a feasible plan's verdict is that it holds, with its totals. Assumes nothing.
 use mathlib.Core.Path.{_≡_, _∙_}
+use mathlib.Core.List.{List}
 use Prim.Native.Nat.{ℕ}
 use native.Mathlib.Omega.{arith}
 use borrow.Author.Needs.{needs}
 use Rattle.day.specs.Sums.{at}
-use Rattle.day.specs.Day.{dayOf}
+use Rattle.day.specs.Day.{Day, dayOf}
 use Rattle.weigher.specs.declared.Verdict.the-variants.{Holds}
 use Rattle.weigher.specs.Verdict.{totalsOf}
 use Rattle.weigher.specs.Theorems.{feasible-holds}
+use Rattle.weigher.specs.Running.{walk-verdict}
 use Rattle.weigher.proofs.totals.Statement.{statement}
 use Rattle.weigher.proofs.totals.Tie as tie
 
 abbrev at-start : tie.After-walk → tie.Start
 at-start c = c .before .before .before .before .before .before .before
 
+abbrev tables : tie.After-walk → Day
+tables c = let a = at-start c .args in dayOf (a .demand .now) (a .capacity .now) (a .setup .now) (a .unit .now) (a .holding .now) (a .ends)
+
+abbrev slots : tie.After-walk → List ℕ
+slots c = at-start c .args .plan .now
+
 -- the plan holds
-holds : (c : tie.After-walk) → let a = at-start c .args in
-    c .walk .result
-    ≡ Holds (totalsOf (dayOf (a .demand .now) (a .capacity .now) (a .setup .now) (a .unit .now) (a .holding .now) (a .ends)) (at (a .plan .now)))
-holds c = c .walk .ensures ∙ feasible-holds _ _ (at-start c .pre .feasible)
+holds : (c : tie.After-walk) → c .walk .result ≡ Holds (totalsOf (tables c) (at (slots c)))
+holds c = c .walk .ensures ∙ (walk-verdict (tables c) (at (slots c)) ∙ feasible-holds _ _ (at-start c .pre .feasible))
 
 returns-2 : tie.Need-returns-2
 returns-2 c = let z : _≡_ {A = ℕ} 0 1 = cc (holds (c .before .before)) in absurd (omega arith)

@@ -1,15 +1,14 @@
--- `weigher::walk` meets its contract. The loop's invariant: the periods passed break no rule, and the sums are those through them.
+-- `weigher::walk` meets its contract. The loop's invariant: the walk over the periods passed runs, with the sums that the code holds.
 -- The measure is what is left of the periods. Assumes nothing.
 use mathlib.Core.Path.{refl}
 use Prim.Native.Nat.{_-_}
-use native.Mathlib.Nat.{add-zero}
 use native.Mathlib.Numerals.{add-one}
 use native.Mathlib.Omega.{arith}
 use borrow.Author.Needs.{needs}
 use lib.ListN.{length}
 use Rattle.day.specs.Sums.{at}
 use Rattle.day.specs.Day.{dayOf}
-use Rattle.weigher.proofs.Walking.{Walking, walking-served, walking-more, walking-broken, walking-through}
+use Rattle.weigher.proofs.Walking.{Walking, walking-sums, walking-served, walking-more, walking-broken, walking-through}
 use Rattle.weigher.proofs.walk.Statement.{statement}
 use Rattle.weigher.proofs.walk.Tie as tie
 
@@ -20,7 +19,7 @@ abbrev μ-loop : tie.MeasureT-loop
 μ-loop demand capacity setup unit holding plan ends s₀ i₀ s i = length demand - i
 
 loop-holds : tie.Need-loop-holds Inv-loop μ-loop
-loop-holds c = record { inside = search needs; sums = rw add-zero refl; kept = refl }
+loop-holds c = record { inside = search needs; runs = refl }
 
 abbrev at-start : tie.At-loop Inv-loop μ-loop → tie.Start Inv-loop μ-loop
 at-start c = c .before .before .before .before .before .before .before .before
@@ -31,7 +30,7 @@ advance-requires c κs =
       weighable = at-start (c .before) .pre;
       inside = c .loop-test .taken;
       opening = omega (arith, c .before .before .struct-known .given);
-      sums = c .before .loop .inv .sums;
+      sums = walking-sums (c .before .loop .inv);
       served = walking-served (c .before .loop .inv);
     }
 

@@ -7,11 +7,14 @@ use Prim.Native.Nat.{ℕ}
 use borrow.Author.Needs.{needs}
 use borrow.Author.Tests.{lt-ltb, le-ltb}
 use lib.ListN.{length}
+use Rattle.day.specs.Sums.{at}
 use Rattle.day.specs.Day.{Day, dayOf, periods}
 use Rattle.day.specs.Refusals.{first, dayTests, badSlots}
 use Rattle.day.specs.Tests.{passed, refused, is-gives, first-refused, first-passed, first-one}
 use Rattle.checks.specs.Passed.{day-passed}
+use Rattle.weigher.specs.Verdict.{verdictOf}
 use Rattle.weigher.specs.Answers.{weighRefusal, verdictFigures}
+use Rattle.weigher.specs.Running.{walk-verdict}
 use Rattle.weigher.proofs.weigh.Statement.{statement}
 use Rattle.weigher.proofs.weigh.Tie as tie
 
@@ -47,10 +50,14 @@ walk-requires c κs =
     let limits = day-passed (tables (c .before .before .before)) (tested (c .before)) .limits in
     record { few = limits .few; lengths = limits .lengths; amounts = c .if1 .left }
 
+-- what the walk says is the report's verdict
+judged : (c : tie.After-walk) → let p = c .before .before .before .before in c .walk .result ≡ verdictOf (tables p) (at (slots p))
+judged c = let p = c .before .before .before .before in rw (c .walk .ensures) (walk-verdict (tables p) (at (slots p)))
+
 pub weigh-spec : {M : Type 1} → statement M
 weigh-spec =
     tie.close
     (tie.spec
     (λ c κs. search needs) (λ c. search needs) returns (λ c. search needs)
     (λ c. is-gives (rw (decides (c .before), lt-ltb _ _ (c .if1 .taken)) refl)) walk-requires
-    (λ c. (rw (decides (c .before .before), le-ltb _ _ (c .before .if1 .left)) refl, ap verdictFigures (c .walk .ensures))))
+    (λ c. (rw (decides (c .before .before), le-ltb _ _ (c .before .if1 .left)) refl, ap verdictFigures (judged c))))
