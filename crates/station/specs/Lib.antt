@@ -1,2 +1,2 @@
--- What a C program sees of the library's answers.
-pub mod Codes
+-- What a C program sees of the library's calls.
+pub mod Shows

@@ -61,7 +61,7 @@ module _ (k q : ℕ) (x y : ℕ → ℕ) (more : More k q x y) where
   more-low : (m : ℕ) → m ≤ k → sumTo y m ≡ sumTo x m
   more-low m h = sum-ext y x m (λ i b. more .others i (omega arith))
 
-  more-high : (m : ℕ) → k < m → sumTo y m ≡ q + sumTo x m
+  pub more-high : (m : ℕ) → k < m → sumTo y m ≡ q + sumTo x m
   more-high zero h = absurd (omega arith)
   more-high (suc m) h =
       ⊎-elim

@@ -1,8 +1,8 @@
--- `station::weighed` meets its contract, case by case. Assumes nothing.
+-- `codes::weighed` meets its contract, case by case. Assumes nothing.
 use mathlib.Core.Path.{refl}
 use borrow.Author.Needs.{needs}
-use Rattle.station.proofs.weighed.Statement.{statement}
-use Rattle.station.proofs.weighed.Tie as tie
+use Rattle.codes.proofs.weighed.Statement.{statement}
+use Rattle.codes.proofs.weighed.Tie as tie
 
 pub weighed-spec : {M : Type 1} → statement M
 weighed-spec =

@@ -1,10 +1,10 @@
--- `station::compared` meets its contract, case by case; a difference is what is read back from its bits. Assumes nothing.
+-- `codes::compared` meets its contract, case by case; a difference is what is read back from its bits. Assumes nothing.
 use mathlib.Core.Path.{refl}
 use mir.Syntax.{w64}
 use mir.ValLaws.{toZ-ofZ}
 use borrow.Author.Needs.{needs}
-use Rattle.station.proofs.compared.Statement.{statement}
-use Rattle.station.proofs.compared.Tie as tie
+use Rattle.codes.proofs.compared.Statement.{statement}
+use Rattle.codes.proofs.compared.Tie as tie
 
 pub compared-spec : {M : Type 1} → statement M
 compared-spec =

@@ -1,8 +1,8 @@
--- `station::written` meets its contract, case by case. Assumes nothing.
+-- `codes::written` meets its contract, case by case. Assumes nothing.
 use mathlib.Core.Path.{refl}
 use borrow.Author.Needs.{needs}
-use Rattle.station.proofs.written.Statement.{statement}
-use Rattle.station.proofs.written.Tie as tie
+use Rattle.codes.proofs.written.Statement.{statement}
+use Rattle.codes.proofs.written.Tie as tie
 
 pub written-spec : {M : Type 1} → statement M
 written-spec =

@@ -1,8 +1,8 @@
--- `station::planned` meets its contract, case by case. Assumes nothing.
+-- `codes::planned` meets its contract, case by case. Assumes nothing.
 use mathlib.Core.Path.{refl}
 use borrow.Author.Needs.{needs}
-use Rattle.station.proofs.planned.Statement.{statement}
-use Rattle.station.proofs.planned.Tie as tie
+use Rattle.codes.proofs.planned.Statement.{statement}
+use Rattle.codes.proofs.planned.Tie as tie
 
 pub planned-spec : {M : Type 1} → statement M
 planned-spec =

@@ -1,8 +1,8 @@
--- `station::read` meets its contract, case by case. Assumes nothing.
+-- `codes::read` meets its contract, case by case. Assumes nothing.
 use mathlib.Core.Path.{refl}
 use borrow.Author.Needs.{needs}
-use Rattle.station.proofs.read.Statement.{statement}
-use Rattle.station.proofs.read.Tie as tie
+use Rattle.codes.proofs.read.Statement.{statement}
+use Rattle.codes.proofs.read.Tie as tie
 
 pub read-spec : {M : Type 1} → statement M
 read-spec =

@@ -1,0 +1,2 @@
+-- What a C program sees of an answer.
+pub mod Codes

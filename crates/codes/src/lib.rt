@@ -1,0 +1,104 @@
+//! What a C program sees of an answer: one code, and its numbers in the call's out-array (include/yakkurem.h).
+ghost use mathlib.Core.Path.{_≡_};
+ghost use Rattle.day.specs.Refusals.{numberOf, periodOf};
+ghost use Rattle.day.specs.Figures.{answerFigures};
+ghost use Rattle.dayfile.specs.Answers.{readFigures, writeFigures};
+ghost use Rattle.weigher.specs.Answers.{weighedFigures, comparedFigures, ruleNumber};
+ghost use Rattle.codes.specs.Codes.{codeOf, seen, seenOf};
+use day::Answer;
+use day::Refusal;
+use dayfile::ReadAnswer;
+use dayfile::WriteAnswer;
+use weigher::Compared;
+use weigher::Rule;
+use weigher::Verdict;
+use weigher::Weighed;
+
+// A number and a period as one code.
+fn code(number: u8, period: u16) -> u64
+    ensures { λ r. ⌜ r ≡ codeOf number period ⌝ }
+{
+    (number as u64) + 256 * (period as u64)
+}
+
+// Of a refusal.
+pub fn refused(r: Refusal) -> u64
+    ensures { λ c. ⌜ c ≡ codeOf (numberOf r) (periodOf r) ⌝ }
+{
+    code(r.number(), r.period())
+}
+
+fn broken(rule: Rule, period: u16) -> u64
+    ensures { λ c. ⌜ c ≡ codeOf (ruleNumber rule) period ⌝ }
+{
+    code(rule.number(), period)
+}
+
+// What is shown of a path's answer: the cost and setups of its plan.
+pub fn planned(a: Answer, answer: &mut [u64; 2]) -> u64
+    ensures { λ r. ⌜ seen r (now (answer .exit)) ≡ seenOf (now (answer .entry)) (answerFigures a) ⌝ }
+{
+    match a {
+        Answer::Refused(r) => refused(r),
+        Answer::Planned(t) => {
+            *answer = [t.cost, t.setups];
+            0
+        }
+    }
+}
+
+// Of a weighing: the cost and setups of a plan that holds.
+pub fn weighed(w: Weighed, answer: &mut [u64; 2]) -> u64
+    ensures { λ r. ⌜ seen r (now (answer .exit)) ≡ seenOf (now (answer .entry)) (weighedFigures w) ⌝ }
+{
+    match w {
+        Weighed::Refused(r) => refused(r),
+        Weighed::Judged(v) => match v {
+            Verdict::Broken(rule, period) => broken(rule, period),
+            Verdict::Holds(totals) => {
+                *answer = [totals.cost, totals.setups];
+                0
+            }
+        },
+    }
+}
+
+// Of a comparison: the difference.
+pub fn compared(c: Compared, difference: &mut [i64; 1]) -> u64
+    ensures { λ r. ⌜ seen r (now (difference .exit)) ≡ seenOf (now (difference .entry)) (comparedFigures c) ⌝ }
+{
+    match c {
+        Compared::Refused(r) => refused(r),
+        Compared::Broken(rule, period) => broken(rule, period),
+        Compared::Difference(v) => {
+            *difference = [v];
+            0
+        }
+    }
+}
+
+// Of a reading: the count of periods, and the ends.
+pub fn read(a: ReadAnswer, day: &mut [u64; 3]) -> u64
+    ensures { λ r. ⌜ seen r (now (day .exit)) ≡ seenOf (now (day .entry)) (readFigures a) ⌝ }
+{
+    match a {
+        ReadAnswer::Refused(r) => refused(r),
+        ReadAnswer::Periods(n, ends) => {
+            *day = [n as u64, ends.opening as u64, ends.closing as u64];
+            0
+        }
+    }
+}
+
+// Of a writing: the count of bytes.
+pub fn written(a: WriteAnswer, count: &mut [u64; 1]) -> u64
+    ensures { λ r. ⌜ seen r (now (count .exit)) ≡ seenOf (now (count .entry)) (writeFigures a) ⌝ }
+{
+    match a {
+        WriteAnswer::Refused(r) => refused(r),
+        WriteAnswer::Bytes(n) => {
+            *count = [n as u64];
+            0
+        }
+    }
+}
