@@ -174,8 +174,16 @@ fn without_starts() {
 
 fn main() {
     println!("# Benchmarks\n");
-    println!("Written by `bench/run`: the library's paths beside plain Rust programs of the same methods (`bench/src/methods.rs`) and beside recursion (5) by its letter (`outside/src/plain.rs`), which knows no bounds on the totals. Same process, same days, both built for release; all work on lent memory that was not cleared before a call. The library also tests the tables and clears its areas; the plain programs do neither. Recursion (5) by its letter allocates its rows. The days have no charge at their ends, so R is T.\n");
-    println!("Times are the thread's processor time on x86-64 Linux. A figure is the median of {ROUNDS} rounds, with the smallest and the largest: that spread is the machine's noise. A ratio below 1 means that the library is faster.\n");
+    println!(
+        "Written by `bench/run`: the library's paths beside plain Rust programs of the same methods (`bench/src/methods.rs`) and beside \
+         recursion (5) by its letter (`outside/src/plain.rs`), which knows no bounds on the totals. Same process, same days, both built for \
+         release; all work on lent memory that was not cleared before a call. The library also tests the tables and clears its areas; the \
+         plain programs do neither. Recursion (5) by its letter allocates its rows. The days have no charge at their ends, so R is T.\n"
+    );
+    println!(
+        "Times are the thread's processor time on x86-64 Linux. A figure is the median of {ROUNDS} rounds, with the smallest and the \
+         largest: that spread is the machine's noise. A ratio below 1 means that the library is faster.\n"
+    );
     println!("## Days of 96 periods\n");
     println!("| Path | R | Capacity | Library | To the plain program | To recursion (5) |");
     println!("|---|---|---|---|---|---|");

@@ -1,4 +1,5 @@
-//! Inputs for request 2.3: days without starting cost, with ties and at the limits; start costs in every period; lent memory shorter than needed, as long, and longer.
+//! Inputs for request 2.3: days without starting cost, with ties and at the limits; start costs in every period; lent memory shorter than
+//! needed, as long, and longer.
 use crate::ends;
 use crate::input::{self, Call, Ends, Input, Size};
 use crate::plain::{self, Day};

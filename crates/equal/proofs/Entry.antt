@@ -17,7 +17,7 @@ use Rattle.path_checks.specs.declared.Needed.{Needed}
 use Rattle.checks.specs.Passed.{Admitted, equal-passed}
 use Rattle.path_checks.specs.Needed.{NeededBy}
 use Rattle.weigher.specs.Verdict.{totalsOf}
-use Rattle.weigher.specs.Walk.{FeasiblePlan}
+use Rattle.weigher.specs.Walk.{FeasiblePlan, path-plan}
 use Rattle.theory.specs.Problem.{Problem, modelOf}
 use Rattle.theory.specs.Problem as Problem
 use Rattle.theory.specs.Net.{NetTables, problemBy, problemOf, limits-fit, periods-is, supplied-iff, bounded, problem-is}
@@ -104,15 +104,7 @@ module _ (d : Day) (m : Memory) (ok : Admitted equal d (sizesOf m)) (r : Needed)
           (optimal-ext (modelOf q) (Problem.periods q) (Problem.total q) (at slots) (at slots′) same found-net)
 
       pub slots-feasible : FeasiblePlan d slots′
-      slots-feasible =
-          record {
-            weighable = record {
-              few = ok .day .limits .few;
-              lengths = ok .day .limits .lengths;
-              amounts = omega (arith, ok .room .slots, back-length n (m .slots) slots size);
-            };
-            feasible = slots-optimal .feasible;
-          }
+      slots-feasible = path-plan ok (back-length n (m .slots) slots size) (slots-optimal .feasible)
 
       -- The front parts as the work leaves them, and then cleared, are as an accepted call leaves its memory.
       pub work-accepted : (t : Totals) (costs choices costs′ choices′ : List ℕ)

@@ -17,7 +17,7 @@ use Rattle.day.specs.Outcome.{Memory, memoryOf, sizesOf, cleared, Cleared, Acce
 use Rattle.day.specs.Paths.{free}
 use Rattle.checks.specs.Passed.{Admitted, free-passed}
 use Rattle.weigher.specs.Verdict.{totalsOf}
-use Rattle.weigher.specs.Walk.{FeasiblePlan}
+use Rattle.weigher.specs.Walk.{FeasiblePlan, path-plan}
 use Rattle.theory.specs.Model.{Model}
 use Rattle.theory.specs.Problem.{Problem, periods, modelOf, model-rising, model-unlimited}
 use Rattle.theory.specs.Net.{netNeeds, ratesOf, NetTables, problemOf, limits-fit, periods-is, supplied-iff, bounded}
@@ -90,15 +90,7 @@ module _ (d : Day) (m : Memory) (ok : Admitted free d (sizesOf m)) where
       size = plan .each ∙ cleared-length n (m .slots) room
 
       pub slots-feasible : FeasiblePlan d (after .slots)
-      slots-feasible =
-          record {
-            weighable = record {
-              few = ok .day .limits .few;
-              lengths = ok .day .limits .lengths;
-              amounts = omega (arith, ok .room .slots, size);
-            };
-            feasible = slots-optimal .feasible;
-          }
+      slots-feasible = path-plan ok size (slots-optimal .feasible)
 
       -- once the area is cleared, all is as an accepted call leaves it
       pub work-accepted : (t : Totals) (costs : List ℕ) → t ≡ totalsOf d (at (after .slots)) → Cleared (Day.periods d) (after .costs) costs

@@ -17,7 +17,7 @@ use Rattle.path_checks.specs.declared.Needed.{Needed}
 use Rattle.checks.specs.Passed.{Admitted}
 use Rattle.path_checks.specs.Needed.{NeededBy}
 use Rattle.weigher.specs.Verdict.{totalsOf}
-use Rattle.weigher.specs.Walk.{FeasiblePlan}
+use Rattle.weigher.specs.Walk.{FeasiblePlan, path-plan}
 use Rattle.theory.specs.Problem.{Problem, periods}
 use Rattle.theory.specs.Net.{NetTables, problemBy, limits-fit, periods-is, total-is, supplied-iff, bounded, problem-is}
 use Rattle.theory.specs.Base.{optimal-iff}
@@ -106,12 +106,7 @@ module _ {d : Day} {m : Memory} {net rates : List ℕ} (a : Admitted full d (siz
     left-optimal = optimal-iff d (limits-fit (a .day)) (at (after .slots)) .1 ((rw (problem-is d filled) at left) .plan)
 
     pub left-feasible : FeasiblePlan d (after .slots)
-    left-feasible =
-        let l = a .day .limits in
-        record {
-          weighable = record { few = l .few; lengths = l .lengths; amounts = omega (arith, a .room .slots) };
-          feasible = left-optimal .feasible;
-        }
+    left-feasible = path-plan a size (left-optimal .feasible)
 
     -- after the work both areas are cleared
     pub work-accepted : {T : ℕ} {r : Totals} {costs′ choices′ : List ℕ} → T ≡ Day.total d → NeededBy full (Day.periods d) T c

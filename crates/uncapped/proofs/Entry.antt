@@ -16,7 +16,7 @@ use Rattle.day.specs.Outcome.{Memory, memoryOf, sizesOf, Cleared, Accepted}
 use Rattle.day.specs.Paths.{uncapped}
 use Rattle.checks.specs.Passed.{Admitted, binding-passed}
 use Rattle.weigher.specs.Verdict.{totalsOf}
-use Rattle.weigher.specs.Walk.{FeasiblePlan}
+use Rattle.weigher.specs.Walk.{FeasiblePlan, path-plan}
 use Rattle.theory.specs.Cut.{optimal-ext}
 use Rattle.theory.specs.Model.{Model}
 use Rattle.theory.specs.Problem.{Problem, Bounded, periods, total, modelOf, model-rising, model-unlimited}
@@ -120,15 +120,7 @@ module _ (d : Day) (m : Memory) (ok : Admitted uncapped d (sizesOf m)) where
       size = ap length is ∙ simp (length-append, length-drop) (omega (arith, row .each, periods-is d, ok .room .slots))
 
       pub slots-feasible : FeasiblePlan d (after .slots)
-      slots-feasible =
-          record {
-            weighable = record {
-              few = ok .day .limits .few;
-              lengths = ok .day .limits .lengths;
-              amounts = omega (arith, ok .room .slots, size);
-            };
-            feasible = slots-optimal .feasible;
-          }
+      slots-feasible = path-plan ok size (slots-optimal .feasible)
 
       -- once the areas are cleared, all is as an accepted call leaves it
       pub work-accepted : (t : Totals) (costs choices : List ℕ) → t ≡ totalsOf d (at (after .slots))

@@ -5,12 +5,14 @@ use mathlib.Core.Bool.{Bool, true, false, _&&_, _||_}
 use mathlib.Core.List.{List}
 use Prim.Native.Nat.{ℕ, suc, _+_, _-_, _*_, _^_, _≤_, _<_}
 use native.Mathlib.Nat.{add-assoc}
+use native.Mathlib.Omega.{arith}
 use lib.Dec.{eqb, ltb}
 use lib.ListN.{length}
 use Rattle.day.specs.Sums.{at, sumTo}
 use Rattle.day.specs.Day.{Day, periods, dueOf, demandTo, maxPeriods, maxSum}
 use Rattle.day.specs.Plan.{making, costTo, Feasible, setupAt, setups}
-use Rattle.checks.specs.Passed.{SameLengths}
+use Rattle.day.specs.Outcome.{Sizes, Path}
+use Rattle.checks.specs.Passed.{SameLengths, Admitted}
 use Rattle.weigher.specs.declared.Rule.{Rule}
 use Rattle.weigher.specs.declared.Verdict.the-variants.{Holds, Broken}
 use Rattle.weigher.specs.declared.Weighed.{Weighed}
@@ -84,6 +86,18 @@ pub record Weighable (d : Day) (plan : List ℕ) : Type 0 where
 pub record FeasiblePlan (d : Day) (plan : List ℕ) : Type 0 where
   pub weighable : Weighable d plan
   pub feasible : Feasible d (at plan)
+
+-- so is what a path leaves in the slots that it was lent, where it is a plan of a day that passed the tests
+pub path-plan : {P : Path} {d : Day} {s : Sizes} {plan : List ℕ} → Admitted P d s → length plan ≡ s .slots → Feasible d (at plan) → FeasiblePlan d plan
+path-plan ok size f =
+    record {
+      weighable = record {
+        few = ok .day .limits .few;
+        lengths = ok .day .limits .lengths;
+        amounts = omega (arith, ok .room .slots);
+      };
+      feasible = f;
+    }
 
 -- period i + 1 is to be judged, A has 16 bits, and s holds the sums through the periods before it, which leave no charge below 0
 pub record NextPeriod (d : Day) (plan : List ℕ) (i : ℕ) (s : Sums) : Type 0 where
