@@ -14,7 +14,7 @@ use Rattle.day.specs.declared.Refusal.{Refusal}
 use Rattle.day.specs.declared.Refusal.the-variants.{PaidSetup}
 use Rattle.day.specs.Sums.{at}
 use Rattle.day.specs.Find.{find}
-use Rattle.day.specs.Day.{Day, tablesOf, periods, capacityTo, netTo}
+use Rattle.day.specs.Day.{Day, tablesOf, periods, capacityTo, netTo, maxStore}
 use Rattle.day.specs.Plan.{Feasible, Optimal, cost, setups}
 use Rattle.day.specs.Refusals.{numberOf, periodOf, refuse, refuseAt, orNext, first, paid, paidSetup}
 use Rattle.day.specs.Outcome.{Sizes, Path, Roomy, refusal, dayRefusal, roomy-first}
@@ -56,11 +56,11 @@ marked =
     ∷ row (2 ∷ 2 ∷ []) (4 ∷ 4 ∷ []) 8 1 2 (planned (4 ∷ 0 ∷ []) 20 1 ∷ costs (2 ∷ 2 ∷ []) 20 ∷ [])
     ∷ []
 
--- the day of a row
+-- the day of a row: no store limit
 abbrev pub dayOfRow : MarkedRow → Day
 dayOfRow r =
     let all = replicate (length (r .demand)) in
-    tablesOf (r .demand) (r .capacity) (all (r .setup)) (all (r .unit)) (all (r .holding))
+    tablesOf (r .demand) (r .capacity) (all (r .setup)) (all (r .unit)) (all (r .holding)) (all maxStore)
 
 -- a plan of the day, and what it costs
 pub record Costs (d : Day) (x : List ℕ) (c : ℕ) : Type 0 where

@@ -10,7 +10,7 @@ use native.Mathlib.Decide.{decLe, decLt, ℕ-discrete}
 use native.Mathlib.Omega.{arith}
 use Rattle.day.specs.Sums.{at, sumTo, below, sum-ext, listOf, at-listOf}
 use Rattle.day.specs.Day.{Day, periods, demandTo, required}
-use Rattle.day.specs.Plan.{costAt, cost, Feasible, Smaller, Precedes, Optimal}
+use Rattle.day.specs.Plan.{inventory, costAt, cost, Feasible, Smaller, Precedes, Optimal}
 
 -- a test that passed gives its proof
 pub given : {A : Type 0} (o : Option A) → IsSome o → A
@@ -72,10 +72,12 @@ below? p? (suc n) = both-below n (below? p? n) (p? n)
 unfoldable pub feasible? : (d : Day) (x : ℕ → ℕ) → Dec (Feasible d x)
 feasible? d x =
     iff?
-    (λ p. record { served = p .0; ends = p .1 .0; within = p .1 .1 })
-    (λ f. (f .served, (f .ends, f .within)))
+    (λ p. record { served = p .0; ends = p .1 .0; within = p .1 .1 .0; stored = p .1 .1 .1 })
+    (λ f. (f .served, (f .ends, (f .within, f .stored))))
     (Dec·and (below? (λ k. decLe (demandTo d (suc k)) (d .opening + sumTo x (suc k))) (periods d))
-    (Dec·and (ℕ-discrete (d .opening + sumTo x (periods d)) (required d)) (below? (λ k. decLe (x k) (at (d .capacity) k)) (periods d))))
+    (Dec·and (ℕ-discrete (d .opening + sumTo x (periods d)) (required d))
+    (Dec·and (below? (λ k. decLe (x k) (at (d .capacity) k)) (periods d))
+    (below? (λ k. decLe (inventory d x (suc k)) (at (d .store) k)) (periods d)))))
 
 unfoldable pub smaller? : (n : ℕ) (x y : ℕ → ℕ) → Dec (Smaller n x y)
 smaller? n x y =
@@ -104,6 +106,7 @@ module _ (d : Day) (x y : ℕ → ℕ) (same : (k : ℕ) → k < periods d → x
         served = λ k l. omega (arith, f .served k l, sums-alike (suc k) l);
         ends = omega (arith, f .ends, sums-alike (periods d) (omega arith));
         within = λ k l. omega (arith, f .within k l, same k l);
+        stored = λ k l. omega (arith, f .stored k l, sums-alike (suc k) l);
       }
 
   pub cost-alike : cost d x ≡ cost d y

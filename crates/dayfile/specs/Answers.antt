@@ -78,7 +78,7 @@ withPeriods s k tables =
     (withFirst (field number2 2 s) k (tables .capacity))
     (withFirst (field number4 4 s) k (tables .setup))
     (withFirst (field number4 8 s) k (tables .unit))
-    (withFirst (field number4 12 s) k (tables .holding))
+    (withFirst (field number4 12 s) k (tables .holding)) (withFirst (field number4 12 s) k (tables .store))
 
 -- and of all its periods: the file's day at the tables' front
 abbrev pub withDay : List ℕ → Day → Day
@@ -93,11 +93,11 @@ withTables d tables =
     (d .capacity ++ drop n (tables .capacity))
     (d .setup ++ drop n (tables .setup))
     (d .unit ++ drop n (tables .unit))
-    (d .holding ++ drop n (tables .holding))
+    (d .holding ++ drop n (tables .holding)) (d .store ++ drop n (tables .store))
 
 abbrev pub firstOf : ℕ → Day → Ends → Day
 firstOf n tables ends =
-    dayOf (take n (tables .demand)) (take n (tables .capacity)) (take n (tables .setup)) (take n (tables .unit)) (take n (tables .holding)) ends
+    dayOf (take n (tables .demand)) (take n (tables .capacity)) (take n (tables .setup)) (take n (tables .unit)) (take n (tables .holding)) (take n (tables .store)) ends
 
 -- a reading's answer in figures: the count of periods, A, Z
 abbrev pub readFigures : ReadAnswer → Figures ℕ

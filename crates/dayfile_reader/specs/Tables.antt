@@ -46,7 +46,7 @@ stored k p tables =
     (set (tables .capacity) k (p .capacity))
     (set (tables .setup) k (p .setup))
     (set (tables .unit) k (p .unit))
-    (set (tables .holding) k (p .holding))
+    (set (tables .holding) k (p .holding)) (set (tables .store) k (p .store))
 
 pub with-length : (f : ℕ → ℕ) (k : ℕ) (l : List ℕ) → k ≤ length l → length (withFirst f k l) ≡ length l
 with-length f zero l h = refl

@@ -65,8 +65,8 @@ fn put(
     unit: &mut [u32],
     holding: &mut [u32],
 )
-    requires { ⌜ Cells (k + 1) (tablesOf (now demand) (now capacity) (now setup) (now unit) (now holding)) ⌝ }
-    ensures { λ _. ⌜ tablesAfter demand capacity setup unit holding ≡ stored k numbers (tablesBefore demand capacity setup unit holding) ⌝ }
+    requires { ⌜ Cells (k + 1) (tablesOf (now demand) (now capacity) (now setup) (now unit) (now holding) (now store)) ⌝ }
+    ensures { λ _. ⌜ tablesAfter demand capacity setup unit holding store ≡ stored k numbers (tablesBefore demand capacity setup unit holding store) ⌝ }
 {
     demand[k] = numbers.demand;
     capacity[k] = numbers.capacity;
@@ -86,8 +86,8 @@ fn fill(
     holding: &mut [u32],
 )
     requires { ⌜ n ≡ periodsIn (now file) ⌝ }
-    requires { ⌜ Cells n (tablesOf (now demand) (now capacity) (now setup) (now unit) (now holding)) ⌝ }
-    ensures { λ _. ⌜ tablesAfter demand capacity setup unit holding ≡ withDay (now (file .entry)) (tablesBefore demand capacity setup unit holding) ⌝ }
+    requires { ⌜ Cells n (tablesOf (now demand) (now capacity) (now setup) (now unit) (now holding) (now store)) ⌝ }
+    ensures { λ _. ⌜ tablesAfter demand capacity setup unit holding store ≡ withDay (now (file .entry)) (tablesBefore demand capacity setup unit holding store) ⌝ }
 {
     let mut at = layout::head_end(file);
     let mut k = 0;
@@ -174,7 +174,7 @@ pub fn read(
     holding: &mut [u32],
 ) -> ReadAnswer
     ensures { λ r. ⌜
-        Reading (now (file .entry)) (tablesBefore demand capacity setup unit holding) r (tablesAfter demand capacity setup unit holding)
+        Reading (now (file .entry)) (tablesBefore demand capacity setup unit holding store) r (tablesAfter demand capacity setup unit holding store)
         ⌝ }
 {
     let n = layout::periods(file);

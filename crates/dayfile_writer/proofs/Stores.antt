@@ -41,7 +41,7 @@ head-record o c = go (bothZero o c)
 
 -- the period records hold nothing of the ends
 abbrev tables : Day → Day
-tables d = tablesOf (d .demand) (d .capacity) (d .setup) (d .unit) (d .holding)
+tables d = tablesOf (d .demand) (d .capacity) (d .setup) (d .unit) (d .holding) (d .store)
 
 records-alike : (d : Day) (k : ℕ) → recordsOf (tables d) k ≡ recordsOf d k
 records-alike d zero = refl

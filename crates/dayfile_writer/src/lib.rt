@@ -48,8 +48,8 @@ fn record_of(
     unit: &[u32],
     holding: &[u32],
 ) -> [u8; 17]
-    requires { ⌜ Cells (k + 1) (tablesOf (now demand) (now capacity) (now setup) (now unit) (now holding)) ⌝ }
-    ensures { λ r. ⌜ r ≡ recordOf (tablesBefore demand capacity setup unit holding) k ⌝ }
+    requires { ⌜ Cells (k + 1) (tablesOf (now demand) (now capacity) (now setup) (now unit) (now holding) (now store)) ⌝ }
+    ensures { λ r. ⌜ r ≡ recordOf (tablesBefore demand capacity setup unit holding store) k ⌝ }
 {
     period_record(demand[k], capacity[k], setup[k], unit[k], holding[k])
 }
@@ -121,11 +121,11 @@ fn put_periods(
     out: &mut [u8],
     first: usize,
 )
-    requires { ⌜ SameLengths (tablesOf (now demand) (now capacity) (now setup) (now unit) (now holding)) ⌝ }
+    requires { ⌜ SameLengths (tablesOf (now demand) (now capacity) (now setup) (now unit) (now holding) (now store)) ⌝ }
     requires { ⌜ first + 17 * length (now demand) ≤ length (now out) ⌝ }
     ensures { λ _. ⌜
         now (out .exit)
-        ≡ sets (now (out .entry)) first (recordsOf (tablesBefore demand capacity setup unit holding) (length (now (demand .entry))))
+        ≡ sets (now (out .entry)) first (recordsOf (tablesBefore demand capacity setup unit holding store) (length (now (demand .entry))))
         ⌝ }
 {
     let mut at = first;
@@ -148,9 +148,9 @@ fn put_file(
     out: &mut [u8],
     ends: Ends,
 )
-    requires { ⌜ Readable (dayOf (now demand) (now capacity) (now setup) (now unit) (now holding) ends) ⌝ }
+    requires { ⌜ Readable (dayOf (now demand) (now capacity) (now setup) (now unit) (now holding) (now store) ends) ⌝ }
     requires { ⌜ length (headOf (ends .opening) (ends .closing)) + 17 * length (now demand) + 3 ≤ length (now out) ⌝ }
-    ensures { λ _. ⌜ now (out .exit) ≡ withFile (dayBefore demand capacity setup unit holding ends) (now (out .entry)) ⌝ }
+    ensures { λ _. ⌜ now (out .exit) ≡ withFile (dayBefore demand capacity setup unit holding store ends) (now (out .entry)) ⌝ }
 {
     put_head(out, ends);
     let first = head_size(ends);
@@ -170,7 +170,7 @@ pub fn write(
     out: &mut [u8],
     ends: Ends,
 ) -> WriteAnswer
-    ensures { λ r. ⌜ Writing (dayBefore demand capacity setup unit holding ends) (now (out .entry)) r (now (out .exit)) ⌝ }
+    ensures { λ r. ⌜ Writing (dayBefore demand capacity setup unit holding store ends) (now (out .entry)) r (now (out .exit)) ⌝ }
 {
     if let Check::Refused(r) = checks::tables(demand, capacity, setup, unit, holding) {
         return WriteAnswer::Refused(r);

@@ -60,10 +60,10 @@ fn work(
     ends: Ends,
 ) -> Totals
     requires { ⌜ Admitted equal
-        (dayOf (now demand) (now capacity) (now setup) (now unit) (now holding) ends)
+        (dayOf (now demand) (now capacity) (now setup) (now unit) (now holding) (now store) ends)
         (sizes (length (now costs)) (length (now choices)) (length (now slots))) ⌝ }
     ensures { λ r. ⌜ Accepted equal
-        (dayBefore demand capacity setup unit holding ends)
+        (dayBefore demand capacity setup unit holding store ends)
         r
         (memoryBefore costs choices slots)
         (memoryAfter costs choices slots) ⌝ }
@@ -105,7 +105,7 @@ pub fn plan(
     ends: Ends,
 ) -> Answer
     ensures { λ r. ⌜ Runs equal
-        (dayBefore demand capacity setup unit holding ends)
+        (dayBefore demand capacity setup unit holding store ends)
         (memoryBefore costs choices slots)
         r
         (memoryAfter costs choices slots) ⌝ }

@@ -46,10 +46,10 @@ fn work(
     ends: Ends,
 ) -> Totals
     requires { ⌜ Admitted free
-        (dayOf (now demand) (now capacity) (now setup) (now unit) (now holding) ends)
+        (dayOf (now demand) (now capacity) (now setup) (now unit) (now holding) (now store) ends)
         (sizesOf (memoryOf (now costs) [] (now slots))) ⌝ }
     ensures { λ r. ⌜ Accepted free
-        (dayBefore demand capacity setup unit holding ends)
+        (dayBefore demand capacity setup unit holding store ends)
         r
         (cellsBefore costs slots)
         (cellsAfter costs slots) ⌝ }
@@ -77,7 +77,7 @@ pub fn plan(
     ends: Ends,
 ) -> Answer
     ensures { λ r. ⌜ Runs free
-        (dayBefore demand capacity setup unit holding ends)
+        (dayBefore demand capacity setup unit holding store ends)
         (cellsBefore costs slots)
         r
         (cellsAfter costs slots) ⌝ }

@@ -63,10 +63,10 @@ fn work(
     ends: Ends,
 ) -> Totals
     requires { ⌜ Admitted full
-        (dayOf (now demand) (now capacity) (now setup) (now unit) (now holding) ends)
+        (dayOf (now demand) (now capacity) (now setup) (now unit) (now holding) (now store) ends)
         (sizesOf (memoryOf (now costs) (now choices) (now slots))) ⌝ }
     ensures { λ r. ⌜ Accepted full
-        (dayBefore demand capacity setup unit holding ends)
+        (dayBefore demand capacity setup unit holding store ends)
         r
         (memoryBefore costs choices slots)
         (memoryAfter costs choices slots) ⌝ }
@@ -110,7 +110,7 @@ pub fn plan(
     ends: Ends,
 ) -> Answer
     ensures { λ r. ⌜ Runs full
-        (dayBefore demand capacity setup unit holding ends)
+        (dayBefore demand capacity setup unit holding store ends)
         (memoryBefore costs choices slots)
         r
         (memoryAfter costs choices slots) ⌝ }

@@ -10,8 +10,8 @@ use day::Ends;
 // The net need of every period.
 fn fill_needs(demand: &[u16], net: &mut [u16], ends: Ends)
     requires { ⌜ length (now net) ≡ length (now demand) ⌝ }
-    requires { ⌜ NetFits (dayOf (now demand) [] [] [] [] ends) ⌝ }
-    ensures { λ _. ⌜ now (net .exit) ≡ netNeeds (dayOf (now (demand .entry)) [] [] [] [] ends) ⌝ }
+    requires { ⌜ NetFits (dayOf (now demand) [] [] [] [] [] ends) ⌝ }
+    ensures { λ _. ⌜ now (net .exit) ≡ netNeeds (dayOf (now (demand .entry)) [] [] [] [] [] ends) ⌝ }
 {
     let mut demanded: u64 = 0;
     let mut made: u64 = 0;
@@ -44,9 +44,9 @@ fn fill_rates(holding: &[u32], rates: &mut [u32])
 pub fn fill(demand: &[u16], holding: &[u32], net: &mut [u16], rates: &mut [u32], ends: Ends)
     requires { ⌜ length (now net) ≡ length (now demand) ⌝ }
     requires { ⌜ length (now rates) ≡ length (now holding) ⌝ }
-    requires { ⌜ NetFits (dayOf (now demand) [] [] [] [] ends) ⌝ }
+    requires { ⌜ NetFits (dayOf (now demand) [] [] [] [] [] ends) ⌝ }
     requires { ⌜ HalfRates (now holding) ⌝ }
-    ensures { λ _. ⌜ NetTables (dayOf (now (demand .entry)) [] [] [] (now (holding .entry)) ends) (now (net .exit)) (now (rates .exit)) ⌝ }
+    ensures { λ _. ⌜ NetTables (dayOf (now (demand .entry)) [] [] [] (now (holding .entry)) [] ends) (now (net .exit)) (now (rates .exit)) ⌝ }
 {
     fill_needs(demand, net, ends);
     fill_rates(holding, rates);

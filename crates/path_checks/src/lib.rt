@@ -38,7 +38,7 @@ fn memory(
 fn shortage(demand: &[u16], capacity: &[u16], ends: Ends) -> Check
     requires { ⌜ length (now capacity) ≡ length (now demand) ⌝ }
     requires { ⌜ length (now demand) ≤ maxPeriods ⌝ }
-    ensures { λ r. ⌜ r ≡ checked (shortage (dayOf (now (demand .entry)) (now (capacity .entry)) [] [] [] ends)) ⌝ }
+    ensures { λ r. ⌜ r ≡ checked (shortage (dayOf (now (demand .entry)) (now (capacity .entry)) [] [] [] [] ends)) ⌝ }
 {
     let mut demanded: u64 = 0;
     let mut available: u64 = 0;
@@ -57,7 +57,7 @@ fn shortage(demand: &[u16], capacity: &[u16], ends: Ends) -> Check
 // 8, for tables of one length: every capacity is as the first
 fn equal(demand: &[u16], capacity: &[u16]) -> Check
     requires { ⌜ length (now capacity) ≡ length (now demand) ⌝ }
-    ensures { λ r. ⌜ r ≡ checked (unequal (tablesOf (now (demand .entry)) (now (capacity .entry)) [] [] [])) ⌝ }
+    ensures { λ r. ⌜ r ≡ checked (unequal (tablesOf (now (demand .entry)) (now (capacity .entry)) [] [] [] [])) ⌝ }
 {
     let mut i = 0;
     while i < demand.len() {
@@ -73,8 +73,8 @@ fn equal(demand: &[u16], capacity: &[u16]) -> Check
 fn binding(demand: &[u16], capacity: &[u16], ends: Ends) -> Check
     requires { ⌜ length (now capacity) ≡ length (now demand) ⌝ }
     requires { ⌜ length (now demand) ≤ maxPeriods ⌝ }
-    requires { ⌜ ends .opening ≤ required (dayOf (now demand) [] [] [] [] ends) ⌝ }
-    ensures { λ r. ⌜ r ≡ checked (binding (dayOf (now (demand .entry)) (now (capacity .entry)) [] [] [] ends)) ⌝ }
+    requires { ⌜ ends .opening ≤ required (dayOf (now demand) [] [] [] [] [] ends) ⌝ }
+    ensures { λ r. ⌜ r ≡ checked (binding (dayOf (now (demand .entry)) (now (capacity .entry)) [] [] [] [] ends)) ⌝ }
 {
     let total = checks::total(demand, ends);
     let mut demanded: u64 = 0;
@@ -94,7 +94,7 @@ fn binding(demand: &[u16], capacity: &[u16], ends: Ends) -> Check
 fn paid(demand: &[u16], setup: &[u32]) -> Check
     requires { ⌜ length (now setup) ≡ length (now demand) ⌝ }
     requires { ⌜ length (now demand) ≤ maxPeriods ⌝ }
-    ensures { λ r. ⌜ r ≡ checked (paidSetup (tablesOf (now (demand .entry)) [] (now (setup .entry)) [] [])) ⌝ }
+    ensures { λ r. ⌜ r ≡ checked (paidSetup (tablesOf (now (demand .entry)) [] (now (setup .entry)) [] [] [])) ⌝ }
 {
     let mut i = 0;
     while i < demand.len() {
@@ -111,9 +111,9 @@ fn own(kind: PathKind, demand: &[u16], capacity: &[u16], setup: &[u32], ends: En
     requires { ⌜ length (now capacity) ≡ length (now demand) ⌝ }
     requires { ⌜ length (now setup) ≡ length (now demand) ⌝ }
     requires { ⌜ length (now demand) ≤ maxPeriods ⌝ }
-    requires { ⌜ ends .opening ≤ required (dayOf (now demand) [] [] [] [] ends) ⌝ }
+    requires { ⌜ ends .opening ≤ required (dayOf (now demand) [] [] [] [] [] ends) ⌝ }
     ensures { λ r. ⌜
-        r ≡ checked (first (pathOf kind .own (dayOf (now (demand .entry)) (now (capacity .entry)) (now (setup .entry)) [] [] ends)))
+        r ≡ checked (first (pathOf kind .own (dayOf (now (demand .entry)) (now (capacity .entry)) (now (setup .entry)) [] [] [] ends)))
         ⌝ }
 {
     match kind {
@@ -168,10 +168,10 @@ fn room(
     requires { ⌜ length (now capacity) ≡ length (now demand) ⌝ }
     requires { ⌜ length (now setup) ≡ length (now demand) ⌝ }
     requires { ⌜ length (now demand) ≤ maxPeriods ⌝ }
-    requires { ⌜ ends .opening ≤ required (dayOf (now demand) [] [] [] [] ends) ⌝ }
+    requires { ⌜ ends .opening ≤ required (dayOf (now demand) [] [] [] [] [] ends) ⌝ }
     ensures { λ r. ⌜
         r ≡ checked (first (pathTests (pathOf kind)
-        (dayOf (now (demand .entry)) (now (capacity .entry)) (now (setup .entry)) [] [] ends)
+        (dayOf (now (demand .entry)) (now (capacity .entry)) (now (setup .entry)) [] [] [] ends)
         (sizes costs choices slots)))
         ⌝ }
 {
@@ -199,7 +199,7 @@ pub fn path(
     slots: usize,
     ends: Ends,
 ) -> Check
-    ensures { λ r. ⌜ r ≡ checked (refusal (pathOf kind) (dayBefore demand capacity setup unit holding ends) (sizes costs choices slots)) ⌝ }
+    ensures { λ r. ⌜ r ≡ checked (refusal (pathOf kind) (dayBefore demand capacity setup unit holding store ends) (sizes costs choices slots)) ⌝ }
 {
     if let Check::Refused(r) = checks::day(demand, capacity, setup, unit, holding, ends) {
         return Check::Refused(r);

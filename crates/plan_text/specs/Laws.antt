@@ -34,7 +34,7 @@ use Rattle.plan_text.specs.Text.{lent, amountLines, planText, Printed, P
 -- the loop over the periods: the lines of the first i stand from the place on, up to `next`
 pub record Lined (demand plan : List ℕ) (ends : Ends) (before : List ℕ) (place i : ℕ) (after : List ℕ) (next : ℕ) : Type 0 where
   pub done : i ≤ length demand
-  pub put : Put before place (amountLines (dayOf demand [] [] [] [] ends) (at plan) i) after next
+  pub put : Put before place (amountLines (dayOf demand [] [] [] [] [] ends) (at plan) i) after next
   pub few : next ≤ place + i * lineBytes
 
 pub no-lines : (demand plan : List ℕ) (ends : Ends) (text : List ℕ) (place : ℕ) → place ≤ length text → Lined demand plan ends text place 0 text place
@@ -48,7 +48,7 @@ no-lines demand plan ends text place h =
 -- one line more
 pub amounts-more : (demand plan : List ℕ) (ends : Ends) {before between after : List ℕ} {place next later : ℕ} (i : ℕ) → i < length demand
     → Lined demand plan ends before place i between next
-    → PutWithin lineBytes between next (amountLine (dayOf demand [] [] [] [] ends) (at plan) i) after later
+    → PutWithin lineBytes between next (amountLine (dayOf demand [] [] [] [] [] ends) (at plan) i) after later
     → Lined demand plan ends before place (i + 1) after later
 amounts-more demand plan ends i l p q =
     rw add-one (record { done = l; put = put-put (p .put) (q .put); few = omega (arith, p .few, q .few) })
@@ -75,7 +75,7 @@ planned-has d after answer t e r =
     record { demanded = omega arith; planned = omega (arith, q .1 .size, length-replicate {A = ℕ} 96 0); few = few }
 
 -- lines of amounts need no more of a day than its demand and its ends
-lines-of-demand : (d : Day) (x : ℕ → ℕ) (k : ℕ) → amountLines (dayOf (d .demand) [] [] [] [] (endsOf d)) x k ≡ amountLines d x k
+lines-of-demand : (d : Day) (x : ℕ → ℕ) (k : ℕ) → amountLines (dayOf (d .demand) [] [] [] [] [] (endsOf d)) x k ≡ amountLines d x k
 lines-of-demand d x zero = refl
 lines-of-demand d x (suc k) = ap (λ (l : List ℕ). l ++ amountLine d x k) (lines-of-demand d x k)
 
@@ -83,7 +83,7 @@ lines-of-demand d x (suc k) = ap (λ (l : List ℕ). l ++ amountLine d x k) (lin
 pub planned-text : (d : Day) (after : Memory) (answer : Answer) (t : Totals) {text later : List ℕ} {r : ℕ} → answer ≡ Planned t
     → Runs full d blank answer after
     → Put text 0
-    (planLine (periods d) (t .cost) (t .setups) ++ amountLines (dayOf (d .demand) [] [] [] [] (endsOf d)) (at (after .slots)) (periods d))
+    (planLine (periods d) (t .cost) (t .setups) ++ amountLines (dayOf (d .demand) [] [] [] [] [] (endsOf d)) (at (after .slots)) (periods d))
     later r
     → PrintedDay d text later r
 planned-text d after answer t e r p =

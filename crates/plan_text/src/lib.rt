@@ -18,7 +18,7 @@ fn amount_lines(demand: &[u16], plan: &[u16], text: &mut [u8], place: usize, end
     requires { ⌜ place + length (now demand) * lineBytes ≤ length (now text) ⌝ }
     ensures { λ r. ⌜
         Put (now (text .entry)) place
-        (amountLines (dayOf (now (demand .entry)) [] [] [] [] ends) (at (now (plan .entry))) (length (now (demand .entry))))
+        (amountLines (dayOf (now (demand .entry)) [] [] [] [] [] ends) (at (now (plan .entry))) (length (now (demand .entry))))
         (now (text .exit)) r
         ⌝ }
 {
@@ -38,7 +38,7 @@ fn plan_lines(demand: &[u16], plan: &[u16], totals: Totals, text: &mut [u8], end
     ensures { λ r. ⌜
         Put (now (text .entry)) 0
         (planLine (length (now (demand .entry))) (totals .cost) (totals .setups)
-        ++ amountLines (dayOf (now (demand .entry)) [] [] [] [] ends) (at (now (plan .entry))) (length (now (demand .entry))))
+        ++ amountLines (dayOf (now (demand .entry)) [] [] [] [] [] ends) (at (now (plan .entry))) (length (now (demand .entry))))
         (now (text .exit)) r
         ⌝ }
 {
@@ -60,7 +60,7 @@ fn day_text(
     requires { ⌜ textBytes ≤ length (now text) ⌝ }
     ensures { λ r. ⌜
         PrintedDay
-        (dayOf (now (demand .entry)) (now (capacity .entry)) (now (setup .entry)) (now (unit .entry)) (now (holding .entry)) ends)
+        (dayOf (now (demand .entry)) (now (capacity .entry)) (now (setup .entry)) (now (unit .entry)) (now (holding .entry)) (now (store .entry)) ends)
         (now (text .entry)) (now (text .exit)) r
         ⌝ }
 {

@@ -145,7 +145,7 @@ pub extern "C" fn yakkurem_weigh(
     plan: &[u16],
     answer: &mut [u64; 2],
 ) -> u64
-    ensures { λ r. ⌜ Shows (Weighs (dayBefore demand capacity setup unit holding (endsWith opening closing)) (now (plan .entry))) weighedFigures answer r ⌝ }
+    ensures { λ r. ⌜ Shows (Weighs (dayBefore demand capacity setup unit holding store (endsWith opening closing)) (now (plan .entry))) weighedFigures answer r ⌝ }
 {
     let ends = Ends { opening, closing };
     let w = weigher::weigh(demand, capacity, setup, unit, holding, plan, ends);
@@ -167,7 +167,7 @@ pub extern "C" fn yakkurem_compare(
     difference: &mut [i64; 1],
 ) -> u64
     ensures { λ r. ⌜
-        Shows (Compares (dayBefore demand capacity setup unit holding (endsWith opening closing)) (now (first .entry)) (now (second .entry)))
+        Shows (Compares (dayBefore demand capacity setup unit holding store (endsWith opening closing)) (now (first .entry)) (now (second .entry)))
         comparedFigures difference r ⌝ }
 {
     let ends = Ends { opening, closing };

@@ -43,7 +43,7 @@ problemOf d = problemBy (netNeeds d) (ratesOf (d .holding)) d
 
 -- the two tables as they are filled in: a day's demands, upkeep and ends decide them
 pub record FilledFrom (demand holding : List ℕ) (ends : Ends) (net rate : List ℕ) : Type 0 where
-  pub needs : net ≡ netNeeds (dayOf demand [] [] [] [] ends)
+  pub needs : net ≡ netNeeds (dayOf demand [] [] [] [] [] ends)
   pub rates : rate ≡ ratesOf holding
 
 abbrev pub NetTables : Day → (net rates : List ℕ) → Type 0
@@ -65,7 +65,7 @@ abbrev pub HalfRates : List ℕ → Type 0
 HalfRates holding = (k : ℕ) → at holding k ≤ maxHalfRate
 
 -- of a day's demands and ends alone, as the function has it that fills the net needs
-limits-net : {d : Day} → DayLimits d → NetFits (dayOf (d .demand) [] [] [] [] (endsOf d))
+limits-net : {d : Day} → DayLimits d → NetFits (dayOf (d .demand) [] [] [] [] [] (endsOf d))
 limits-net g = record { nonempty = g .limits .nonempty; few = g .limits .few; small = g .small }
 
 pub limits-fit : {d : Day} → DayLimits d → Fits d
@@ -156,7 +156,7 @@ module _ (d : Day) where
   pub limits-fill : DayLimits d
       → let front : List ℕ = take (n - 0) (replicate maxPeriods 0) in
       (length front ≡ length (d .demand))
-      × ((length front ≡ length (d .holding)) × (NetFits (dayOf (d .demand) [] [] [] [] (endsOf d)) × HalfRates (d .holding)))
+      × ((length front ≡ length (d .holding)) × (NetFits (dayOf (d .demand) [] [] [] [] [] (endsOf d)) × HalfRates (d .holding)))
   limits-fill g =
       let l = g .limits in
       let size = length-take-le (n - 0) (replicate {A = ℕ} maxPeriods 0) (omega (arith, l .few, length-replicate {A = ℕ} maxPeriods 0)) in

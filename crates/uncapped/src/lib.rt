@@ -52,10 +52,10 @@ fn work(
     ends: Ends,
 ) -> Totals
     requires { ⌜ Admitted uncapped
-        (dayOf (now demand) (now capacity) (now setup) (now unit) (now holding) ends)
+        (dayOf (now demand) (now capacity) (now setup) (now unit) (now holding) (now store) ends)
         (sizesOf (memoryOf (now costs) (now choices) (now slots))) ⌝ }
     ensures { λ r. ⌜ Accepted uncapped
-        (dayBefore demand capacity setup unit holding ends)
+        (dayBefore demand capacity setup unit holding store ends)
         r
         (memoryBefore costs choices slots)
         (memoryAfter costs choices slots) ⌝ }
@@ -85,7 +85,7 @@ pub fn plan(
     ends: Ends,
 ) -> Answer
     ensures { λ r. ⌜ Runs uncapped
-        (dayBefore demand capacity setup unit holding ends)
+        (dayBefore demand capacity setup unit holding store ends)
         (memoryBefore costs choices slots)
         r
         (memoryAfter costs choices slots) ⌝ }

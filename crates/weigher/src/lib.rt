@@ -123,8 +123,8 @@ fn advance(
     s: Sums,
     ends: Ends,
 ) -> Ruling
-    requires { ⌜ NextPeriod (dayOf (now demand) (now capacity) (now setup) (now unit) (now holding) ends) (now plan) i s ⌝ }
-    ensures { λ r. ⌜ r ≡ rulingAt (dayBefore demand capacity setup unit holding ends) (at (now (plan .entry))) i ⌝ }
+    requires { ⌜ NextPeriod (dayOf (now demand) (now capacity) (now setup) (now unit) (now holding) (now store) ends) (now plan) i s ⌝ }
+    ensures { λ r. ⌜ r ≡ rulingAt (dayBefore demand capacity setup unit holding store ends) (at (now (plan .entry))) i ⌝ }
 {
     let p = Entries {
         demand: demand[i],
@@ -156,8 +156,8 @@ fn walk(
     plan: &[u16],
     ends: Ends,
 ) -> Verdict
-    requires { ⌜ Weighable (dayOf (now demand) (now capacity) (now setup) (now unit) (now holding) ends) (now plan) ⌝ }
-    ensures { λ r. ⌜ r ≡ walkOf (dayBefore demand capacity setup unit holding ends) (at (now (plan .entry))) ⌝ }
+    requires { ⌜ Weighable (dayOf (now demand) (now capacity) (now setup) (now unit) (now holding) (now store) ends) (now plan) ⌝ }
+    ensures { λ r. ⌜ r ≡ walkOf (dayBefore demand capacity setup unit holding store ends) (at (now (plan .entry))) ⌝ }
 {
     let mut s = Sums {
         cost: 0,
@@ -193,8 +193,8 @@ pub fn totals(
     plan: &[u16],
     ends: Ends,
 ) -> Totals
-    requires { ⌜ FeasiblePlan (dayOf (now demand) (now capacity) (now setup) (now unit) (now holding) ends) (now plan) ⌝ }
-    ensures { λ r. ⌜ r ≡ totalsOf (dayBefore demand capacity setup unit holding ends) (at (now (plan .entry))) ⌝ }
+    requires { ⌜ FeasiblePlan (dayOf (now demand) (now capacity) (now setup) (now unit) (now holding) (now store) ends) (now plan) ⌝ }
+    ensures { λ r. ⌜ r ≡ totalsOf (dayBefore demand capacity setup unit holding store ends) (at (now (plan .entry))) ⌝ }
 {
     match walk(demand, capacity, setup, unit, holding, plan, ends) {
         Verdict::Holds(t) => t,
@@ -212,7 +212,7 @@ pub fn weigh(
     plan: &[u16],
     ends: Ends,
 ) -> Weighed
-    ensures { λ r. ⌜ Weighs (dayBefore demand capacity setup unit holding ends) (now (plan .entry)) r ⌝ }
+    ensures { λ r. ⌜ Weighs (dayBefore demand capacity setup unit holding store ends) (now (plan .entry)) r ⌝ }
 {
     if let Check::Refused(r) = checks::day(demand, capacity, setup, unit, holding, ends) {
         return Weighed::Refused(r);
@@ -262,7 +262,7 @@ pub fn compare(
     other: &[u16],
     ends: Ends,
 ) -> Compared
-    ensures { λ r. ⌜ Compares (dayBefore demand capacity setup unit holding ends) (now (plan .entry)) (now (other .entry)) r ⌝ }
+    ensures { λ r. ⌜ Compares (dayBefore demand capacity setup unit holding store ends) (now (plan .entry)) (now (other .entry)) r ⌝ }
 {
     let first = weigh(demand, capacity, setup, unit, holding, plan, ends);
     let second = weigh(demand, capacity, setup, unit, holding, other, ends);

@@ -24,11 +24,11 @@ others-decide :
 others-decide d k low = simp (le-ltb maxCapacity (at (d .capacity) k) low, or-false)
 
 abbrev Inv-loop : tie.InvT-loop
-Inv-loop demand capacity setup unit holding i₀ i =
-    Searched (aboveLimit (tablesOf demand capacity setup unit holding)) (length demand) i
+Inv-loop demand capacity setup unit holding store i₀ i =
+    Searched (aboveLimit (tablesOf demand capacity setup unit holding store)) (length demand) i
 
 abbrev μ-loop : tie.MeasureT-loop
-μ-loop demand capacity setup unit holding i₀ i = length demand - i
+μ-loop demand capacity setup unit holding store i₀ i = length demand - i
 
 loop-holds : tie.Need-loop-holds Inv-loop μ-loop
 loop-holds c = record { inside = omega arith; nothing = refl }
@@ -39,15 +39,15 @@ at-loop c = c .before .before .before .before .before .before
 
 abbrev tables : tie.At-loop Inv-loop μ-loop → Day
 tables c =
-    let a = c .before .before .before .before .before .before .args in
-    tablesOf (a .demand .now) (a .capacity .now) (a .setup .now) (a .unit .now) (a .holding .now)
+    let a = c .before .before .before .before .before .before .before .args in
+    tablesOf (a .demand .now) (a .capacity .now) (a .setup .now) (a .unit .now) (a .holding .now) (a .store .now)
 
 -- the call answers the test of the period
 answered :
     (c : tie.After-above-limit Inv-loop μ-loop) → aboveLimit (tables (at-loop c)) (at-loop c .loop .i) ≡ c .above-limit .result
 answered c =
     let p = at-loop c in
-    let fits = p .before .before .before .before .shared-slice-known2 .given (p .loop .i) in
+    let fits = p .before .before .before .before .before .shared-slice-known2 .given (p .loop .i) in
     others-decide (tables p) (p .loop .i) (omega (arith, fits)) ∙ sym (c .above-limit .ensures)
 
 returns : tie.Need-returns Inv-loop μ-loop

@@ -14,7 +14,7 @@ use Rattle.dayfile_reader.proofs.fill.Tie as tie
 
 abbrev Inv-loop : tie.InvT-loop
 Inv-loop file n demand₀ capacity₀ setup₀ unit₀ holding₀ at₀ k₀ demand capacity setup unit holding at k =
-    PeriodsRead file n (tablesOf demand₀ capacity₀ setup₀ unit₀ holding₀) k at (tablesOf demand capacity setup unit holding)
+    PeriodsRead file n (tablesOf demand₀ capacity₀ setup₀ unit₀ holding₀ store₀) k at (tablesOf demand capacity setup unit holding store)
 
 abbrev μ-loop : tie.MeasureT-loop
 μ-loop file n demand₀ capacity₀ setup₀ unit₀ holding₀ at₀ k₀ demand capacity setup unit holding at k = n - k

@@ -23,7 +23,7 @@ file c = now (start (c .before .before) .args .file)
 abbrev lent : tie.After-tests → Day
 lent c =
     let a = start (c .before .before) .args in
-    tablesOf (now (a .demand)) (now (a .capacity)) (now (a .setup)) (now (a .unit)) (now (a .holding))
+    tablesOf (now (a .demand)) (now (a .capacity)) (now (a .setup)) (now (a .unit)) (now (a .holding)) (now (a .store))
 
 tested : (c : tie.After-tests) → c .tests .result ≡ checked (badRead (file c) (shortest (lent c)))
 tested c = rw (c .before .shortest .ensures) at (c .tests .ensures)

@@ -29,7 +29,7 @@ returns c =
     let z = q .before .before in
     let f = at-head z in
     let a = start f .args in
-    let d = dayOf (now (a .demand)) (now (a .capacity)) (now (a .setup)) (now (a .unit)) (now (a .holding)) (a .ends) in
+    let d = dayOf (now (a .demand)) (now (a .capacity)) (now (a .setup)) (now (a .unit)) (now (a .holding)) (now (a .store)) (a .ends) in
     file-stored d (now (a .out)) _ _ _ (start f .pre .1) (z .head-size .ensures .is) (f .put-head .ensures) (q .put-periods .ensures)
     (e .end-record .ensures) (p .copy .ensures)
 

@@ -19,7 +19,7 @@ abbrev Inv-loop : tie.InvT-loop
 Inv-loop demand capacity setup unit holding out₀ first at₀ k₀ out at k =
     (k ≤ length demand)
     × (at ≡ first + 17 * k)
-    × (out ≡ sets out₀ first (recordsOf (tablesOf demand capacity setup unit holding) k))
+    × (out ≡ sets out₀ first (recordsOf (tablesOf demand capacity setup unit holding store) k))
     × (length out ≡ length out₀)
 
 abbrev μ-loop : tie.MeasureT-loop
@@ -31,7 +31,7 @@ start c = c .before .before .before .before .before .before .before
 abbrev day : tie.At-loop Inv-loop μ-loop → Day
 day c =
     let a = start c .args in
-    tablesOf (now (a .demand)) (now (a .capacity)) (now (a .setup)) (now (a .unit)) (now (a .holding))
+    tablesOf (now (a .demand)) (now (a .capacity)) (now (a .setup)) (now (a .unit)) (now (a .holding)) (now (a .store))
 
 loop-holds : tie.Need-loop-holds Inv-loop μ-loop
 loop-holds c = (omega arith, omega arith, refl, refl)

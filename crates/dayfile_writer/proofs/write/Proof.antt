@@ -24,7 +24,7 @@ start c = c .before .before .before .before .before .before .before
 abbrev day : tie.After-tables → Day
 day c =
     let a = start c .args in
-    dayOf (now (a .demand)) (now (a .capacity)) (now (a .setup)) (now (a .unit)) (now (a .holding)) (a .ends)
+    dayOf (now (a .demand)) (now (a .capacity)) (now (a .setup)) (now (a .unit)) (now (a .holding)) (now (a .store)) (a .ends)
 
 -- what is tested after the tables
 abbrev room : tie.After-tables → List (Option Refusal)

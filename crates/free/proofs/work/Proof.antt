@@ -28,7 +28,7 @@ abbrev begun : tie.After-fill → tie.Start
 begun c = opened (lending (c .before))
 
 abbrev given : tie.Start → Day
-given s = let a = s .args in dayOf (a .demand .now) (a .capacity .now) (a .setup .now) (a .unit .now) (a .holding .now) (a .ends)
+given s = let a = s .args in dayOf (a .demand .now) (a .capacity .now) (a .setup .now) (a .unit .now) (a .holding .now) (a .store .now) (a .ends)
 
 abbrev lent : tie.Start → Memory
 lent s = let a = s .args in memoryOf (a .costs .now) [] (a .slots .now)

@@ -11,7 +11,7 @@ use Rattle.full.proofs.work.Tie as tie
 
 -- the day and the memory
 abbrev given : tie.Start → Day
-given c = let a = c .args in dayOf (a .demand .now) (a .capacity .now) (a .setup .now) (a .unit .now) (a .holding .now) (a .ends)
+given c = let a = c .args in dayOf (a .demand .now) (a .capacity .now) (a .setup .now) (a .unit .now) (a .holding .now) (a .store .now) (a .ends)
 
 abbrev lent : tie.Start → Memory
 lent c = let a = c .args in memoryOf (a .costs .now) (a .choices .now) (a .slots .now)

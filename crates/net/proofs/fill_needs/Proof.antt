@@ -48,14 +48,14 @@ filling-more d net {demanded} {made} {i} {v} {next} w l e low is = record {
 }
 
 abbrev Inv-loop : tie.InvT-loop
-Inv-loop demand net₀ ends demanded₀ made₀ i₀ net demanded made i = Filling (dayOf demand [] [] [] [] ends) net demanded made i
+Inv-loop demand net₀ ends demanded₀ made₀ i₀ net demanded made i = Filling (dayOf demand [] [] [] [] [] ends) net demanded made i
 
 abbrev μ-loop : tie.MeasureT-loop
 μ-loop demand net₀ ends demanded₀ made₀ i₀ net demanded made i = length demand - i
 
 -- the day at the loop
 abbrev given : tie.At-loop Inv-loop μ-loop → Day
-given c = let a = c .before .before .before .args in dayOf (a .demand .now) [] [] [] [] (a .ends)
+given c = let a = c .before .before .before .args in dayOf (a .demand .now) [] [] [] [] [] (a .ends)
 
 abbrev at-loop : tie.After-net-to Inv-loop μ-loop → tie.At-loop Inv-loop μ-loop
 at-loop c = c .before .before .before

@@ -17,8 +17,8 @@ use Rattle.path_checks.proofs.binding.Tie as tie
 
 abbrev Inv-loop : tie.InvT-loop
 Inv-loop demand capacity ends total demanded₀ i₀ demanded i =
-    Searched (binds (dayOf demand capacity [] [] [] ends)) (length demand) i
-    × (demanded ≡ demandTo (dayOf demand capacity [] [] [] ends) i)
+    Searched (binds (dayOf demand capacity [] [] [] [] ends)) (length demand) i
+    × (demanded ≡ demandTo (dayOf demand capacity [] [] [] [] ends) i)
     × (demanded ≤ maxCapacity * i)
 
 abbrev μ-loop : tie.MeasureT-loop
@@ -28,7 +28,7 @@ abbrev μ-loop : tie.MeasureT-loop
 abbrev given : tie.At-loop Inv-loop μ-loop → Day
 given c =
     let a = c .before .before .before .before .args in
-    dayOf (a .demand .now) (a .capacity .now) [] [] [] (a .ends)
+    dayOf (a .demand .now) (a .capacity .now) [] [] [] [] (a .ends)
 
 -- what remains to be made from the period on
 remains : (c : tie.After-beyond2 Inv-loop μ-loop)

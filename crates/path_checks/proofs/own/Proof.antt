@@ -9,7 +9,7 @@ use Rattle.path_checks.proofs.own.Tie as tie
 
 -- the three tables
 abbrev tables : tie.Start → Day
-tables c = dayOf (c .args .demand .now) (c .args .capacity .now) (c .args .setup .now) [] [] (c .args .ends)
+tables c = dayOf (c .args .demand .now) (c .args .capacity .now) (c .args .setup .now) [] [] [] (c .args .ends)
 
 returns-2 : tie.Need-returns-2
 returns-2 c =

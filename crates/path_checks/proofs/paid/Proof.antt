@@ -14,7 +14,7 @@ use Rattle.path_checks.proofs.paid.Statement.{statement}
 use Rattle.path_checks.proofs.paid.Tie as tie
 
 abbrev Inv-loop : tie.InvT-loop
-Inv-loop demand setup i₀ i = Searched (paid (tablesOf demand [] setup [] [])) (length demand) i
+Inv-loop demand setup i₀ i = Searched (paid (tablesOf demand [] setup [] [] [])) (length demand) i
 
 abbrev μ-loop : tie.MeasureT-loop
 μ-loop demand setup i₀ i = length demand - i

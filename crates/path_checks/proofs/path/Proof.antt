@@ -17,7 +17,7 @@ use Rattle.path_checks.proofs.path.Tie as tie
 
 -- no path's tests look at unit costs or upkeep
 three-tables : (kind : PathKind) (d : Day) (s : Sizes) {answer : Check}
-    → answer ≡ checked (first (pathTests (pathOf kind) (dayOf (d .demand) (d .capacity) (d .setup) [] [] (endsOf d)) s))
+    → answer ≡ checked (first (pathTests (pathOf kind) (dayOf (d .demand) (d .capacity) (d .setup) [] [] [] (endsOf d)) s))
     → answer ≡ checked (first (pathTests (pathOf kind) d s))
 three-tables Full d s is = is
 three-tables Uncapped d s is = is
@@ -30,7 +30,7 @@ start c = c .before .before .before .before .before .before
 abbrev given : tie.After-day → Day
 given c =
     let a = start c .args in
-    dayOf (a .demand .now) (a .capacity .now) (a .setup .now) (a .unit .now) (a .holding .now) (a .ends)
+    dayOf (a .demand .now) (a .capacity .now) (a .setup .now) (a .unit .now) (a .holding .now) (a .store .now) (a .ends)
 
 abbrev lent : tie.After-day → Sizes
 lent c = let a = start c .args in sizes (a .costs) (a .choices) (a .slots)

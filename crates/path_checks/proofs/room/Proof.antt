@@ -24,7 +24,7 @@ memory-is P d s t n is = rw (← t, ← n .costs, ← n .choices) is
 
 -- the tables, from the entry, and the sizes lent
 abbrev tables : tie.Start → Day
-tables c = dayOf (c .args .demand .now) (c .args .capacity .now) (c .args .setup .now) [] [] (c .args .ends)
+tables c = dayOf (c .args .demand .now) (c .args .capacity .now) (c .args .setup .now) [] [] [] (c .args .ends)
 
 abbrev lent : tie.Start → Sizes
 lent c = sizes (c .args .costs) (c .args .choices) (c .args .slots)

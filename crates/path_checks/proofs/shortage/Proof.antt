@@ -18,10 +18,10 @@ use Rattle.path_checks.proofs.shortage.Tie as tie
 
 abbrev Inv-loop : tie.InvT-loop
 Inv-loop demand capacity ends demanded₀ available₀ i₀ demanded available i =
-    Searched (short (dayOf demand capacity [] [] [] ends)) (length demand) i
-    × (demanded ≡ demandTo (dayOf demand capacity [] [] [] ends) i)
+    Searched (short (dayOf demand capacity [] [] [] [] ends)) (length demand) i
+    × (demanded ≡ demandTo (dayOf demand capacity [] [] [] [] ends) i)
     × (demanded ≤ maxCapacity * i)
-    × (available ≡ capacityTo (dayOf demand capacity [] [] [] ends) i)
+    × (available ≡ capacityTo (dayOf demand capacity [] [] [] [] ends) i)
     × (available ≤ maxCapacity * i)
 
 abbrev μ-loop : tie.MeasureT-loop
@@ -31,7 +31,7 @@ abbrev μ-loop : tie.MeasureT-loop
 abbrev given : tie.At-loop Inv-loop μ-loop → Day
 given c =
     let a = c .before .before .before .args in
-    dayOf (a .demand .now) (a .capacity .now) [] [] [] (a .ends)
+    dayOf (a .demand .now) (a .capacity .now) [] [] [] [] (a .ends)
 
 -- what must have been made after the period
 answered : (c : tie.After-net-to Inv-loop μ-loop)

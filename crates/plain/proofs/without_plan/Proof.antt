@@ -9,7 +9,7 @@ use Rattle.plain.proofs.without_plan.Tie as tie
 
 -- the needs and the ends
 abbrev given : tie.After-summed → Day
-given c = let a = c .before .before .args in dayOf (a .demand .now) [] [] [] [] (a .ends)
+given c = let a = c .before .before .args in dayOf (a .demand .now) [] [] [] [] [] (a .ends)
 
 returns : tie.Need-returns
 returns c =

@@ -12,7 +12,7 @@ start c = let areas = c .before .before .before .before in areas .before .before
 
 -- the day, and what its planning left
 abbrev day : tie.After-plan → Day
-day c = let a = start c .args in dayOf (a .demand .now) (a .capacity .now) (a .setup .now) (a .unit .now) (a .holding .now) (a .ends)
+day c = let a = start c .args in dayOf (a .demand .now) (a .capacity .now) (a .setup .now) (a .unit .now) (a .holding .now) (a .store .now) (a .ends)
 
 abbrev left : tie.After-plan → Memory
 left c = let l = c .plan .last .1 .1 .1 .1 .1 in memoryOf (l .0) (l .1 .0) (l .1 .1 .0)

@@ -11,7 +11,7 @@ use Rattle.weigher.proofs.advance.Statement.{statement}
 use Rattle.weigher.proofs.advance.Tie as tie
 
 abbrev tables : tie.Start → Day
-tables c = let a = c .args in dayOf (a .demand .now) (a .capacity .now) (a .setup .now) (a .unit .now) (a .holding .now) (a .ends)
+tables c = let a = c .args in dayOf (a .demand .now) (a .capacity .now) (a .setup .now) (a .unit .now) (a .holding .now) (a .store .now) (a .ends)
 
 abbrev at-start : tie.After-shared-slice-known6 → tie.Start
 at-start c = c .before .before .before .before .before .before

@@ -17,7 +17,7 @@ abbrev at-start : tie.After-shared-slice-known7 → tie.Start
 at-start c = c .before .before .before .before .before .before .before
 
 abbrev tables : tie.After-shared-slice-known7 → Day
-tables c = let a = at-start c .args in dayOf (a .demand .now) (a .capacity .now) (a .setup .now) (a .unit .now) (a .holding .now) (a .ends)
+tables c = let a = at-start c .args in dayOf (a .demand .now) (a .capacity .now) (a .setup .now) (a .unit .now) (a .holding .now) (a .store .now) (a .ends)
 
 signed : (c : tie.After-shared-slice-known7) (plan : List ℕ) (w : Weighed) → ((k : ℕ) → Fits w16 (at plan k)) → Weighs (tables c) plan w → Signed w
 signed c plan w amount promised =

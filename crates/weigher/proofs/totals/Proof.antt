@@ -17,7 +17,7 @@ abbrev at-start : tie.After-walk → tie.Start
 at-start c = c .before .before .before .before .before .before .before
 
 abbrev tables : tie.After-walk → Day
-tables c = let a = at-start c .args in dayOf (a .demand .now) (a .capacity .now) (a .setup .now) (a .unit .now) (a .holding .now) (a .ends)
+tables c = let a = at-start c .args in dayOf (a .demand .now) (a .capacity .now) (a .setup .now) (a .unit .now) (a .holding .now) (a .store .now) (a .ends)
 
 abbrev slots : tie.After-walk → List ℕ
 slots c = at-start c .args .plan .now

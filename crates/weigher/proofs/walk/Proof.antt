@@ -13,7 +13,7 @@ use Rattle.weigher.proofs.walk.Statement.{statement}
 use Rattle.weigher.proofs.walk.Tie as tie
 
 abbrev Inv-loop : tie.InvT-loop
-Inv-loop demand capacity setup unit holding plan ends s₀ i₀ s i = Walking (dayOf demand capacity setup unit holding ends) (at plan) i s
+Inv-loop demand capacity setup unit holding plan ends s₀ i₀ s i = Walking (dayOf demand capacity setup unit holding store ends) (at plan) i s
 
 abbrev μ-loop : tie.MeasureT-loop
 μ-loop demand capacity setup unit holding plan ends s₀ i₀ s i = length demand - i
