@@ -14,7 +14,7 @@ use Rattle.theory.specs.Model.{Model, FeasibleTo, OptimalTo, costTo}
 use Rattle.theory.specs.Problem.{modelUnder, modelOf, ceilingIn}
 use Rattle.theory.specs.Problem as Problem
 use Rattle.theory.specs.Net.{rateOf, problemOf, Fits, rate-is, periods-is, net-covers, floor-is, total-is}
-use Rattle.theory.specs.Store.{ceilings, storeModel, Loose, ceiling-is}
+use Rattle.theory.specs.Store.{ceilingsOf, storeModel, Loose, ceiling-is}
 
 -- the charge that every plan holds after i periods: A − R while A lasts, then 0, and Z at the end
 abbrev heldBy : Day → ℕ → ℕ
@@ -124,17 +124,17 @@ module _ (d : Day) (fits : Fits d) (room : (k : ℕ) → k < periods d → d .op
   pub store-feasible : (x : ℕ → ℕ) → Feasible d x ↔ FeasibleTo (storeModel d) (periods d) (total d) x
   store-feasible x = (
     λ f.
-        rules d fits (ceilingIn (ceilings d)) x f
+        rules d fits (ceilingIn (ceilingsOf d)) x f
         (λ k l. omega (arith, ceiling-is d k l, sum-grows x (suc k) (periods d) l, f .ends, f .stored k l)),
-    λ f. conditions d fits (ceilingIn (ceilings d)) x f (λ k l. omega (arith, ceiling-is d k l, f .under k l, room k l)),
+    λ f. conditions d fits (ceilingIn (ceilingsOf d)) x f (λ k l. omega (arith, ceiling-is d k l, f .under k l, room k l)),
   )
 
   pub store-plan : (x : ℕ → ℕ) → Optimal d x ↔ OptimalTo (storeModel d) (periods d) (total d) x
-  store-plan = same-plan d fits (ceilingIn (ceilings d)) store-feasible
+  store-plan = same-plan d fits (ceilingIn (ceilingsOf d)) store-feasible
 
   pub store-optimal : (x : ℕ → ℕ)
       → Optimal d x ↔ OptimalTo (storeModel d) (Problem.periods (problemOf d)) (Problem.total (problemOf d)) x
-  store-optimal = problem-plan d fits (ceilingIn (ceilings d)) store-feasible
+  store-optimal = problem-plan d fits (ceilingIn (ceilingsOf d)) store-feasible
 
 -- Without a ceiling, for the short paths: a day whose stores can't bind.
 module _ (d : Day) (loose : Loose d) where

@@ -1,5 +1,5 @@
 -- The store limit of a day (document 02, 2.5): a ceiling on what may have been made, the test 7 on sums, and days whose stores can't bind.
--- Main definitions: `ceilings`, `storeModel`, `Loose`. Main statements: `passes-covered`, `keeps-iff`, the test decides whether some amounts keep the
+-- Main definitions: `ceilingsOf`, `storeModel`, `Loose`. Main statements: `passes-covered`, `keeps-iff`, the test decides whether some amounts keep the
 -- conditions through a period; `loose-supplied`, on a day whose stores can't bind it compares with C alone. Assumes nothing.
 use mathlib.Core.Path.{_≡_, ap}
 use mathlib.Core.List.{List, [], _∷_}
@@ -24,12 +24,12 @@ use Rattle.theory.specs.Net.{problemOf, Fits, limits-fit, net-below, net
 abbrev pub ceilingAt : Day → ℕ → ℕ
 ceilingAt d k = min (total d) (demandTo d (suc k) + at (d .store) k - d .opening)
 
-abbrev pub ceilings : Day → List ℕ
-ceilings d = listOf (ceilingAt d) (periods d)
+abbrev pub ceilingsOf : Day → List ℕ
+ceilingsOf d = listOf (ceilingAt d) (periods d)
 
 -- the model of a day under its store limits. Where A is above R + s the ceiling is cut off at 0: such a day test 7 refuses
 abbrev pub storeModel : Day → Model
-storeModel d = modelUnder (problemOf d) (ceilingIn (ceilings d))
+storeModel d = modelUnder (problemOf d) (ceilingIn (ceilingsOf d))
 
 -- what tests 1, 14 and 16 leave: every store takes R + Z
 pub record Loose (d : Day) : Type 0 where
@@ -51,7 +51,7 @@ module _ (d : Day) where
   abbrev n : ℕ
   n = periods d
 
-  pub ceiling-is : (k : ℕ) → k < n → at (ceilings d) k ≡ ceilingAt d k
+  pub ceiling-is : (k : ℕ) → k < n → at (ceilingsOf d) k ≡ ceilingAt d k
   ceiling-is = at-listOf (ceilingAt d) n
 
   -- what can be reached, cut off at T
