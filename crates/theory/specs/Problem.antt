@@ -1,5 +1,5 @@
 -- What the loops of the paths run on: five tables, one entry a period. Only a path's entry knows the day that they were made from.
--- Main definitions: `Problem`, `modelUnder`, `modelOf`, `Bounded`, `Supplied`. Assumes nothing.
+-- Main definitions: `Problem`, `modelOf`, `modelWithin`, `Bounded`, `Supplied`. Assumes nothing.
 use mathlib.Core.Path.{_≡_, refl}
 use mathlib.Core.List.{List}
 use mathlib.Core.Logic.{_↔_}
@@ -58,6 +58,9 @@ modelOf p = modelUnder p (λ _. total p)
 abbrev pub ceilingIn : List ℕ → ℕ → ℕ
 ceilingIn l zero = 0
 ceilingIn l (suc k) = at l k
+
+abbrev pub modelWithin : Problem → List ℕ → Model
+modelWithin p ceilings = modelUnder p (ceilingIn ceilings)
 
 -- what the loops rely on so that no index and no sum is out of range
 pub record Bounded (p : Problem) : Type 0 where

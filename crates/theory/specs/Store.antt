@@ -17,7 +17,7 @@ use Rattle.day.specs.Tests.{first-two}
 use Rattle.checks.specs.Passed.{DayLimits, Passes, store-passed}
 use Rattle.theory.specs.Model.{Model, FeasibleTo}
 use Rattle.theory.specs.Reachable.{high, Covered, interval}
-use Rattle.theory.specs.Problem.{ceilingIn, modelUnder, model-rising, Supplied}
+use Rattle.theory.specs.Problem.{modelWithin, model-rising, Supplied}
 use Rattle.theory.specs.Net.{problemOf, Fits, limits-fit, net-below, net-covers, floor-is, supplied-iff}
 
 -- the most that may have been made after period k + 1: R + s − A, and never more than T
@@ -29,7 +29,7 @@ ceilingsOf d = listOf (ceilingAt d) (periods d)
 
 -- the model of a day under its store limits. Where A is above R + s the ceiling is cut off at 0: such a day test 7 refuses
 abbrev pub storeModel : Day → Model
-storeModel d = modelUnder (problemOf d) (ceilingIn (ceilingsOf d))
+storeModel d = modelWithin (problemOf d) (ceilingsOf d)
 
 -- what tests 1, 14 and 16 leave: every store takes R + Z
 pub record Loose (d : Day) : Type 0 where
