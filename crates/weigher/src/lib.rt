@@ -179,7 +179,18 @@ fn walk(
     };
     let mut i = 0;
     while i < demand.len() {
-        match advance(demand, capacity, setup, unit, holding, store, plan, i, s, ends) {
+        match advance(
+            demand,
+            capacity,
+            setup,
+            unit,
+            holding,
+            store,
+            plan,
+            i,
+            s,
+            ends,
+        ) {
             Ruling::Broke(rule) => {
                 return Verdict::Broken(rule, (i + 1) as u16);
             }
