@@ -92,10 +92,12 @@ fn judge(p: Entries, amount: u16, last: bool, s: Sums, closing: u16) -> Ruling
     let supplied = s.supplied + (amount as u64);
     let demanded = s.demanded + (p.demand as u64);
     let due = checks::due(demanded, closing, last);
-    if p.capacity < amount {
+    let above_capacity = p.capacity < amount;
+    let short = supplied < due;
+    if above_capacity {
         return Ruling::Broke(Rule::AboveCapacity);
     }
-    if supplied < due {
+    if short {
         return Ruling::Broke(Rule::Short);
     }
     let before = s.supplied - s.demanded;
