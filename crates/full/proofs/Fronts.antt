@@ -19,7 +19,7 @@ use Rattle.path_checks.specs.Needed.{NeededBy}
 use Rattle.weigher.specs.Verdict.{totalsOf}
 use Rattle.weigher.specs.Walk.{FeasiblePlan, path-plan}
 use Rattle.theory.specs.Problem.{Problem, periods}
-use Rattle.theory.specs.Net.{NetTables, problemBy, Fits, limits-fit, periods-is, total-is, bounded, problem-is}
+use Rattle.theory.specs.Net.{NetTables, problemBy, limits-fit, periods-is, total-is, bounded, problem-is}
 use Rattle.theory.specs.Store.{ceilingAt, ceilingsOf, ceiling-is, passes-covered}
 use Rattle.theory.specs.Base.{store-optimal}
 use Rattle.full_table.specs.Table.{cellAt, Fillable, TableFilled, Traceable, planRead}
@@ -88,9 +88,6 @@ module _ {p : Problem} {U : List ℕ} {T : ℕ} {c : Needed} {m : Memory} (w : W
 
 module _ {d : Day} {m : Memory} {net rates ceilings : List ℕ} (a : Admitted full d (sizesOf m)) (filled : NetTables d net rates)
     (under : ceilings ≡ ceilingsOf d) where
-  fits : Fits d
-  fits = limits-fit (a .day)
-
   pub workable : {T : ℕ} {c : Needed} → T ≡ Day.total d → NeededBy full (Day.periods d) T c → Workable (problemBy net rates d) ceilings T c m
   workable t n =
       let e = periods-is d in
@@ -99,8 +96,8 @@ module _ {d : Day} {m : Memory} {net rates ceilings : List ℕ} (a : Admitted fu
         fillable = record {
           bounded = bounded d (a .day);
           ceilingCells = length-listOf (ceilingAt d) (Day.periods d) ∙ sym e;
-          covered = rw e (passes-covered d fits (Day.periods d) (omega arith) (a .supplied));
-          is = t ∙ sym (total-is d (fits .nonempty));
+          covered = rw e (passes-covered d (limits-fit (a .day)) (Day.periods d) (omega arith) (a .supplied));
+          is = t ∙ sym (total-is d (a .day .limits .nonempty));
           under = λ k l. omega (arith, ceiling-is d k (omega (arith, e)), t);
           costCells = rw t (a .room .costs);
           choiceCells = rw (e, t) (a .room .choices);
@@ -113,7 +110,7 @@ module _ {d : Day} {m : Memory} {net rates ceilings : List ℕ} (a : Admitted fu
       (size : length (after .slots) ≡ length (m .slots)) where
     left-optimal : Optimal d (at (after .slots))
     left-optimal =
-        store-optimal d fits (λ k l. a .supplied k l .room) (at (after .slots)) .1 ((rw (problem-is d filled, under) at left) .plan)
+        store-optimal d (limits-fit (a .day)) (λ k l. a .supplied k l .room) (at (after .slots)) .1 ((rw (problem-is d filled, under) at left) .plan)
 
     pub left-feasible : FeasiblePlan d (after .slots)
     left-feasible = path-plan a size (left-optimal .feasible)
