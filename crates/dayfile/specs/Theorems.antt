@@ -35,13 +35,13 @@ head-size s = go (isCharges s 0) refl
     go true q = rw (whole-charges s 0 q .here .kind) refl
     go false q = refl
 
--- what the store limits of the first k periods add: 2 bytes for each below 65,535
-abbrev pub limitBytes : (ℕ → ℕ) → ℕ → ℕ
-limitBytes store k = sumTo (λ j. length (limitOf (store j))) k
+-- the bytes of k period records with these store limits: 17 each, and 2 more where the limit is below 65,535
+abbrev pub recordBytes : (ℕ → ℕ) → ℕ → ℕ
+recordBytes store k = sumTo (λ j. 17 + length (limitOf (store j))) k
 
-pub limit-most : (store : ℕ → ℕ) (k : ℕ) → limitBytes store k ≤ 2 * k
-limit-most store zero = omega arith
-limit-most store (suc k) = omega (arith, limit-most store k, most (ltb (store k) maxStore))
+pub most-bytes : (store : ℕ → ℕ) (k : ℕ) → recordBytes store k ≤ 19 * k
+most-bytes store zero = omega arith
+most-bytes store (suc k) = omega (arith, most-bytes store k, most (ltb (store k) maxStore))
   where
     most : (b : Bool) → length (cond b (bytes2 (store k)) []) ≤ 2
     most true = omega arith
@@ -55,16 +55,15 @@ period-size s k l =
     (λ e. rw (store-there s k (e .0), lt-ltb _ _ (e .1), e .0) refl)
     (period-at s k l .kind)
 
-record-place : (s : List ℕ) (k : ℕ) → k ≤ periodsIn s → recordAt s k ≡ headSize s + 17 * k + limitBytes (storeIn s) k
+record-place : (s : List ℕ) (k : ℕ) → k ≤ periodsIn s → recordAt s k ≡ headSize s + recordBytes (storeIn s) k
 record-place s zero l = omega (arith, head-size s)
 record-place s (suc k) l = omega (arith, period-size s k l, record-place s k (omega arith))
 
--- where the body of period i begins: at byte 17 × (i − 1) + 1 of the file, 5 more where there is a head, and 2 more for each earlier store limit
--- below 65,535
+-- where the body of period i begins: after the head, the records of the earlier periods, and its kind
 abbrev pub bodyStart : List ℕ → ℕ → ℕ
-bodyStart s i = headSize s + 17 * (i - 1) + limitBytes (storeIn s) (i - 1) + 1
+bodyStart s i = headSize s + recordBytes (storeIn s) (i - 1) + 1
 
--- how many bytes it has: 16, or 18 with such a limit of its own
+-- how many bytes it has: 16, and 2 more where its store limit is below 65,535
 abbrev pub bodySize : List ℕ → ℕ → ℕ
 bodySize s i = 16 + length (limitOf (storeIn s (i - 1)))
 
@@ -103,14 +102,14 @@ place-holds s i e =
     let p = record-place s k (omega arith) in
     (rw e (ap₂ (λ (a b : ℕ). acceptedWith ((a + 1) ∷ b ∷ [])) p size), rw (← size, ← p) refl)
 
-pub file-size : (s : List ℕ) (n : ℕ) → Layout s n → length s ≡ headSize s + 17 * n + limitBytes (storeIn s) n + 3
+pub file-size : (s : List ℕ) (n : ℕ) → Layout s n → length s ≡ headSize s + recordBytes (storeIn s) n + 3
 file-size s n w =
     let here = record-place s n (omega (arith, counted s n w)) in
     let kind : bodyLength (at s (recordAt s n)) ≡ 2 = rw (w .ends) refl in
     omega (arith, w .size)
 
 pub longest-file : (s : List ℕ) (n : ℕ) → Layout s n → n ≤ maxPeriods → length s ≤ 1832
-longest-file s n w l = omega (arith, file-size s n w, limit-most (storeIn s) n, most (isCharges s 0))
+longest-file s n w l = omega (arith, file-size s n w, most-bytes (storeIn s) n, most (isCharges s 0))
   where
     most : (b : Bool) → cond b 5 0 ≤ 5
     most true = omega arith

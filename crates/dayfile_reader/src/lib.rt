@@ -104,7 +104,10 @@ fn fill(
 )
     requires { ⌜ n ≡ periodsIn (now file) ⌝ }
     requires { ⌜ Cells n (tablesOf (now demand) (now capacity) (now setup) (now unit) (now holding) (now store)) ⌝ }
-    ensures { λ _. ⌜ tablesAfter demand capacity setup unit holding store ≡ withDay (now (file .entry)) (tablesBefore demand capacity setup unit holding store) ⌝ }
+    ensures { λ _. ⌜
+        tablesAfter demand capacity setup unit holding store
+        ≡ withDay (now (file .entry)) (tablesBefore demand capacity setup unit holding store)
+        ⌝ }
 {
     let mut at = layout::head_end(file);
     let mut k = 0;
