@@ -11,7 +11,7 @@ use Rattle.day.specs.declared.Refusal.the-variants.{AboveLimit}
 use Rattle.day.specs.Sums.{at}
 use Rattle.day.specs.Day.{Day, tablesOf, maxDemand, maxCapacity, maxSetup, maxRate, maxHalfRate, maxStore}
 use Rattle.day.specs.Refusals.{aboveLimit}
-use Rattle.checks.specs.Search.{Searched, searched-next, searched-all, refused-here}
+use Rattle.checks.specs.Search.{Searched, searched-next, refused-here, passed-all}
 use Rattle.checks.proofs.values.Statement.{statement}
 use Rattle.checks.proofs.values.Tie as tie
 
@@ -61,7 +61,7 @@ loop-again : tie.Need-loop-again Inv-loop μ-loop
 loop-again c = searched-next (at-loop (c .before) .loop .inv) (answered (c .before) ∙ c .if1 .left) (omega arith)
 
 returns-2 : tie.Need-returns-2 Inv-loop μ-loop
-returns-2 c = rw (searched-all (c .before .loop .inv) (c .loop-test .left)) refl
+returns-2 c = passed-all (c .before .loop .inv) AboveLimit (c .loop-test .left)
 
 pub values-spec : {M : Type 1} → statement M
 values-spec =
