@@ -5,7 +5,7 @@ use mathlib.Core.Path.{_≡_}
 use mathlib.Core.Bool.{Bool, true, false, not, _||_}
 use mathlib.Core.List.{List, [], _∷_, _++_}
 use mathlib.Core.Option.{Option, none, some}
-use Prim.Native.Nat.{ℕ, zero, suc, _+_, _-_, _<_, min}
+use Prim.Native.Nat.{ℕ, suc, _+_, _-_, _<_}
 use lib.Dec.{eqb, ltb}
 use lib.ListN.{length}
 use Rattle.day.specs.declared.Refusal.{Refusal}
@@ -14,9 +14,9 @@ use Rattle.day.specs.declared.Refusal.the-variants.{UnequalCapacities, B
 use Rattle.day.specs.declared.Refusal.the-variants.{UnknownKind, TruncatedFile, WrongEnd, NoSuchPeriod, SurplusInventory, PaidSetup, LowStore}
 use Rattle.day.specs.declared.Check.{Check}
 use Rattle.day.specs.declared.Check.the-variants.{Passed, Refused}
-use Rattle.day.specs.Sums.{at}
+use Rattle.day.specs.Sums.{at, cappedTo}
 use Rattle.day.specs.Find.{find}
-use Rattle.day.specs.Day.{Day, periods, maxPeriods, maxDemand, maxCapacity, maxSetup, maxRate, maxHalfRate, maxTotal}
+use Rattle.day.specs.Day.{Day, periods, maxPeriods, maxDemand, maxCapacity, maxSetup, maxRate, maxHalfRate, maxTotal, maxStore}
 use Rattle.day.specs.Day.{demandTo, required, total, netTo}
 use Rattle.day.specs.Plan.{KeepsTo}
 
@@ -112,6 +112,7 @@ aboveLimit d k =
     || ltb maxSetup (at (d .setup) k)
     || ltb maxRate (at (d .unit) k)
     || ltb maxHalfRate (at (d .holding) k)
+    || ltb maxStore (at (d .store) k)
 
 abbrev pub badValue : Day → Option Refusal
 badValue d = refuseAt AboveLimit (find (aboveLimit d) (periods d))
@@ -135,8 +136,7 @@ badSlots slots needed = refuse (ltb slots needed) FewSlots
 -- 7: no amounts for periods 1 to k + 1 keep the conditions through it. The test is on sums; that it says just this is `shortage-names` (theory).
 -- The most that can have been made after i periods: no more than c in each, and A with it at most R + s after each
 abbrev pub mostTo : Day → ℕ → ℕ
-mostTo d zero = 0
-mostTo d (suc k) = min (mostTo d k + at (d .capacity) k) (demandTo d (suc k) + at (d .store) k - d .opening)
+mostTo d i = cappedTo (at (d .capacity)) (λ k. demandTo d (suc k) + at (d .store) k - d .opening) i
 
 -- A alone is above R + s, or what must have been made is above that most
 abbrev pub short : Day → ℕ → Bool

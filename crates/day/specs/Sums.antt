@@ -4,7 +4,7 @@
 use mathlib.Core.Path.{_≡_, refl, ap, ap₂}
 use mathlib.Core.List.{List, [], _∷_}
 use mathlib.Core.Logic.{⊎-elim}
-use Prim.Native.Nat.{ℕ, zero, suc, _+_, _≤_, _<_, suc-le-suc}
+use Prim.Native.Nat.{ℕ, zero, suc, _+_, _≤_, _<_, min, suc-le-suc}
 use native.Mathlib.Nat.{eq-or-lt-of-le, le-of-suc-le-suc}
 use native.Mathlib.Omega.{arith}
 use lib.ListN.{getD, length}
@@ -18,6 +18,11 @@ at l k = getD l k 0
 abbrev pub sumTo : (ℕ → ℕ) → ℕ → ℕ
 sumTo f zero = 0
 sumTo f (suc i) = sumTo f i + f i
+
+-- the same, but after each term no more than u: u k after f k
+abbrev pub cappedTo : (f u : ℕ → ℕ) → ℕ → ℕ
+cappedTo f u zero = 0
+cappedTo f u (suc i) = min (cappedTo f u i + f i) (u i)
 
 -- r is the value, and at most `top`: what a sum of such terms needs so that it fits
 pub record Term (value top r : ℕ) : Type 0 where

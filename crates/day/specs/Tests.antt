@@ -110,6 +110,16 @@ pub first-two : (o p : Option Refusal) → first (o ∷ p ∷ []) ≡ none → (
 first-two none p e = (refl, sym (first-one p) ∙ e)
 first-two (some r) p e = absurd (Option·some-ne-none _ e)
 
+-- the answers of two tests in order
+abbrev pub inOrder : Check → Check → Check
+inOrder Passed c = c
+inOrder (Refused r) c = Refused r
+
+pub in-order : (o p : Option Refusal) {test answer : Check} → test ≡ checked o → answer ≡ inOrder test (checked p)
+    → answer ≡ checked (first (o ∷ p ∷ []))
+in-order none p is e = rw is at e ∙ ap checked (sym (first-one p))
+in-order (some r) p is e = rw is at e
+
 pub alone : (o : Option Refusal) {answer : Check} → answer ≡ checked o → answer ≡ checked (first (o ∷ []))
 alone none is = is
 alone (some r) is = is

@@ -54,6 +54,7 @@ fn work(
     setup: &[u32],
     unit: &[u32],
     holding: &[u32],
+    store: &[u16],
     costs: &mut [u64],
     choices: &mut [u16],
     slots: &mut [u16],
@@ -89,7 +90,7 @@ fn work(
     );
     areas::clear_wide(costs, cost_cells);
     areas::clear_narrow(choices, choice_cells);
-    weigher::totals(demand, capacity, setup, unit, holding, slots, ends)
+    weigher::totals(demand, capacity, setup, unit, holding, store, slots, ends)
 }
 
 // The plan of a day with one capacity throughout, into the first n slots.
@@ -99,6 +100,7 @@ pub fn plan(
     setup: &[u32],
     unit: &[u32],
     holding: &[u32],
+    store: &[u16],
     costs: &mut [u64],
     choices: &mut [u16],
     slots: &mut [u16],
@@ -117,6 +119,7 @@ pub fn plan(
         setup,
         unit,
         holding,
+        store,
         costs.len(),
         choices.len(),
         slots.len(),
@@ -130,6 +133,7 @@ pub fn plan(
         setup,
         unit,
         holding,
+        store,
         costs,
         choices,
         slots,

@@ -41,6 +41,7 @@ fn work(
     setup: &[u32],
     unit: &[u32],
     holding: &[u32],
+    store: &[u16],
     costs: &mut [u64],
     slots: &mut [u16],
     ends: Ends,
@@ -62,7 +63,7 @@ fn work(
     net::fill(demand, holding, net, rates, ends);
     solve(net, capacity, unit, rates, costs, slots);
     areas::clear_wide(costs, n);
-    weigher::totals(demand, capacity, setup, unit, holding, slots, ends)
+    weigher::totals(demand, capacity, setup, unit, holding, store, slots, ends)
 }
 
 // The plan of a day without setup cost, into the first n slots.
@@ -72,6 +73,7 @@ pub fn plan(
     setup: &[u32],
     unit: &[u32],
     holding: &[u32],
+    store: &[u16],
     costs: &mut [u64],
     slots: &mut [u16],
     ends: Ends,
@@ -89,6 +91,7 @@ pub fn plan(
         setup,
         unit,
         holding,
+        store,
         costs.len(),
         0,
         slots.len(),
@@ -96,5 +99,15 @@ pub fn plan(
     ) {
         return Answer::Refused(r);
     }
-    Answer::Planned(work(demand, capacity, setup, unit, holding, costs, slots, ends))
+    Answer::Planned(work(
+        demand,
+        capacity,
+        setup,
+        unit,
+        holding,
+        store,
+        costs,
+        slots,
+        ends,
+    ))
 }

@@ -1,10 +1,12 @@
 //! What every path's loops run on in place of a day's demands and upkeep: the net needs, which are what each period adds to what must have
-//! been made, and the rates, which are what a unit left after each period costs to hold.
+//! been made, and the rates, which are what a unit left after each period costs to hold. And, for the full path, what its store limits leave to be made.
 ghost use mathlib.Core.Path.{_≡_};
 ghost use mathlib.Core.List.{[]};
+ghost use Prim.Native.Nat.{_≤_};
 ghost use lib.ListN.{length};
-ghost use Rattle.day.specs.Day.{dayOf};
+ghost use Rattle.day.specs.Day.{dayOf, required};
 ghost use Rattle.theory.specs.Net.{netNeeds, ratesOf, NetFits, HalfRates, NetTables};
+ghost use Rattle.theory.specs.Store.{ceilingsOf};
 use day::Ends;
 
 // The net need of every period.
@@ -50,4 +52,24 @@ pub fn fill(demand: &[u16], holding: &[u32], net: &mut [u16], rates: &mut [u32],
 {
     fill_needs(demand, net, ends);
     fill_rates(holding, rates);
+}
+
+// The most that may have been made after every period: R + s − A, and never more than T.
+pub fn fill_ceilings(demand: &[u16], store: &[u16], ceilings: &mut [u16], ends: Ends)
+    requires { ⌜ length (now ceilings) ≡ length (now demand) ⌝ }
+    requires { ⌜ length (now store) ≡ length (now demand) ⌝ }
+    requires { ⌜ NetFits (dayOf (now demand) [] [] [] [] [] ends) ⌝ }
+    requires { ⌜ ends .opening ≤ required (dayOf (now demand) [] [] [] [] [] ends) ⌝ }
+    ensures { λ _. ⌜ now (ceilings .exit) ≡ ceilingsOf (dayOf (now (demand .entry)) [] [] [] [] (now (store .entry)) ends) ⌝ }
+{
+    let total = checks::total(demand, ends);
+    let opening = ends.opening as u64;
+    let mut demanded: u64 = 0;
+    let mut i = 0;
+    while i < demand.len() {
+        demanded += demand[i] as u64;
+        let taken = demanded + (store[i] as u64);
+        ceilings[i] = checks::smaller(total, checks::beyond(taken, opening)) as u16;
+        i += 1;
+    }
 }

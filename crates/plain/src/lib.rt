@@ -92,6 +92,7 @@ pub fn search(
     setup: &[u32],
     unit: &[u32],
     holding: &[u32],
+    store: &[u16],
     ends: Ends,
 ) -> Best
     ensures { λ r. ⌜ Searched (dayBefore demand capacity setup unit holding store ends) r ⌝ }
@@ -106,7 +107,7 @@ pub fn search(
     let mut m = 0;
     while m < count {
         let plan = plan_of(m);
-        let w = weigher::weigh(demand, capacity, setup, unit, holding, &plan, ends);
+        let w = weigher::weigh(demand, capacity, setup, unit, holding, store, &plan, ends);
         best = better(best, plan, w);
         m += 1;
     }

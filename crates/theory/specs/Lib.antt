@@ -33,6 +33,7 @@ pub mod Counted
 -- demands of the calls.
 pub mod Problem
 pub mod Net
+pub mod Store
 pub mod Base
 pub mod InTurn
 pub mod Demands

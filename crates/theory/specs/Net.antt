@@ -162,6 +162,12 @@ module _ (d : Day) where
       let size = length-take-le (n - 0) (replicate {A = ℕ} maxPeriods 0) (omega (arith, l .few, length-replicate {A = ℕ} maxPeriods 0)) in
       (omega (arith, size), (omega (arith, size, l .lengths .holding), (limits-net g, limits-half g)))
 
+  -- and filling a third
+  pub limits-under : DayLimits d
+      → (length (take (n - 0) (replicate {A = ℕ} maxPeriods 0)) ≡ length (d .demand))
+      × ((length (d .store) ≡ length (d .demand)) × (NetFits (dayOf (d .demand) [] [] [] [] [] (endsOf d)) × (d .opening ≤ required d)))
+  limits-under g = (limits-fill g .0, (g .limits .lengths .store, (limits-net g, g .used)))
+
   pub bounded : DayLimits d → Bounded (problemOf d)
   bounded g =
       let e = periods-is in

@@ -46,6 +46,7 @@ fn work(
     setup: &[u32],
     unit: &[u32],
     holding: &[u32],
+    store: &[u16],
     costs: &mut [u64],
     choices: &mut [u16],
     slots: &mut [u16],
@@ -69,7 +70,7 @@ fn work(
     solve(net, setup, unit, rates, costs, choices, slots);
     areas::clear_wide(costs, n + 1);
     areas::clear_narrow(choices, n + 1);
-    weigher::totals(demand, capacity, setup, unit, holding, slots, ends)
+    weigher::totals(demand, capacity, setup, unit, holding, store, slots, ends)
 }
 
 // The plan of a day whose capacities can't bind, into the first n slots.
@@ -79,6 +80,7 @@ pub fn plan(
     setup: &[u32],
     unit: &[u32],
     holding: &[u32],
+    store: &[u16],
     costs: &mut [u64],
     choices: &mut [u16],
     slots: &mut [u16],
@@ -97,6 +99,7 @@ pub fn plan(
         setup,
         unit,
         holding,
+        store,
         costs.len(),
         choices.len(),
         slots.len(),
@@ -110,6 +113,7 @@ pub fn plan(
         setup,
         unit,
         holding,
+        store,
         costs,
         choices,
         slots,

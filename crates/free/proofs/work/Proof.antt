@@ -22,7 +22,7 @@ abbrev lending : tie.After-fill-arg2 → tie.After-slice-known2
 lending c = c .before .before .before .before
 
 abbrev opened : tie.After-slice-known2 → tie.Start
-opened c = c .before .before .before .before .before .before .before
+opened c = c .before .before .before .before .before .before .before .before
 
 abbrev begun : tie.After-fill → tie.Start
 begun c = opened (lending (c .before))

@@ -11,7 +11,7 @@ use Rattle.day.specs.declared.Refusal.the-variants.{BindingCapacity}
 use Rattle.day.specs.Sums.{at}
 use Rattle.day.specs.Day.{Day, dayOf, total, demandTo, maxCapacity}
 use Rattle.day.specs.Refusals.{binds}
-use Rattle.checks.specs.Search.{Searched, searched-next, searched-all, refused-here}
+use Rattle.checks.specs.Search.{Searched, searched-next, refused-here, passed-all}
 use Rattle.path_checks.proofs.binding.Statement.{statement}
 use Rattle.path_checks.proofs.binding.Tie as tie
 
@@ -71,7 +71,7 @@ loop-again c =
     )
 
 returns-2 : tie.Need-returns-2 Inv-loop μ-loop
-returns-2 c = rw (searched-all (c .before .loop .inv .0) (c .loop-test .left)) refl
+returns-2 c = passed-all (c .before .loop .inv .0) BindingCapacity (c .loop-test .left)
 
 pub binding-spec : {M : Type 1} → statement M
 binding-spec =
