@@ -26,7 +26,7 @@ use Rattle.day.specs.Day.{Day, periods, maxPeriods, maxDemand, maxCapacity, max
 use Rattle.day.specs.Day.{demandTo, required, total, netTo, net-before}
 use Rattle.day.specs.Refusals.{numberOf, periodOf, refuseAt, anywhere, first, badCount, badLengths, aboveLimit, badValue, tableTests}
 use Rattle.day.specs.Refusals.{badTotal, badOpening, totalTests, dayTests}
-use Rattle.day.specs.Refusals.{badAreas, badSlots, mostTo, short, shortage, differs, unequal, binds, binding, paid, paidSetup, tight, lowStore}
+use Rattle.day.specs.Refusals.{badAreas, badSlots, mostTo, short, shortage, FirstAt, differs, unequal, binds, binding, paid, paidSetup, tight, lowStore}
 use Rattle.day.specs.Tests.{first-split, first-passed, first-one, not-refused, nowhere, neither}
 use Rattle.day.specs.Outcome.{Path, Sizes, Roomy, memoryTests, pathTests, refusal}
 
@@ -64,14 +64,9 @@ pub record Passes (d : Day) (k : ℕ) : Type 0 where
   pub room : d .opening ≤ demandTo d (suc k) + at (d .store) k
   pub reach : netTo d (suc k) ≤ mostTo d (suc k)
 
--- what test 7 refuses, by number and period: the first period k + 1 that does not pass
-pub record FirstFailing (d : Day) (r : Refusal) : Type 0 where
-  pub k : ℕ
-  pub number : numberOf r ≡ 7
-  pub period : periodOf r ≡ suc k
-  pub inside : k < periods d
-  pub fails : Passes d k → ⊥
-  pub earlier : (j : ℕ) → j < k → Passes d j
+-- what test 7 refuses: the first period that does not pass
+abbrev pub FirstFailing : Day → Refusal → Type 0
+FirstFailing d r = FirstAt d (λ k. Passes d k → ⊥) (Passes d) r
 
 -- 1
 pub count-passed : (n : ℕ) → badCount n ≡ none → (1 ≤ n) × (n ≤ maxPeriods)

@@ -81,7 +81,7 @@ abbrev pub recordAt : List ℕ → ℕ → ℕ
 recordAt s zero = headEnd s
 recordAt s (suc i) = next s (recordAt s i)
 
--- the record at byte p is a period's, by its kind
+-- the record at byte p is a period's: of kind 1, or of kind 4 with a limit below 65,535
 abbrev pub PeriodAt : List ℕ → ℕ → Type 0
 PeriodAt s p = (at s p ≡ periodKind) ⊎ ((at s p ≡ storeKind) × (number2 (body s p) 16 < maxStore))
 
@@ -137,8 +137,11 @@ chargeIn offset s = cond (isCharges s 0) (number2 (body s 0) offset) 0
 abbrev pub field : (List ℕ → ℕ → ℕ) → ℕ → List ℕ → ℕ → ℕ
 field number offset s k = number (body s (recordAt s k)) offset
 
+abbrev pub limitIn : (kind : ℕ) → List ℕ → ℕ
+limitIn kind b = cond (eqb kind storeKind) (number2 b 16) maxStore
+
 abbrev pub storeIn : List ℕ → ℕ → ℕ
-storeIn s k = cond (eqb (at s (recordAt s k)) storeKind) (field number2 16 s k) maxStore
+storeIn s k = limitIn (at s (recordAt s k)) (body s (recordAt s k))
 
 abbrev pub dayIn : List ℕ → Day
 dayIn s = record {

@@ -133,8 +133,9 @@ badAreas costs needed choices needed′ = refuse (ltb costs needed || ltb choice
 abbrev pub badSlots : (slots needed : ℕ) → Option Refusal
 badSlots slots needed = refuse (ltb slots needed) FewSlots
 
--- 7: no amounts for periods 1 to k + 1 keep the conditions through it. The test is on sums; that it says just this is `shortage-names` (theory).
--- The most that can have been made after i periods: no more than c in each, and A with it at most R + s after each
+-- 7: no amounts for periods 1 to k + 1 keep the conditions through k + 1. The test is on sums; that it says just this of a day that 14 lets pass is
+-- `shortage-names` (theory/specs/Demands).
+-- The most that can have been made after i periods: no more than c in each, and with A no more than R + s after each; 0 where A alone is more
 abbrev pub mostTo : Day → ℕ → ℕ
 mostTo d i = cappedTo (at (d .capacity)) (λ k. demandTo d (suc k) + at (d .store) k - d .opening) i
 
@@ -145,14 +146,18 @@ short d k = ltb (demandTo d (suc k) + at (d .store) k) (d .opening) || ltb (most
 abbrev pub shortage : Day → Option Refusal
 shortage d = refuseAt Shortage (find (short d) (periods d))
 
--- what 7 says: period k + 1 is the first for which no amounts for 1 to k + 1 keep the conditions through it
-pub record FirstShort (d : Day) (r : Refusal) : Type 0 where
+-- r is 7 with period k + 1, which fails, as each before it does not
+pub record FirstAt (d : Day) (Fails Passes : ℕ → Type 0) (r : Refusal) : Type 0 where
   pub k : ℕ
   pub number : numberOf r ≡ 7
   pub period : periodOf r ≡ suc k
   pub inside : k < periods d
-  pub none : (x : ℕ → ℕ) → KeepsTo d (suc k) x → ⊥
-  pub earlier : (j : ℕ) → j < k → (x : ℕ → ℕ) × KeepsTo d (suc j) x
+  pub fails : Fails k
+  pub earlier : (j : ℕ) → j < k → Passes j
+
+-- what 7 says: no amounts keep the conditions through that period, and through each before it some do
+abbrev pub FirstShort : Day → Refusal → Type 0
+FirstShort d r = FirstAt d (λ k. (x : ℕ → ℕ) → KeepsTo d (suc k) x → ⊥) (λ k. (x : ℕ → ℕ) × KeepsTo d (suc k) x) r
 
 -- 8: capacities differ
 abbrev pub differs : Day → ℕ → Bool

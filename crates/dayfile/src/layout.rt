@@ -12,7 +12,7 @@ ghost use Rattle.dayfile.specs.Answers.{BodyAt, fileTests};
 use day::Check;
 use day::Refusal;
 
-const PERIOD: u8 = 1;
+pub const PERIOD: u8 = 1;
 
 const END: u8 = 2;
 

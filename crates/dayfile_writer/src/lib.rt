@@ -18,15 +18,17 @@ use day::Ends;
 use day::Refusal;
 use dayfile::WriteAnswer;
 use dayfile::layout::NO_LIMIT;
+use dayfile::layout::PERIOD;
+use dayfile::layout::STORE;
 
 // The kind of a period's record, by its store limit.
 fn kind_of(store: u16) -> u8
     ensures { λ r. ⌜ r ≡ kindOf store ⌝ }
 {
     if store < NO_LIMIT {
-        return 4;
+        return STORE;
     }
-    1
+    PERIOD
 }
 
 // How long the record is: only a store limit below 65,535 is written.

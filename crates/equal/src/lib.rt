@@ -1,4 +1,4 @@
-//! The equal path: Florian and Klein (report, section 3), for days with one capacity throughout.
+//! The equal path: Florian and Klein (report, section 3), for days with one capacity throughout whose stores can't bind.
 //! It tests, takes the net needs and the rates, finds the plan row by row, hands out the last row, clears its areas, and weighs the plan.
 ghost use lib.ListN.{length};
 ghost use Rattle.day.specs.Day.{dayOf};
@@ -93,7 +93,7 @@ fn work(
     weigher::totals(demand, capacity, setup, unit, holding, store, slots, ends)
 }
 
-// The plan of a day with one capacity throughout, into the first n slots.
+// The plan of a day with one capacity throughout whose stores can't bind, into the first n slots.
 pub fn plan(
     demand: &[u16],
     capacity: &[u16],

@@ -1,4 +1,4 @@
-//! The free path: the greedy rule (report, section 4; document 02, 2.3), for days without setup cost.
+//! The free path: the greedy rule (report, section 4; document 02, 2.3), for days without setup cost whose stores can't bind.
 //! It tests, takes the net needs and the rates, writes the keys of the periods into its cost area, serves the needs in turn, clears the area, and
 //! weighs the plan.
 ghost use mathlib.Core.List.{[]};
@@ -66,7 +66,7 @@ fn work(
     weigher::totals(demand, capacity, setup, unit, holding, store, slots, ends)
 }
 
-// The plan of a day without setup cost, into the first n slots.
+// The plan of a day without setup cost whose stores can't bind, into the first n slots.
 pub fn plan(
     demand: &[u16],
     capacity: &[u16],

@@ -1,5 +1,6 @@
 //! What every path's loops run on in place of a day's demands and upkeep: the net needs, which are what each period adds to what must have
-//! been made, and the rates, which are what a unit left after each period costs to hold. And, for the full path, what its store limits leave to be made.
+//! been made, and the rates, which are what a unit left after each period costs to hold. For the full path also the ceilings: the most that the
+//! store limits let be made by the end of each period.
 ghost use mathlib.Core.Path.{_≡_};
 ghost use mathlib.Core.List.{[]};
 ghost use Prim.Native.Nat.{_≤_};
@@ -68,8 +69,8 @@ pub fn fill_ceilings(demand: &[u16], store: &[u16], ceilings: &mut [u16], ends: 
     let mut i = 0;
     while i < demand.len() {
         demanded += demand[i] as u64;
-        let taken = demanded + (store[i] as u64);
-        ceilings[i] = checks::smaller(total, checks::beyond(taken, opening)) as u16;
+        let limit = demanded + (store[i] as u64);
+        ceilings[i] = checks::smaller(total, checks::beyond(limit, opening)) as u16;
         i += 1;
     }
 }

@@ -48,10 +48,10 @@ fn shortage(demand: &[u16], capacity: &[u16], store: &[u16], ends: Ends) -> Chec
     let mut i = 0;
     while i < demand.len() {
         demanded += demand[i] as u64;
-        let taken = demanded + (store[i] as u64);
-        most = checks::smaller(most + (capacity[i] as u64), checks::beyond(taken, opening));
+        let limit = demanded + (store[i] as u64);
+        most = checks::smaller(most + (capacity[i] as u64), checks::beyond(limit, opening));
         i += 1;
-        if taken < opening || most < checks::net_to(demanded, i == demand.len(), ends) {
+        if limit < opening || most < checks::net_to(demanded, i == demand.len(), ends) {
             return Check::Refused(Refusal::Shortage(i as u16));
         }
     }

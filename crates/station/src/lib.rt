@@ -43,7 +43,7 @@ pub extern "C" fn yakkurem_full(
     codes::planned(a, answer)
 }
 
-// The plan of a day whose capacities can't bind; the answer is its cost and setups.
+// The plan of a day whose capacities and stores can't bind; the answer is its cost and setups.
 #[no_mangle]
 pub extern "C" fn yakkurem_uncapped(
     demand: &[u16],
@@ -79,7 +79,7 @@ pub extern "C" fn yakkurem_uncapped(
     codes::planned(a, answer)
 }
 
-// The plan of a day with one capacity throughout; the answer is its cost and setups.
+// The plan of a day with one capacity throughout whose stores can't bind; the answer is its cost and setups.
 #[no_mangle]
 pub extern "C" fn yakkurem_equal(
     demand: &[u16],
@@ -115,7 +115,7 @@ pub extern "C" fn yakkurem_equal(
     codes::planned(a, answer)
 }
 
-// The plan of a day without setup cost; the answer is its cost and setups. No choice area is lent.
+// The plan of a day without setup cost whose stores can't bind; the answer is its cost and setups. No choice area is lent.
 #[no_mangle]
 pub extern "C" fn yakkurem_free(
     demand: &[u16],
@@ -163,7 +163,9 @@ pub extern "C" fn yakkurem_weigh(
     plan: &[u16],
     answer: &mut [u64; 2],
 ) -> u64
-    ensures { λ r. ⌜ Shows (Weighs (dayBefore demand capacity setup unit holding store (endsWith opening closing)) (now (plan .entry))) weighedFigures answer r ⌝ }
+    ensures { λ r. ⌜
+        Shows (Weighs (dayBefore demand capacity setup unit holding store (endsWith opening closing)) (now (plan .entry)))
+        weighedFigures answer r ⌝ }
 {
     let ends = Ends { opening, closing };
     let w = weigher::weigh(demand, capacity, setup, unit, holding, store, plan, ends);

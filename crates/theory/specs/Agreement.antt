@@ -59,7 +59,8 @@ paths-agree P Q d m m′ r after q after′ room room′ kind kind′ a b =
 
 module _ (d : Day) (m m′ : Memory) (r : Answer) (after : Memory) (q : Answer) (after′ : Memory)
     (room′ : Roomy full d (sizesOf m′)) (b : Runs full d m′ q after′) where
-  -- Of a day whose stores can't bind (document 02, 2.5). Demand 3: where capacities can't either, the uncapped path accepts exactly when the full path does, with the same plan, cost and setups.
+  -- Of a day whose stores can't bind (document 02, 2.5).
+  -- Demand 3: where capacities can't either, the uncapped path accepts exactly when the full path does, with the same plan, cost and setups.
   pub uncapped-agrees : Roomy uncapped d (sizesOf m) → binding d ≡ none → lowStore d ≡ none → Runs uncapped d m r after → Agree d r after q after′
   uncapped-agrees room kind loose a = paths-agree uncapped full d m m′ r after q after′ room room′ (rw (kind, loose) refl) refl a b
 

@@ -1,20 +1,19 @@
 -- A day's plan is its problem's: the conditions on a plan are the model's rules, and sum (1) is the model's cost and what every plan pays alike.
 -- Main statements: `store-optimal`, a plan is the day's just where it is the problem's under the day's ceilings; `loose-optimal`, and where it is the
 -- problem's without, on a day whose stores can't bind. Assumes nothing.
-use mathlib.Core.Path.{_≡_, sym, ap, subst}
+use mathlib.Core.Path.{_≡_, refl, sym, ap, subst}
 use mathlib.Core.Logic.{_↔_}
 use Prim.Native.Nat.{ℕ, zero, suc, _+_, _-_, _*_, _≤_, _<_}
-use native.Mathlib.Decide.{decLt}
 use native.Mathlib.Omega.{arith}
 use Rattle.day.specs.Sums.{at, sumTo, sum-grows}
-use Rattle.day.specs.Day.{Day, periods, demandTo, total, netTo, net-before, net-end}
+use Rattle.day.specs.Day.{Day, periods, demandTo, total, netTo}
 use Rattle.day.specs.Plan.{Feasible, Optimal, Precedes, inventory, cost}
 use Rattle.day.specs.Plan as Plan
 use Rattle.theory.specs.Model.{Model, FeasibleTo, OptimalTo, costTo}
 use Rattle.theory.specs.Problem.{modelUnder, modelOf, ceilingIn}
 use Rattle.theory.specs.Problem as Problem
 use Rattle.theory.specs.Net.{rateOf, problemOf, Fits, rate-is, periods-is, net-covers, floor-is, total-is}
-use Rattle.theory.specs.Store.{ceilingsOf, storeModel, Loose, ceiling-is}
+use Rattle.theory.specs.Store.{ceilingsOf, storeModel, Loose, ceiling-is, above-net}
 
 -- the charge that every plan holds after i periods: A − R while A lasts, then 0, and Z at the end
 abbrev heldBy : Day → ℕ → ℕ
@@ -43,20 +42,13 @@ module _ (d : Day) (fits : Fits d) (U : ℕ → ℕ) where
   floor-here : (i : ℕ) → i ≤ n → M .floor i ≡ netTo d i
   floor-here = floor-is d (fits .nonempty)
 
-  net-served : (x : ℕ → ℕ) → Feasible d x → (k : ℕ) → k < n → netTo d (suc k) ≤ sumTo x (suc k)
-  net-served x f k l = go (decLt (suc k) n)
-    where
-      go : Dec (suc k < n) → netTo d (suc k) ≤ sumTo x (suc k)
-      go (yes h) = omega (arith, net-before d (suc k) h, f .served k l)
-      go (no h) = let e : suc k ≡ n = omega arith in omega (arith, ap (netTo d) e, ap (sumTo x) e, net-end d, f .ends)
-
   -- the conditions are the model's rules, where its ceiling and the store limit say the same of a plan
   rules : (x : ℕ → ℕ) → Feasible d x → ((k : ℕ) → k < n → sumTo x (suc k) ≤ U (suc k)) → FeasibleTo M n (total d) x
   rules x f under =
       record {
-        total = omega (arith, f .ends);
+        total = omega (arith, f .ends refl);
         within = f .within;
-        served = λ k l. omega (arith, floor-here (suc k) l, net-served x f k l);
+        served = λ k l. omega (arith, floor-here (suc k) l, above-net d n x (omega arith) f k l);
         under = under;
       }
 
@@ -64,7 +56,7 @@ module _ (d : Day) (fits : Fits d) (U : ℕ → ℕ) where
   conditions x f stored =
       record {
         served = λ k l. omega (arith, floor-here (suc k) l, net-covers d (suc k) l, f .served k l);
-        ends = omega (arith, f .total, fits .used);
+        ends = λ _. omega (arith, f .total, fits .used);
         within = f .within;
         stored = stored;
       }
@@ -125,7 +117,7 @@ module _ (d : Day) (fits : Fits d) (room : (k : ℕ) → k < periods d → d .op
   store-feasible x = (
     λ f.
         rules d fits (ceilingIn (ceilingsOf d)) x f
-        (λ k l. omega (arith, ceiling-is d k l, sum-grows x (suc k) (periods d) l, f .ends, f .stored k l)),
+        (λ k l. omega (arith, ceiling-is d k l, sum-grows x (suc k) (periods d) l, f .ends refl, f .stored k l)),
     λ f. conditions d fits (ceilingIn (ceilingsOf d)) x f (λ k l. omega (arith, ceiling-is d k l, f .under k l, room k l)),
   )
 
@@ -142,7 +134,7 @@ module _ (d : Day) (loose : Loose d) where
   loose-feasible x = (
     λ f.
         rules d (loose .fits) (λ _. Problem.total (problemOf d)) x f
-        (λ k l. omega (arith, sum-grows x (suc k) (periods d) l, f .ends, total-is d (loose .fits .nonempty))),
+        (λ k l. omega (arith, sum-grows x (suc k) (periods d) l, f .ends refl, total-is d (loose .fits .nonempty))),
     λ f.
         conditions d (loose .fits) (λ _. Problem.total (problemOf d)) x f
         (λ k l. omega (arith, loose .takes k l, loose .fits .used, sum-grows x (suc k) (periods d) l, f .total)),

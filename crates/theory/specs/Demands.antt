@@ -14,8 +14,8 @@ use Rattle.day.specs.declared.Refusal.the-variants.{Shortage}
 use Rattle.day.specs.Sums.{at}
 use Rattle.day.specs.Find.{nothing-found}
 use Rattle.day.specs.Day.{Day, periods, demandTo, capacityTo, required, total, netTo}
-use Rattle.day.specs.Plan.{Feasible, KeepsTo, Optimal, cost}
-use Rattle.day.specs.Refusals.{numberOf, periodOf, badOpening, short, shortage, FirstShort, refuseAt}
+use Rattle.day.specs.Plan.{Feasible, Optimal, cost}
+use Rattle.day.specs.Refusals.{badOpening, short, shortage, FirstAt, FirstShort, refuseAt}
 use Rattle.checks.specs.Passed.{Passes, passes-iff, shortage-passed, shortage-found}
 use Rattle.theory.specs.Order.{precedes-anti}
 use Rattle.theory.specs.Recursion as Recursion
@@ -29,23 +29,13 @@ plan-unique d x y o q = precedes-anti (cost d) (periods d) x y (o .first y (q .f
 
 -- Demand 2: refusal 14 is given to no day that has a plan, which uses A up.
 pub plan-uses : (d : Day) (x : ℕ → ℕ) → Feasible d x → badOpening d ≡ none
-plan-uses d x f = rw (le-ltb (required d) (d .opening) (omega (arith, f .ends))) refl
-
--- through n the conditions are those on a plan
-keeps-feasible : (d : Day) (x : ℕ → ℕ) → KeepsTo d (periods d) x → Feasible d x
-keeps-feasible d x f = record { served = f .served; ends = f .ends refl; within = f .within; stored = f .stored }
-
-feasible-keeps : (d : Day) (x : ℕ → ℕ) → Feasible d x → KeepsTo d (periods d) x
-feasible-keeps d x f = record { served = f .served; ends = λ _. f .ends; within = f .within; stored = f .stored }
+plan-uses d x f = rw (le-ltb (required d) (d .opening) (omega (arith, f .ends refl))) refl
 
 -- Of a day that tests 1 and 14 let pass.
 module _ (d : Day) (fits : Fits d) where
   -- Demand 2: whole amounts keep the conditions exactly if, in every period, the store takes A, and what must have been made can have been.
   pub feasible-iff : ((x : ℕ → ℕ) × Feasible d x) ↔ ((k : ℕ) → k < periods d → Passes d k)
-  feasible-iff = (
-    λ w. keeps-iff d fits (periods d) (omega arith) .0 (w .0, feasible-keeps d (w .0) (w .1)),
-    λ p. let w = keeps-iff d fits (periods d) (omega arith) .1 p in (w .0, keeps-feasible d (w .0) (w .1)),
-  )
+  feasible-iff = keeps-iff d fits (periods d) (omega arith)
 
   -- Demand 3: where there is a plan at all, there is the plan.
   pub optimal-exists : (y : ℕ → ℕ) → Feasible d y → (x : ℕ → ℕ) × Optimal d x
@@ -70,18 +60,13 @@ module _ (d : Day) (fits : Fits d) where
         number = f .number;
         period = f .period;
         inside = f .inside;
-        none = λ x h. f .fails (keeps-iff d fits (suc (f .k)) (f .inside) .0 (x, h) (f .k) (omega arith));
+        fails = λ x h. f .fails (keeps-iff d fits (suc (f .k)) (f .inside) .0 (x, h) (f .k) (omega arith));
         earlier = λ j l. keeps-iff d fits (suc j) (omega (arith, f .inside)) .1 (λ i h. f .earlier i (omega arith));
       }
 
--- what it names on a day whose stores can't bind: the first period k + 1 by whose end more must have been made than C
-pub record FirstAbove (d : Day) (r : Refusal) : Type 0 where
-  pub k : ℕ
-  pub number : numberOf r ≡ 7
-  pub period : periodOf r ≡ suc k
-  pub inside : k < periods d
-  pub above : capacityTo d (suc k) < netTo d (suc k)
-  pub earlier : (j : ℕ) → j < k → netTo d (suc j) ≤ capacityTo d (suc j)
+-- what it names on a day whose stores can't bind: the first period by whose end more must have been made than C
+abbrev pub FirstAbove : Day → Refusal → Type 0
+FirstAbove d r = FirstAt d (λ k. capacityTo d (suc k) < netTo d (suc k)) (λ k. netTo d (suc k) ≤ capacityTo d (suc k)) r
 
 -- Demand 2, by documents 01 and 02, 2.1: whole amounts keep the conditions exactly if no more must have been made than C after every period,
 pub loose-feasible-iff : (d : Day) → Loose d
@@ -100,7 +85,7 @@ loose-names d loose r e =
       number = f .number;
       period = f .period;
       inside = f .inside;
-      above = exceeds (f .k) (f .inside) (f .fails);
+      fails = exceeds (f .k) (f .inside) (f .fails);
       earlier = λ j l. passes-loose d loose j (omega (arith, f .inside)) .0 (f .earlier j l);
     }
   where

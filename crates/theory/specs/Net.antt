@@ -5,7 +5,6 @@
 -- Assumes nothing.
 use mathlib.Core.Path.{_≡_, sym, ap, ap₂, _∙_}
 use mathlib.Core.List.{List, []}
-use mathlib.Core.Logic.{_↔_}
 use Prim.Native.Nat.{ℕ, zero, suc, _+_, _-_, _≤_, _<_}
 use native.Mathlib.Decide.{decLt}
 use native.Mathlib.Omega.{arith}
@@ -135,12 +134,9 @@ module _ (d : Day) where
     pub total-is : Problem.total (problemOf d) ≡ total d
     total-is = ap (Problem.demandTo (problemOf d)) periods-is ∙ floor-is n (omega arith) ∙ net-end d
 
-    -- no period is short just where none of the problem is
-    pub supplied-iff : ((k : ℕ) → k < n → netTo d (suc k) ≤ capacityTo d (suc k)) ↔ Supplied (problemOf d)
-    supplied-iff = (
-      λ s k l. let h : k < n = omega (arith, periods-is) in omega (arith, floor-is (suc k) h, s k h),
-      λ s k l. omega (arith, floor-is (suc k) l, s k (omega (arith, periods-is))),
-    )
+    -- where C is nowhere below what must have been made, it is nowhere below the problem's needs
+    pub net-supplied : ((k : ℕ) → k < n → netTo d (suc k) ≤ capacityTo d (suc k)) → Supplied (problemOf d)
+    net-supplied s k l = let h : k < n = omega (arith, periods-is) in omega (arith, floor-is (suc k) h, s k h)
 
     net-limit : (top : ℕ) → required d ≤ top → (k : ℕ) → k < n → at (netNeeds d) k ≤ top
     net-limit top h k l = omega (arith, at-listOf (netNeed d) n k l, net-below (suc k) l)
@@ -162,11 +158,11 @@ module _ (d : Day) where
       let size = length-take-le (n - 0) (replicate {A = ℕ} maxPeriods 0) (omega (arith, l .few, length-replicate {A = ℕ} maxPeriods 0)) in
       (omega (arith, size), (omega (arith, size, l .lengths .holding), (limits-net g, limits-half g)))
 
-  -- and filling a third
-  pub limits-under : DayLimits d
+  -- and what filling the ceilings asks
+  pub limits-ceilings : DayLimits d
       → (length (take (n - 0) (replicate {A = ℕ} maxPeriods 0)) ≡ length (d .demand))
       × ((length (d .store) ≡ length (d .demand)) × (NetFits (dayOf (d .demand) [] [] [] [] [] (endsOf d)) × (d .opening ≤ required d)))
-  limits-under g = (limits-fill g .0, (g .limits .lengths .store, (limits-net g, g .used)))
+  limits-ceilings g = (limits-fill g .0, (g .limits .lengths .store, (limits-net g, g .used)))
 
   pub bounded : DayLimits d → Bounded (problemOf d)
   bounded g =

@@ -2,7 +2,6 @@
 -- Main definitions: `Problem`, `modelOf`, `modelWithin`, `Bounded`, `Supplied`. Assumes nothing.
 use mathlib.Core.Path.{_≡_, refl}
 use mathlib.Core.List.{List}
-use mathlib.Core.Logic.{_↔_}
 use Prim.Native.Nat.{ℕ, zero, suc, _≤_, _<_, min}
 use native.Mathlib.Decide.{decLt}
 use native.Mathlib.Omega.{arith}
@@ -98,13 +97,10 @@ module _ (p : Problem) where
   model-unlimited i j = sum-whole (p .demand) i
 
   -- the totals that can be reached after i periods end with the smaller of C and N over all periods
-  pub high-is : (i : ℕ) → high (modelOf p) i ≡ min (capacityTo p i) (total p)
+  high-is : (i : ℕ) → high (modelOf p) i ≡ min (capacityTo p i) (total p)
   high-is = high-open (modelOf p) (total p) (λ _. refl)
 
-  -- the model is covered just where no period is short
-  pub covered-iff : Covered (modelOf p) (periods p) ↔ Supplied p
-  covered-iff = (λ c k l. omega (arith, c (suc k) l, high-is (suc k)), λ s j l. up s j l)
-    where
-      up : Supplied p → (j : ℕ) → j ≤ periods p → demandTo p j ≤ high (modelOf p) j
-      up s zero l = omega arith
-      up s (suc j) l = omega (arith, s j l, high-is (suc j), sum-grows (at (p .demand)) (suc j) (periods p) l)
+  -- where no period is short, N can be reached in every one
+  pub supplied-covered : Supplied p → Covered (modelOf p) (periods p)
+  supplied-covered s zero l = omega arith
+  supplied-covered s (suc j) l = omega (arith, s j l, high-is (suc j), sum-grows (at (p .demand)) (suc j) (periods p) l)

@@ -1,6 +1,6 @@
 -- The store limit of a day (document 02, 2.5): a ceiling on what may have been made, the test 7 on sums, and days whose stores can't bind.
--- Main definitions: `ceilingsOf`, `storeModel`, `Loose`. Main statements: `passes-covered`, `keeps-iff`, the test decides whether some amounts keep the
--- conditions through a period; `loose-supplied`, on a day whose stores can't bind it compares with C alone. Assumes nothing.
+-- Main definitions: `ceilingsOf`, `storeModel`, `Loose`. Main statements: `keeps-iff`, on a day that 14 lets pass the test decides whether some amounts
+-- keep the conditions through a period; `passes-loose`, on a day whose stores can't bind it compares with C alone. Assumes nothing.
 use mathlib.Core.Path.{_≡_, ap}
 use mathlib.Core.List.{List, [], _∷_}
 use mathlib.Core.Logic.{_↔_}
@@ -18,7 +18,7 @@ use Rattle.checks.specs.Passed.{DayLimits, Passes, store-passed}
 use Rattle.theory.specs.Model.{Model, FeasibleTo}
 use Rattle.theory.specs.Reachable.{high, Covered, interval}
 use Rattle.theory.specs.Problem.{modelWithin, model-rising, Supplied}
-use Rattle.theory.specs.Net.{problemOf, Fits, limits-fit, net-below, net-covers, floor-is, supplied-iff}
+use Rattle.theory.specs.Net.{problemOf, Fits, limits-fit, net-below, net-covers, floor-is, net-supplied}
 
 -- the most that may have been made after period k + 1: R + s − A, and never more than T
 abbrev pub ceilingAt : Day → ℕ → ℕ
@@ -67,7 +67,7 @@ module _ (d : Day) where
     below-most zero l = omega arith
     below-most (suc j) l = omega (arith, below-most j (omega arith), f .within j l, f .stored j l)
 
-    above-net : (k : ℕ) → k < i → netTo d (suc k) ≤ sumTo x (suc k)
+    pub above-net : (k : ℕ) → k < i → netTo d (suc k) ≤ sumTo x (suc k)
     above-net k l = go (decLt (suc k) n)
       where
         go : Dec (suc k < n) → netTo d (suc k) ≤ sumTo x (suc k)
@@ -133,4 +133,4 @@ module _ (d : Day) (loose : Loose d) where
   )
 
   pub loose-supplied : ((k : ℕ) → k < periods d → Passes d k) → Supplied (problemOf d)
-  loose-supplied p = supplied-iff d (loose .fits .nonempty) .0 (λ k l. passes-loose k l .0 (p k l))
+  loose-supplied p = net-supplied d (loose .fits .nonempty) (λ k l. passes-loose k l .0 (p k l))

@@ -1,4 +1,4 @@
-//! The uncapped path: Wagner and Whitin (report, section 3), for days whose capacities can't bind.
+//! The uncapped path: Wagner and Whitin (report, section 3), for days whose capacities and stores can't bind.
 //! It tests, takes the net needs and the rates, finds the cost and the last lot of every row, reads the plan back, clears its areas, and
 //! weighs the plan.
 ghost use Rattle.day.specs.Day.{dayOf};
@@ -73,7 +73,7 @@ fn work(
     weigher::totals(demand, capacity, setup, unit, holding, store, slots, ends)
 }
 
-// The plan of a day whose capacities can't bind, into the first n slots.
+// The plan of a day whose capacities and stores can't bind, into the first n slots.
 pub fn plan(
     demand: &[u16],
     capacity: &[u16],

@@ -12,7 +12,7 @@ use Rattle.day.specs.declared.Refusal.the-variants.{FewSlots}
 use Rattle.day.specs.Sums.{at, sum-ext}
 use Rattle.day.specs.Day.{Day, periods}
 use Rattle.day.specs.Plan.{setupAt}
-use Rattle.day.specs.Search.{sums-alike, feasible-alike, cost-alike}
+use Rattle.day.specs.Search.{sums-alike, kept-alike, cost-alike}
 use Rattle.day.specs.Refusals.{refuse, first, dayTests}
 use Rattle.day.specs.Figures.{acceptedWith}
 use Rattle.weigher.specs.declared.Rule.{Rule}
@@ -49,7 +49,7 @@ module _ (d : Day) (x y : ℕ → ℕ) (same : (k : ℕ) → k < periods d → x
     where
       go : (v : Verdict) → Says d x v → Says d y v
       go (Holds t) (f, c) = (
-        feasible-alike d x y same f,
+        kept-alike d (periods d) x y same f,
         c ∙ ap₂ (λ (a b : ℕ). acceptedWith (a ∷ b ∷ [])) (cost-alike d x y same) (sum-ext _ _ (periods d) (λ k l. ap setupAt (same k l))),
       )
       go (Broken r zero) s = s

@@ -130,7 +130,7 @@ module _ (d : Day) (x : ℕ → ℕ) where
   all-feasible nonempty h =
       record {
         served = λ k l. le-trans (due-least (eqb (suc k) (periods d)) _ _) (h k l .served);
-        ends = go (periods d) refl nonempty;
+        ends = λ _. go (periods d) refl nonempty;
         within = λ k l. h k l .within;
         stored = λ k l. h k l .stored;
       }
@@ -149,7 +149,7 @@ module _ (d : Day) (x : ℕ → ℕ) where
       }
     where
       ended : suc k ≡ periods d → d .opening + sumTo x (suc k) ≡ demandTo d (suc k) + d .closing
-      ended e = omega (arith, ap (sumTo x) e, ap (demandTo d) e, f .ends)
+      ended e = omega (arith, ap (sumTo x) e, ap (demandTo d) e, f .ends refl)
 
   -- after periods that break no rule the charge is not below 0
   pub kept-served : (i : ℕ) → ((k : ℕ) → k < i → Keeps d x k) → demandTo d i ≤ d .opening + sumTo x i

@@ -1,4 +1,4 @@
-//! Weighs a given plan of a day: whether it keeps the report's conditions, what it costs, how two plans compare.
+//! Weighs a given plan of a day: whether it keeps the conditions, what it costs, how two plans compare.
 //! (Document 01, "The weigher"; document 02, 2.1, 2.2, 2.4, 2.5.) What the answers mean is in specs/.
 ghost use mathlib.Core.Path.{_≡_};
 ghost use Prim.Native.Nat.{_^_, _<_};

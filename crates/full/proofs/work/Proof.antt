@@ -2,7 +2,7 @@
 use native.Mathlib.Omega.{arith}
 use Rattle.day.specs.Day.{Day, dayOf}
 use Rattle.day.specs.Outcome.{Memory, memoryOf}
-use Rattle.theory.specs.Net.{problemBy, limits-fill, limits-under}
+use Rattle.theory.specs.Net.{problemBy, limits-fill, limits-ceilings}
 use Rattle.full.specs.Work.{Workable}
 use Rattle.full.proofs.Fronts.{workable, left-feasible, work-accepted}
 use borrow.Author.Needs.{needs}
@@ -47,7 +47,7 @@ fill-requires c κs =
 fill-ceilings-requires : tie.Need-fill-ceilings-requires
 fill-ceilings-requires c κs =
     let s = begun (counted (netted c .before)) in
-    limits-under (given s) (s .pre .day)
+    limits-ceilings (given s) (s .pre .day)
 
 -- after the cells are known, from where the ceilings are
 abbrev cells : tie.After-fill-ceilings → tie.After-cells

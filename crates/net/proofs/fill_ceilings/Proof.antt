@@ -79,11 +79,11 @@ few c = omega (arith, c .loop .inv .low, c .loop .inv .inside, start c .pre .1 .
 add-demanded : tie.Need-add-demanded Inv-loop μ-loop
 add-demanded c = omega (arith, few (c .before .before), c .shared-slice-known3 .given (c .before .before .loop .i))
 
-cast-taken : tie.Need-cast-taken Inv-loop μ-loop
-cast-taken c = omega (arith, c .shared-slice-known4 .given (c .before .before .before .loop .i))
+cast-limit : tie.Need-cast-limit Inv-loop μ-loop
+cast-limit c = omega (arith, c .shared-slice-known4 .given (c .before .before .before .loop .i))
 
-add-taken : tie.Need-add-taken Inv-loop μ-loop
-add-taken c =
+add-limit : tie.Need-add-limit Inv-loop μ-loop
+add-limit c =
     let i = c .before .before .before .loop .i in
     omega (arith, few (c .before .before .before), c .shared-slice-known4 .given i, c .before .shared-slice-known3 .given i)
 
@@ -113,7 +113,7 @@ fill-ceilings-spec =
     tie.close
     (tie.spec
     Inv-loop μ-loop (λ c κs. let q = c .before .before .before .pre .1 .1 in (q .0 .few, q .1)) (λ c. omega arith) loop-holds
-    (λ c. omega arith) (λ c. omega arith) cast-demanded add-demanded (λ c. omega arith) (λ c. omega arith) cast-taken add-taken
+    (λ c. omega arith) (λ c. omega arith) cast-demanded add-demanded (λ c. omega arith) (λ c. omega arith) cast-limit add-limit
     (λ c κs. tt) (λ c κs. tt) cast-ceilings (λ c. omega arith)
     (λ c. let p = at-loop c in omega (arith, p .loop .inv .size, c .before .before .before .before .loop-test .taken))
     (λ c. omega arith) (λ c. omega arith) loop-again

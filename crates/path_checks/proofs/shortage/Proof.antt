@@ -60,11 +60,11 @@ cast-demanded c = omega (arith, c .shared-slice-known4 .given (c .before .before
 add-demanded : tie.Need-add-demanded Inv-loop μ-loop
 add-demanded c = omega (arith, c .shared-slice-known4 .given (c .before .before .loop .i))
 
-cast-taken : tie.Need-cast-taken Inv-loop μ-loop
-cast-taken c = omega (arith, c .shared-slice-known5 .given (c .before .before .before .loop .i))
+cast-limit : tie.Need-cast-limit Inv-loop μ-loop
+cast-limit c = omega (arith, c .shared-slice-known5 .given (c .before .before .before .loop .i))
 
-add-taken : tie.Need-add-taken Inv-loop μ-loop
-add-taken c =
+add-limit : tie.Need-add-limit Inv-loop μ-loop
+add-limit c =
     let i = c .before .before .before .loop .i in
     omega (arith, c .shared-slice-known5 .given i, c .before .shared-slice-known4 .given i)
 
@@ -97,7 +97,8 @@ returns c =
     (λ w. short-store d i (omega (arith, summed p, w .taken)))
     (λ w.
     let net = answered (record { before = record { before = c .before; if1 = w .0 }; net-to = w .1 }) in
-    short-made d i (omega (arith, summed p, w .0 .left)) (omega (arith, reached (c .before), net, ltb-true (c .before .smaller .result) (w .1 .result) (w .2 .taken))))
+    let above = ltb-true (c .before .smaller .result) (w .1 .result) (w .2 .taken) in
+    short-made d i (omega (arith, summed p, w .0 .left)) (omega (arith, reached (c .before), net, above)))
     (c .if1 .came))
     (omega arith)
 
@@ -125,5 +126,5 @@ shortage-spec =
     tie.close
     (tie.spec
     Inv-loop μ-loop (λ c. omega arith) loop-holds (λ c. omega arith) (λ c. omega arith) cast-demanded add-demanded (λ c. omega arith)
-    (λ c. omega arith) cast-taken add-taken (λ c. omega arith) (λ c. omega arith) cast-smaller add-smaller (λ c κs. tt) (λ c κs. tt)
+    (λ c. omega arith) cast-limit add-limit (λ c. omega arith) (λ c. omega arith) cast-smaller add-smaller (λ c κs. tt) (λ c κs. tt)
     (λ c. omega arith) net-to-requires (λ c. omega arith) returns (λ c. omega arith) loop-again returns-2)
