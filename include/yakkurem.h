@@ -45,7 +45,7 @@
  *     16  a store below need over the day + closing, in this period (yakkurem_uncapped, yakkurem_equal, yakkurem_free)
  *
  * On any code but 0 nothing that was lent changes, and the out-array (the last parameter) is not written.
- * The calls keep no state and use no heap, no file and no clock. Of the C library they use memset alone.
+ * The calls keep no state and use no heap, no file and no clock. Of the C library they use memset and memcpy alone.
  */
 #ifndef YAKKUREM_H
 #define YAKKUREM_H
