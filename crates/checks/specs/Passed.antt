@@ -22,7 +22,7 @@ use Rattle.day.specs.declared.Refusal.the-variants.{PeriodCount, TableLength, A
 use Rattle.day.specs.declared.Refusal.the-variants.{Shortage, UnequalCapacities, BindingCapacity, PaidSetup, LowStore}
 use Rattle.day.specs.Sums.{at}
 use Rattle.day.specs.Find.{find, none-found, nothing-found, some-found}
-use Rattle.day.specs.Day.{Day, periods, maxPeriods, maxDemand, maxCapacity, maxSetup, maxRate, maxHalfRate, maxTotal}
+use Rattle.day.specs.Day.{Day, periods, maxPeriods, maxDemand, maxCapacity, maxSetup, maxRate, maxHalfRate, maxTotal, maxStore}
 use Rattle.day.specs.Day.{demandTo, required, total, netTo, net-before}
 use Rattle.day.specs.Refusals.{numberOf, periodOf, refuseAt, anywhere, first, badCount, badLengths, aboveLimit, badValue, tableTests}
 use Rattle.day.specs.Refusals.{badTotal, badOpening, totalTests, dayTests}
@@ -50,6 +50,7 @@ pub record Within (d : Day) (k : ℕ) : Type 0 where
   pub setup : at (d .setup) k ≤ maxSetup
   pub unit : at (d .unit) k ≤ maxRate
   pub holding : at (d .holding) k ≤ maxHalfRate
+  pub store : at (d .store) k ≤ maxStore
 
 -- what tests 1, 2 and 3 leave
 pub record Limits (d : Day) : Type 0 where
@@ -113,7 +114,9 @@ values-within d k e =
     let b = ltb maxSetup (at (d .setup) k) in
     let p = ltb maxRate (at (d .unit) k) in
     let h = ltb maxHalfRate (at (d .holding) k) in
-    let rcbp-h = neither (r || c || b || p) h e in
+    let s = ltb maxStore (at (d .store) k) in
+    let rcbph-s = neither (r || c || b || p || h) s e in
+    let rcbp-h = neither (r || c || b || p) h (rcbph-s .0) in
     let rcb-p = neither (r || c || b) p (rcbp-h .0) in
     let rc-b = neither (r || c) b (rcb-p .0) in
     let r-c = neither r c (rc-b .0) in
@@ -123,6 +126,7 @@ values-within d k e =
       setup = ltb-false _ _ (rc-b .1);
       unit = ltb-false _ _ (rcb-p .1);
       holding = ltb-false _ _ (rcbp-h .1);
+      store = ltb-false _ _ (rcbph-s .1);
     }
 
 -- 1, 2, 3
@@ -250,7 +254,14 @@ tables-pass d l = rw (count, lengths-pass d (l .lengths), value) refl
 
     inside : (k : ℕ) → Within d k → aboveLimit d k ≡ false
     inside k w =
-        simp (le-ltb _ _ (w .demand), le-ltb _ _ (w .capacity), le-ltb _ _ (w .setup), le-ltb _ _ (w .unit), le-ltb _ _ (w .holding))
+        simp (
+          le-ltb _ _ (w .demand),
+          le-ltb _ _ (w .capacity),
+          le-ltb _ _ (w .setup),
+          le-ltb _ _ (w .unit),
+          le-ltb _ _ (w .holding),
+          le-ltb _ _ (w .store),
+        )
 
     value : badValue d ≡ none
     value = ap (refuseAt AboveLimit) (nothing-found (aboveLimit d) (periods d) (λ k h. inside k (l .within k h)))

@@ -16,7 +16,7 @@ use Rattle.day.specs.declared.Check.{Check}
 use Rattle.day.specs.declared.Check.the-variants.{Passed, Refused}
 use Rattle.day.specs.Sums.{at, cappedTo}
 use Rattle.day.specs.Find.{find}
-use Rattle.day.specs.Day.{Day, periods, maxPeriods, maxDemand, maxCapacity, maxSetup, maxRate, maxHalfRate, maxTotal}
+use Rattle.day.specs.Day.{Day, periods, maxPeriods, maxDemand, maxCapacity, maxSetup, maxRate, maxHalfRate, maxTotal, maxStore}
 use Rattle.day.specs.Day.{demandTo, required, total, netTo}
 use Rattle.day.specs.Plan.{KeepsTo}
 
@@ -112,6 +112,7 @@ aboveLimit d k =
     || ltb maxSetup (at (d .setup) k)
     || ltb maxRate (at (d .unit) k)
     || ltb maxHalfRate (at (d .holding) k)
+    || ltb maxStore (at (d .store) k)
 
 abbrev pub badValue : Day → Option Refusal
 badValue d = refuseAt AboveLimit (find (aboveLimit d) (periods d))

@@ -1,5 +1,5 @@
--- What a verdict says of a plan, by the report's conditions (2) to (4) and the store limit of document 02, 2.5, and that the weigher's verdict is
--- the only right one.
+-- What a verdict says of a plan, by the report's conditions (2) to (4) and the store limit (document 02, 2.5), and that the weigher's verdict
+-- is the only right one.
 -- Main statements: `verdict-right`, `verdict-only`; of a plan that holds `holds-feasible`, `feasible-holds`. Assumes nothing.
 use mathlib.Core.Path.{_≡_, refl, sym, ap}
 use mathlib.Core.Bool.{Bool, true, false}

@@ -23,7 +23,7 @@ aboveAt d x k = ltb (at (d .capacity) k) (x k)
 abbrev pub shortAt : Day → (ℕ → ℕ) → ℕ → Bool
 shortAt d x k = ltb (d .opening + sumTo x (suc k)) (dueTo d (suc k))
 
--- it is above the store limit of the period
+-- it is above the period's store limit; A, before period 1, has none
 abbrev pub aboveStoreAt : Day → (ℕ → ℕ) → ℕ → Bool
 aboveStoreAt d x k = ltb (at (d .store) k) (inventory d x (suc k))
 

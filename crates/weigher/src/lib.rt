@@ -100,6 +100,7 @@ fn judge(p: Entries, amount: u16, last: bool, s: Sums, closing: u16) -> Ruling
     if short {
         return Ruling::Broke(Rule::Short);
     }
+    // Neither is below 0: no period so far is short.
     let before = s.supplied - s.demanded;
     let left = supplied - demanded;
     let above_store = (p.store as u64) < left;

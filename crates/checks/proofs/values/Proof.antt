@@ -9,19 +9,20 @@ use lib.ListN.{length}
 use borrow.Author.Tests.{le-ltb}
 use Rattle.day.specs.declared.Refusal.the-variants.{AboveLimit}
 use Rattle.day.specs.Sums.{at}
-use Rattle.day.specs.Day.{Day, tablesOf, maxDemand, maxCapacity, maxSetup, maxRate, maxHalfRate}
+use Rattle.day.specs.Day.{Day, tablesOf, maxDemand, maxCapacity, maxSetup, maxRate, maxHalfRate, maxStore}
 use Rattle.day.specs.Refusals.{aboveLimit}
 use Rattle.checks.specs.Search.{Searched, searched-next, refused-here, passed-all}
 use Rattle.checks.proofs.values.Statement.{statement}
 use Rattle.checks.proofs.values.Tie as tie
 
--- a capacity that fits 16 bits is not above its limit, so the other four values decide
+-- a capacity or a store limit that fits 16 bits is not above its limit, so the other four values decide
 others-decide :
     (d : Day) (k : ℕ)
     → at (d .capacity) k ≤ maxCapacity
+    → at (d .store) k ≤ maxStore
     → aboveLimit d k
     ≡ (ltb maxDemand (at (d .demand) k) || ltb maxSetup (at (d .setup) k) || ltb maxRate (at (d .unit) k) || ltb maxHalfRate (at (d .holding) k))
-others-decide d k low = simp (le-ltb maxCapacity (at (d .capacity) k) low, or-false)
+others-decide d k capacity store = simp (le-ltb maxCapacity (at (d .capacity) k) capacity, le-ltb maxStore (at (d .store) k) store, or-false)
 
 abbrev Inv-loop : tie.InvT-loop
 Inv-loop demand capacity setup unit holding store i₀ i =
@@ -47,8 +48,11 @@ answered :
     (c : tie.After-above-limit Inv-loop μ-loop) → aboveLimit (tables (at-loop c)) (at-loop c .loop .i) ≡ c .above-limit .result
 answered c =
     let p = at-loop c in
-    let fits = p .before .before .before .before .before .shared-slice-known2 .given (p .loop .i) in
-    others-decide (tables p) (p .loop .i) (omega (arith, fits)) ∙ sym (c .above-limit .ensures)
+    let stores = p .before in
+    let capacities = stores .before .before .before .before in
+    let i = p .loop .i in
+    others-decide (tables p) i (omega (arith, capacities .shared-slice-known2 .given i)) (omega (arith, stores .shared-slice-known6 .given i))
+    ∙ sym (c .above-limit .ensures)
 
 returns : tie.Need-returns Inv-loop μ-loop
 returns c = refused-here (at-loop (c .before) .loop .inv) AboveLimit (answered (c .before) ∙ c .if1 .taken) (omega arith)
