@@ -91,6 +91,7 @@ fn plan(
     setup: &[u32],
     unit: &[u32],
     holding: &[u32],
+    store: &[u16],
     costs: &mut [u64],
     choices: &mut [u16],
     slots: &mut [u16],
@@ -103,6 +104,7 @@ fn plan(
             setup,
             unit,
             holding,
+            store,
             costs,
             choices,
             slots,
@@ -114,6 +116,7 @@ fn plan(
             setup,
             unit,
             holding,
+            store,
             costs,
             choices,
             slots,
@@ -125,12 +128,13 @@ fn plan(
             setup,
             unit,
             holding,
+            store,
             costs,
             choices,
             slots,
             ends,
         ),
-        Path::Free => free::plan(demand, capacity, setup, unit, holding, costs, slots, ends),
+        Path::Free => free::plan(demand, capacity, setup, unit, holding, store, costs, slots, ends),
     }
 }
 
@@ -192,6 +196,7 @@ pub fn run(
     setup: &[u32],
     unit: &[u32],
     holding: &[u32],
+    store: &[u16],
     costs: &mut [u64],
     choices: &mut [u16],
     slots: &mut [u16],
@@ -204,6 +209,7 @@ pub fn run(
         setup,
         unit,
         holding,
+        store,
         costs,
         choices,
         slots,
@@ -230,6 +236,7 @@ fn within(
     setup: &[u32],
     unit: &[u32],
     holding: &[u32],
+    store: &[u16],
     costs: usize,
     choices: usize,
     slots: usize,
@@ -249,6 +256,7 @@ fn within(
         setup,
         unit,
         holding,
+        store,
         &mut cost_area[0..a],
         &mut choice_area[0..b],
         &mut slot_area[0..c],
@@ -265,6 +273,7 @@ fn roomy(
     setup: &[u32],
     unit: &[u32],
     holding: &[u32],
+    store: &[u16],
     ends: Ends,
 ) {
     let need = needed(path, demand, ends);
@@ -277,6 +286,7 @@ fn roomy(
         setup,
         unit,
         holding,
+        store,
         need.costs + 2,
         need.choices + 2,
         slots,
@@ -291,6 +301,7 @@ pub fn all(
     setup: &[u32],
     unit: &[u32],
     holding: &[u32],
+    store: &[u16],
     ends: Ends,
 ) {
     roomy(
@@ -301,6 +312,7 @@ pub fn all(
         setup,
         unit,
         holding,
+        store,
         ends,
     );
     roomy(
@@ -311,6 +323,7 @@ pub fn all(
         setup,
         unit,
         holding,
+        store,
         ends,
     );
     roomy(
@@ -321,6 +334,7 @@ pub fn all(
         setup,
         unit,
         holding,
+        store,
         ends,
     );
     roomy(
@@ -331,6 +345,7 @@ pub fn all(
         setup,
         unit,
         holding,
+        store,
         ends,
     );
 }
@@ -343,6 +358,7 @@ pub fn lent(
     setup: &[u32],
     unit: &[u32],
     holding: &[u32],
+    store: &[u16],
     ends: Ends,
 ) {
     within(
@@ -353,6 +369,7 @@ pub fn lent(
         setup,
         unit,
         holding,
+        store,
         text::size(text::number_in(line, 6)),
         text::size(text::number_in(line, 7)),
         text::size(text::number_in(line, 8)),
