@@ -134,7 +134,17 @@ fn plan(
             slots,
             ends,
         ),
-        Path::Free => free::plan(demand, capacity, setup, unit, holding, store, costs, slots, ends),
+        Path::Free => free::plan(
+            demand,
+            capacity,
+            setup,
+            unit,
+            holding,
+            store,
+            costs,
+            slots,
+            ends,
+        ),
     }
 }
 

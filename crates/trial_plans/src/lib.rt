@@ -70,7 +70,17 @@ fn compare(
     store: &[u16],
     ends: Ends,
 ) {
-    match weigher::compare(demand, capacity, setup, unit, holding, store, plan, other, ends) {
+    match weigher::compare(
+        demand,
+        capacity,
+        setup,
+        unit,
+        holding,
+        store,
+        plan,
+        other,
+        ends,
+    ) {
         Compared::Refused(r) => print::refusal(r),
         Compared::Broken(rule, period) => broken(rule, period),
         Compared::Difference(d) => print_difference(d),
@@ -94,7 +104,16 @@ pub fn plans(
     let m = text::amounts(text::field(line, 7), 1, &mut other);
     print::text(text::name(line));
     if check::same(text::kind(line), b"weigh") {
-        weigh(&plan[0..n], demand, capacity, setup, unit, holding, store, ends);
+        weigh(
+            &plan[0..n],
+            demand,
+            capacity,
+            setup,
+            unit,
+            holding,
+            store,
+            ends,
+        );
     } else {
         compare(
             &plan[0..n],
