@@ -89,8 +89,8 @@ fn bytes(s: &[u8], out: &mut [u8]) -> usize
 // The mark, in an output slice.
 const FILL: u8 = 119;
 
-// Whether the day is written to the very bytes of the file.
-fn written_alike(
+// 0 where the day is written to the very bytes of the file, else 15.
+fn written(
     file: &[u8],
     demand: &[u16],
     capacity: &[u16],
@@ -99,7 +99,9 @@ fn written_alike(
     holding: &[u32],
     store: &[u16],
     ends: Ends,
-) -> bool {
+) -> usize
+    ensures { λ r. ⌜ r < 16 ⌝ }
+{
     let mut out = [0u8; 1832];
     match dayfile_writer::write(
         demand,
@@ -111,10 +113,14 @@ fn written_alike(
         &mut out,
         ends,
     ) {
-        WriteAnswer::Refused(_) => false,
+        WriteAnswer::Refused(_) => 15,
         WriteAnswer::Bytes(m) => {
             let end = text::least(m, 1832);
-            check::same(&out[0..end], file)
+            if check::same(&out[0..end], file) {
+                0
+            } else {
+                15
+            }
         }
     }
 }
@@ -145,21 +151,16 @@ fn fare(file: &[u8]) -> usize
             }
             15
         }
-        ReadAnswer::Periods(_, ends) => {
-            if written_alike(
-                file,
-                &demand,
-                &capacity,
-                &setup,
-                &unit,
-                &holding,
-                &store,
-                ends,
-            ) {
-                return 0;
-            }
-            15
-        }
+        ReadAnswer::Periods(_, ends) => written(
+            file,
+            &demand,
+            &capacity,
+            &setup,
+            &unit,
+            &holding,
+            &store,
+            ends,
+        ),
     }
 }
 

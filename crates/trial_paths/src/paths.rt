@@ -304,6 +304,16 @@ fn roomy(
     );
 }
 
+// The four paths, by number.
+pub fn path_of(k: usize) -> Path {
+    match k {
+        0 => Path::Full,
+        1 => Path::Uncapped,
+        2 => Path::Equal,
+        _ => Path::Free,
+    }
+}
+
 pub fn all(
     line: &[u8],
     demand: &[u16],
@@ -314,50 +324,21 @@ pub fn all(
     store: &[u16],
     ends: Ends,
 ) {
-    roomy(
-        Path::Full,
-        line,
-        demand,
-        capacity,
-        setup,
-        unit,
-        holding,
-        store,
-        ends,
-    );
-    roomy(
-        Path::Uncapped,
-        line,
-        demand,
-        capacity,
-        setup,
-        unit,
-        holding,
-        store,
-        ends,
-    );
-    roomy(
-        Path::Equal,
-        line,
-        demand,
-        capacity,
-        setup,
-        unit,
-        holding,
-        store,
-        ends,
-    );
-    roomy(
-        Path::Free,
-        line,
-        demand,
-        capacity,
-        setup,
-        unit,
-        holding,
-        store,
-        ends,
-    );
+    let mut k = 0;
+    while k < 4 {
+        roomy(
+            path_of(k),
+            line,
+            demand,
+            capacity,
+            setup,
+            unit,
+            holding,
+            store,
+            ends,
+        );
+        k += 1;
+    }
 }
 
 // One path in as many cost cells, choice cells and slots as fields 6, 7 and 8 say.

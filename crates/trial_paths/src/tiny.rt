@@ -63,14 +63,24 @@ fn see(
     }
 }
 
+// Which count is of the days on which the path agreed with the search.
+fn agreement(path: Path) -> usize
+    ensures { λ r. ⌜ r < 16 ⌝ }
+{
+    match path {
+        Path::Full => 1,
+        Path::Uncapped => 2,
+        Path::Equal => 3,
+        Path::Free => 7,
+    }
+}
+
 // Counts: 0, days with a plan; 1, 2, 3, days on which the full, the uncapped and the equal path agreed with the search; 4, calls that
 // refused the day's capacities (8 or 9); 5, calls that left lent cells as they must; 6, calls that refused its opening charge (14); 7, days
 // on which the free path agreed with the search; 8, calls that refused its starting costs (15); 9, calls that refused its store limits (16).
-fn count(counts: &mut [u64; 16], k: usize, seen: Seen)
-    requires { ⌜ k < 16 ⌝ }
-{
+fn count(counts: &mut [u64; 16], path: Path, seen: Seen) {
     let number = seen.number;
-    cells::count_if(counts, k, seen.agrees);
+    cells::count_if(counts, agreement(path), seen.agrees);
     cells::count_if(counts, 4, number == 8 || number == 9);
     cells::count_if(counts, 5, seen.kept);
     cells::count_if(counts, 6, number == 14);
@@ -90,11 +100,11 @@ fn compare(
 ) {
     let best = plain::search(demand, capacity, setup, unit, holding, store, ends);
     cells::count_if(counts, 0, best.found);
-    count(
-        counts,
-        1,
-        see(
-            Path::Full,
+    let mut k = 0;
+    while k < 4 {
+        let path = paths::path_of(k);
+        let seen = see(
+            path,
             best,
             demand,
             capacity,
@@ -103,53 +113,10 @@ fn compare(
             holding,
             store,
             ends,
-        ),
-    );
-    count(
-        counts,
-        2,
-        see(
-            Path::Uncapped,
-            best,
-            demand,
-            capacity,
-            setup,
-            unit,
-            holding,
-            store,
-            ends,
-        ),
-    );
-    count(
-        counts,
-        3,
-        see(
-            Path::Equal,
-            best,
-            demand,
-            capacity,
-            setup,
-            unit,
-            holding,
-            store,
-            ends,
-        ),
-    );
-    count(
-        counts,
-        7,
-        see(
-            Path::Free,
-            best,
-            demand,
-            capacity,
-            setup,
-            unit,
-            holding,
-            store,
-            ends,
-        ),
-    );
+        );
+        count(counts, path, seen);
+        k += 1;
+    }
 }
 
 // The setup costs of a day: those drawn, or none.

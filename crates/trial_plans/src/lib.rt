@@ -102,21 +102,13 @@ pub fn plans(
     let mut other = [0u16; 128];
     let n = text::amounts(text::field(line, 6), 1, &mut plan);
     let m = text::amounts(text::field(line, 7), 1, &mut other);
+    let first = &plan[0..n];
     print::text(text::name(line));
     if check::same(text::kind(line), b"weigh") {
-        weigh(
-            &plan[0..n],
-            demand,
-            capacity,
-            setup,
-            unit,
-            holding,
-            store,
-            ends,
-        );
+        weigh(first, demand, capacity, setup, unit, holding, store, ends);
     } else {
         compare(
-            &plan[0..n],
+            first,
             &other[0..m],
             demand,
             capacity,
