@@ -108,7 +108,7 @@ refused-day d after answer refused e r p =
 
 -- the tables that the reader fills, before the call
 abbrev pub blankDay : Day
-blankDay = tablesOf (replicate 96 0) (replicate 96 0) (replicate 96 0) (replicate 96 0) (replicate 96 0)
+blankDay = tablesOf (replicate 96 0) (replicate 96 0) (replicate 96 0) (replicate 96 0) (replicate 96 0) (replicate 96 0)
 
 blank-shortest : shortest blankDay ≡ 96
 blank-shortest = rw (length-replicate {A = ℕ} 96 0) refl
@@ -155,9 +155,9 @@ refused-file s after answer refused e r p =
     refused-text refused (rw first refl) (rw e at p)
 
 -- the length is tested first
-pub long-text : (s : List ℕ) {text later : List ℕ} {r : ℕ} → 1640 < length s → Put text 0 (refusalLine WrongEnd) later r
+pub long-text : (s : List ℕ) {text later : List ℕ} {r : ℕ} → 1832 < length s → Put text 0 (refusalLine WrongEnd) later r
     → PrintedText s text later r
-long-text s l p = refused-text WrongEnd (rw (lt-ltb 1640 (length s) l) refl) p
+long-text s l p = refused-text WrongEnd (rw (lt-ltb 1832 (length s) l) refl) p
 
-pub short-text : (s : List ℕ) {text later : List ℕ} {r : ℕ} → length s ≤ 1640 → PrintedFile s text later r → PrintedText s text later r
-short-text s l p = rw (le-ltb 1640 (length s) l) p
+pub short-text : (s : List ℕ) {text later : List ℕ} {r : ℕ} → length s ≤ 1832 → PrintedFile s text later r → PrintedText s text later r
+short-text s l p = rw (le-ltb 1832 (length s) l) p
