@@ -137,7 +137,7 @@ fn without_plan(demand: &[u16], ends: Ends) -> u8
     requires { ⌜ length (now demand) ≤ 4 ⌝ }
     ensures { λ r. ⌜ r ≡ withoutPlan (dayOf (now (demand .entry)) [] [] [] [] [] ends) ⌝ }
 {
-    if checks::summed(demand) + (ends.closing as u64) < (ends.opening as u64) {
+    if checks::required(demand, ends) < (ends.opening as u64) {
         return 14;
     }
     7

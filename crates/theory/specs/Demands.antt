@@ -31,6 +31,20 @@ plan-unique d x y o q = precedes-anti (cost d) (periods d) x y (o .first y (q .f
 pub plan-uses : (d : Day) (x : ℕ → ℕ) → Feasible d x → badOpening d ≡ none
 plan-uses d x f = rw (le-ltb (required d) (d .opening) (omega (arith, f .ends refl))) refl
 
+-- a first period in other words: where failing means failing so, and passing up to a period means passing so
+first-by : (d : Day) {Fails Passes Fails′ Passes′ : ℕ → Type 0} (r : Refusal) → FirstAt d Fails Passes r
+    → ((k : ℕ) → k < periods d → Fails k → Fails′ k) → ((k : ℕ) → k < periods d → ((j : ℕ) → j ≤ k → Passes j) → Passes′ k)
+    → FirstAt d Fails′ Passes′ r
+first-by d r f fails passes =
+    record {
+      k = f .k;
+      number = f .number;
+      period = f .period;
+      inside = f .inside;
+      fails = fails (f .k) (f .inside) (f .fails);
+      earlier = λ j l. passes j (omega (arith, f .inside)) (λ i h. f .earlier i (omega arith));
+    }
+
 -- Of a day that tests 1 and 14 let pass.
 module _ (d : Day) (fits : Fits d) where
   -- Demand 2: whole amounts keep the conditions exactly if, in every period, the store takes A, and what must have been made can have been.
@@ -54,15 +68,9 @@ module _ (d : Day) (fits : Fits d) where
   -- Demand 2: and then it names the first period for which no amounts up to it keep the conditions through it.
   pub shortage-names : (r : Refusal) → shortage d ≡ some r → FirstShort d r
   shortage-names r e =
-      let f = shortage-found d r e in
-      record {
-        k = f .k;
-        number = f .number;
-        period = f .period;
-        inside = f .inside;
-        fails = λ x h. f .fails (keeps-iff d fits (suc (f .k)) (f .inside) .0 (x, h) (f .k) (omega arith));
-        earlier = λ j l. keeps-iff d fits (suc j) (omega (arith, f .inside)) .1 (λ i h. f .earlier i (omega arith));
-      }
+      first-by d r (shortage-found d r e)
+      (λ k l fails x h. fails (keeps-iff d fits (suc k) l .0 (x, h) k (omega arith)))
+      (λ k l pass. keeps-iff d fits (suc k) l .1 (λ j h. pass j (omega arith)))
 
 -- what it names on a day whose stores can't bind: the first period by whose end more must have been made than C
 abbrev pub FirstAbove : Day → Refusal → Type 0
@@ -78,16 +86,7 @@ loose-feasible-iff d loose = (
 
 -- and refusal 7 names the first period in which more must.
 pub loose-names : (d : Day) → Loose d → (r : Refusal) → shortage d ≡ some r → FirstAbove d r
-loose-names d loose r e =
-    let f = shortage-found d r e in
-    record {
-      k = f .k;
-      number = f .number;
-      period = f .period;
-      inside = f .inside;
-      fails = exceeds (f .k) (f .inside) (f .fails);
-      earlier = λ j l. passes-loose d loose j (omega (arith, f .inside)) .0 (f .earlier j l);
-    }
+loose-names d loose r e = first-by d r (shortage-found d r e) exceeds (λ k l pass. passes-loose d loose k l .0 (pass k (omega arith)))
   where
     exceeds : (k : ℕ) → k < periods d → (Passes d k → ⊥) → capacityTo d (suc k) < netTo d (suc k)
     exceeds k l fails = go (decLt (capacityTo d (suc k)) (netTo d (suc k)))

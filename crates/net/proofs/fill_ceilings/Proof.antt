@@ -6,7 +6,7 @@ use native.Mathlib.Numerals.{add-one}
 use native.Mathlib.Omega.{arith}
 use lib.ListN.{length, set, length-set}
 use lib.Seq.{getD-set-same, getD-set-other}
-use Rattle.day.specs.Sums.{at, sumTo, below, listOf-at}
+use Rattle.day.specs.Sums.{Term, at, sumTo, term-more, below, listOf-at}
 use Rattle.day.specs.Day.{Day, dayOf, maxCapacity}
 use Rattle.theory.specs.Store.{ceilingAt}
 use Rattle.net.proofs.fill_ceilings.Statement.{statement}
@@ -19,8 +19,7 @@ under demand store total opening k = min total (sumTo (at demand) (suc k) + at s
 -- i periods are filled in
 record Filling (demand store : List ℕ) (total opening : ℕ) (ceilings : List ℕ) (demanded i : ℕ) : Type 0 where
   inside : i ≤ length demand
-  sum : demanded ≡ sumTo (at demand) i
-  low : demanded ≤ maxCapacity * i
+  sum : Term (sumTo (at demand) i) (maxCapacity * i) demanded
   size : length ceilings ≡ length demand
   each : (k : ℕ) → k < i → at ceilings k ≡ under demand store total opening k
 
@@ -30,8 +29,7 @@ filling-more : {demand store ceilings : List ℕ} {total opening demanded i v : 
     → Filling demand store total opening (set ceilings i v) (demanded + at demand i) (suc i)
 filling-more {demand} {store} {ceilings} {total} {opening} {demanded} {i} {v} w l low is = record {
   inside = l;
-  sum = omega (arith, w .sum);
-  low = omega (arith, w .low);
+  sum = rw add-one at (term-more (at demand) maxCapacity i (w .sum) low);
   size = length-set ceilings i v ∙ w .size;
   each = below (λ (k : ℕ). at (set ceilings i v) k ≡ under demand store total opening k) i
       (λ k h. getD-set-other ceilings i k v 0 (λ e. omega arith) ∙ w .each k h)
@@ -58,13 +56,12 @@ answered : (c : tie.After-smaller Inv-loop μ-loop)
 answered c =
     let p = at-loop c in
     let a = start p .args in
-    omega (arith, c .smaller .ensures, c .before .beyond .ensures, p .loop .inv .sum)
+    omega (arith, c .smaller .ensures, c .before .beyond .ensures, p .loop .inv .sum .is)
 
 loop-holds : tie.Need-loop-holds Inv-loop μ-loop
 loop-holds c = record {
   inside = omega arith;
-  sum = refl;
-  low = omega arith;
+  sum = record { is = refl; low = omega arith };
   size = c .before .before .before .before .before .pre .0;
   each = λ k l. absurd (omega arith);
 }
@@ -74,7 +71,7 @@ cast-demanded c = omega (arith, c .shared-slice-known3 .given (c .before .before
 
 -- no sum of these passes 97 × 65,535
 few : (c : tie.At-loop Inv-loop μ-loop) → c .loop .demanded ≤ maxCapacity * 96
-few c = omega (arith, c .loop .inv .low, c .loop .inv .inside, start c .pre .1 .1 .0 .few)
+few c = omega (arith, c .loop .inv .sum .low, c .loop .inv .inside, start c .pre .1 .1 .0 .few)
 
 add-demanded : tie.Need-add-demanded Inv-loop μ-loop
 add-demanded c = omega (arith, few (c .before .before), c .shared-slice-known3 .given (c .before .before .loop .i))

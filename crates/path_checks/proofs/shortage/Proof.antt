@@ -10,7 +10,7 @@ use native.Mathlib.Omega.{arith}
 use lib.ListN.{length}
 use borrow.Author.Tests.{ltb-true, ltb-false, lt-ltb, le-ltb}
 use Rattle.day.specs.declared.Refusal.the-variants.{Shortage}
-use Rattle.day.specs.Sums.{at}
+use Rattle.day.specs.Sums.{Term, at, sumTo, term-more}
 use Rattle.day.specs.Day.{Day, dayOf, demandTo, netTo, maxCapacity}
 use Rattle.day.specs.Refusals.{mostTo, short}
 use Rattle.checks.specs.Passed.{passes-iff}
@@ -21,10 +21,8 @@ use Rattle.path_checks.proofs.shortage.Tie as tie
 abbrev Inv-loop : tie.InvT-loop
 Inv-loop demand capacity store ends opening demanded₀ most₀ i₀ demanded most i =
     Searched (short (dayOf demand capacity [] [] [] store ends)) (length demand) i
-    × (demanded ≡ demandTo (dayOf demand capacity [] [] [] store ends) i)
-    × (demanded ≤ maxCapacity * i)
-    × (most ≡ mostTo (dayOf demand capacity [] [] [] store ends) i)
-    × (most ≤ maxCapacity * i)
+    × Term (sumTo (at demand) i) (maxCapacity * i) demanded
+    × Term (mostTo (dayOf demand capacity [] [] [] store ends) i) (maxCapacity * i) most
 
 abbrev μ-loop : tie.MeasureT-loop
 μ-loop demand capacity store ends opening demanded₀ most₀ i₀ demanded most i = length demand - i
@@ -40,11 +38,11 @@ abbrev at-loop : tie.After-smaller Inv-loop μ-loop → tie.At-loop Inv-loop μ-
 at-loop c = c .before .before .before .before .before .before
 
 summed : (c : tie.At-loop Inv-loop μ-loop) → c .loop .demanded + at (given c .demand) (c .loop .i) ≡ demandTo (given c) (suc (c .loop .i))
-summed c = omega (arith, c .loop .inv .1)
+summed c = omega (arith, c .loop .inv .1 .is)
 
 -- the most that can have been made after the period
 reached : (c : tie.After-smaller Inv-loop μ-loop) → c .smaller .result ≡ mostTo (given (at-loop c)) (suc (at-loop c .loop .i))
-reached c = let p = at-loop c in omega (arith, c .smaller .ensures, c .before .beyond .ensures, p .loop .inv .3, summed p)
+reached c = let p = at-loop c in omega (arith, c .smaller .ensures, c .before .beyond .ensures, p .loop .inv .2 .is, summed p)
 
 -- and what must have been
 answered : (c : tie.After-net-to Inv-loop μ-loop)
@@ -52,7 +50,11 @@ answered : (c : tie.After-net-to Inv-loop μ-loop)
 answered c = let p = at-loop (c .before .before) in rw (add-one, summed p) at (c .net-to .ensures)
 
 loop-holds : tie.Need-loop-holds Inv-loop μ-loop
-loop-holds c = (record { inside = omega arith; nothing = refl }, refl, omega arith, refl, omega arith)
+loop-holds c = (
+  record { inside = omega arith; nothing = refl },
+  record { is = refl; low = omega arith },
+  record { is = refl; low = omega arith },
+)
 
 cast-demanded : tie.Need-cast-demanded Inv-loop μ-loop
 cast-demanded c = omega (arith, c .shared-slice-known4 .given (c .before .before .loop .i))
@@ -112,10 +114,12 @@ loop-again c =
     let left = ltb-false (most .smaller .result) (c .before .net-to .result) (c .if2 .left) in
     let made : netTo d (suc i) ≤ mostTo d (suc i) = omega (arith, reached most, answered (c .before), left) in (
       searched-next (p .loop .inv .0) (passes-iff d i .1 (record { room = room; reach = made })) (omega arith),
-      rw add-one (omega arith),
-      omega (arith, most .before .before .before .before .shared-slice-known4 .given i),
-      rw add-one (omega (arith, reached most)),
-      omega (arith, most .smaller .ensures, most .before .before .shared-slice-known6 .given i),
+      term-more (at (d .demand)) maxCapacity i (p .loop .inv .1)
+          (omega (arith, most .before .before .before .before .shared-slice-known4 .given i)),
+      record {
+        is = rw add-one (reached most);
+        low = omega (arith, most .smaller .ensures, most .before .before .shared-slice-known6 .given i, p .loop .inv .2 .low);
+      },
     )
 
 returns-2 : tie.Need-returns-2 Inv-loop μ-loop
