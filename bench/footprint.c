@@ -5,9 +5,9 @@
 #include <ucontext.h>
 #include "yakkurem.h"
 
-enum { PERIODS = 96, MOST = 4096, STACK = 1 << 18, FILE_BYTES = 17 * PERIODS + 8 };
+enum { PERIODS = 96, MOST = 4096, STACK = 1 << 18, FILE_BYTES = 19 * PERIODS + 8 };
 
-static uint16_t need[PERIODS], capacity[PERIODS], plan[PERIODS];
+static uint16_t need[PERIODS], capacity[PERIODS], store[PERIODS], plan[PERIODS];
 static uint32_t start[PERIODS], unit[PERIODS], upkeep[PERIODS];
 static uint64_t costs[2 * (MOST + 1)];
 static uint16_t choices[PERIODS * (MOST + 1)];
@@ -15,7 +15,7 @@ static uint8_t file[FILE_BYTES];
 static size_t n, file_length;
 static uint16_t opening, closing;
 
-#define DAY need, n, capacity, n, start, n, unit, n, upkeep, n, opening, closing
+#define DAY need, n, capacity, n, start, n, unit, n, upkeep, n, store, n, opening, closing
 #define MEMORY costs, sizeof costs / sizeof *costs, choices, sizeof choices / sizeof *choices, plan, PERIODS
 
 static uint64_t answer[3], code;
@@ -27,10 +27,14 @@ static void equal(void) { code = yakkurem_equal(DAY, MEMORY, answer); }
 static void free_path(void) { code = yakkurem_free(DAY, costs, PERIODS, plan, PERIODS, answer); }
 static void weigh(void) { code = yakkurem_weigh(DAY, plan, PERIODS, answer); }
 static void compare(void) { code = yakkurem_compare(DAY, plan, PERIODS, plan, PERIODS, difference); }
-static void write_file(void) { code = yakkurem_write(DAY, file, sizeof file, answer); }
+static void write_file(void) {
+    code = yakkurem_write(DAY, file, sizeof file, answer);
+    if (code == 0) file_length = answer[0];
+}
 static void lookup(void) { code = yakkurem_lookup(file, file_length, n, answer); }
 static void read_file(void) {
-    code = yakkurem_read(file, file_length, need, PERIODS, capacity, PERIODS, start, PERIODS, unit, PERIODS, upkeep, PERIODS, answer);
+    code = yakkurem_read(
+        file, file_length, need, PERIODS, capacity, PERIODS, start, PERIODS, unit, PERIODS, upkeep, PERIODS, store, PERIODS, answer);
 }
 
 static const struct { const char *name; void (*call)(void); } calls[] = {
@@ -68,12 +72,11 @@ static size_t taken(void (*call)(void), unsigned char paint) {
 
 /* Days of 1 to 96 periods: the whole need in one period or spread, or half of it charge to hand on, with some to begin with; costs at
  * their limits or small, with and without start costs; capacities that can't bind, equal ones that are just enough, and ones that are
- * too small. */
-static void make(size_t periods, int shape, int starts, uint16_t most) {
+ * too small; a store limit in every other period, or none. The file that is read was written of the same day. */
+static void make(size_t periods, int shape, int starts, uint16_t most, int limited) {
     n = periods;
     opening = shape == 3 ? 100 : 0;
     closing = shape == 3 ? MOST / 2 : 0;
-    file_length = 17 * n + (shape == 3 ? 8 : 3);
     for (size_t i = 0; i < n; i++) {
         size_t whole = MOST - closing;
         need[i] = shape % 3 == 0 ? (uint16_t)(whole * (i + 1) / n - whole * i / n) : (i == (shape == 1 ? 0 : n - 1) ? MOST : 0);
@@ -81,6 +84,7 @@ static void make(size_t periods, int shape, int starts, uint16_t most) {
         start[i] = starts ? (i % 3 ? 1000000000 : 7) : 0;
         unit[i] = i % 5 ? 1000000 : 3;
         upkeep[i] = i % 2 ? 500000 : 1;
+        store[i] = limited && i % 2 ? MOST / 2 : 65535;
     }
 }
 
@@ -90,10 +94,10 @@ int main(void) {
     size_t deepest[CALLS] = {0}, accepted[CALLS] = {0};
     for (size_t s = 0; s < 5; s++)
         for (int shape = 0; shape < 4; shape++)
-            for (size_t day = 0; day < 10; day++)
+            for (size_t day = 0; day < 20; day++)
                 for (size_t k = 0; k < CALLS; k++)
                     for (int paint = 0x55; paint <= 0xaa; paint += 0x55) {
-                        make(sizes[s], shape, day < 5, capacities[day % 5]);
+                        make(sizes[s], shape, day % 10 < 5, capacities[day % 5], day < 10);
                         size_t bytes = taken(calls[k].call, (unsigned char)paint);
                         if (bytes > deepest[k]) deepest[k] = bytes;
                         accepted[k] += code == 0;

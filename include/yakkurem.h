@@ -1,12 +1,13 @@
 /* Yakkurem: proved planning of a station's day. Link with libstation.a (docs/station.md).
  *
- * A day has n periods, numbered from 1. Five tables hold one entry for each: need and capacity in watt-hours, start cost,
- * unit cost and upkeep in microlitres. Two numbers say with how much charge the day begins (opening) and how much it is to
- * hand on (closing). A plan is one whole amount for each period. The charge left after a period is opening + what was made
- * so far - what was needed so far. A plan holds if no amount is above its period's capacity, the charge left after every
- * period is at least 0, and after the last period it is closing. It costs, for each period, nothing for making if the
- * amount is 0, else start + unit * amount; and upkeep * (the charge before the period + the charge left), so upkeep is per
- * half period. The charge before period 1 is opening.
+ * A day has n periods, numbered from 1. Six tables hold one entry for each: need and capacity in watt-hours, start cost,
+ * unit cost and upkeep in microlitres, and store, the most charge in watt-hours that may be left after the period. Two
+ * numbers say with how much charge the day begins (opening) and how much it is to hand on (closing). A plan is one whole
+ * amount for each period. The charge left after a period is opening + what was made so far - what was needed so far. A plan
+ * holds if no amount is above its period's capacity, the charge left after every period is at least 0 and at most the
+ * period's store, and after the last period it is closing. It costs, for each period, nothing for making if the amount is
+ * 0, else start + unit * amount; and upkeep * (the charge before the period + the charge left), so upkeep is per half
+ * period. The charge before period 1 is opening; no store limits it.
  *
  * Every slice is passed as a pointer and the number of its elements. What a caller must see to, and nothing else: a pointer
  * is not NULL (also with length 0), is aligned for its elements, and leads to as many as are said; and what a call may
@@ -14,12 +15,14 @@
  * it is passed. What it only reads may overlap. Any contents and any lengths are answered.
  *
  * Limits: n is 1 to 96; need at most 4096, in one period and, with closing, over the day; start at most 1000000000; unit
- * at most 1000000; upkeep at most 500000. Opening and closing have no limit of their own.
+ * at most 1000000; upkeep at most 500000. Opening and closing have no limit of their own. A store of 65535 stands for none:
+ * no plan that holds leaves so much.
  *
  * Every call returns a code:
  *     0                                   accepted
- *     number + 256 * period               refused: the number is 1 to 15, the period 0 where none is named
- *     101, 102 or 103 + 256 * period      a weighed plan breaks a rule: above capacity, short, charge over at the end
+ *     number + 256 * period               refused: the number is 1 to 16, the period 0 where none is named
+ *     101 to 104 + 256 * period           a weighed plan breaks a rule: above capacity (101), short (102), charge over at the
+ *                                         end (103), above store (104)
  *
  * Refusals, of which the first in a call's order is given:
  *      1  n is 0 or above 96
@@ -28,18 +31,21 @@
  *      4  need over the day + closing is above 4096
  *      5  a work area is too short
  *      6  too few slots, table cells or bytes
- *      7  summed need exceeds opening + summed capacity, closing being needed in period n; first in this period: there is no plan
+ *      7  there is no plan: this is the first period for which no amounts up to it keep the rules through it, the one on
+ *         closing in period n
  *      8  capacities differ (yakkurem_equal)
  *      9  a capacity may bind, in this period (yakkurem_uncapped)
- *     10  a kind byte of the file is not 1, 2 or 3
+ *     10  a kind byte of the file is not 1, 2, 3 or 4
  *     11  the file ends inside a record or before the end record
- *     12  the end record's count is wrong, or bytes follow it; or a record of kind 3 is not the file's first, or holds two zeros
+ *     12  the end record's count is wrong, or bytes follow it; or a record of kind 3 is not the file's first, or holds two
+ *         zeros; or a record of kind 4 holds a store of 65535
  *     13  the asked-for period is 0 or above n
  *     14  opening is above need over the day + closing: charge would be over at the end, whatever is made
  *     15  a start cost above 0, in this period (yakkurem_free)
+ *     16  a store below need over the day + closing, in this period (yakkurem_uncapped, yakkurem_equal, yakkurem_free)
  *
  * On any code but 0 nothing that was lent changes, and the out-array (the last parameter) is not written.
- * The calls keep no state and use no heap, no file and no clock. Of the C library they use memset alone.
+ * The calls keep no state and use no heap, no file and no clock. Of the C library they use memset and memcpy alone.
  */
 #ifndef YAKKUREM_H
 #define YAKKUREM_H
@@ -55,22 +61,23 @@ extern "C" {
 #define YAKKUREM_NUMBER(code) ((unsigned)((code) % 256))
 #define YAKKUREM_PERIOD(code) ((unsigned)((code) / 256))
 
-#define YAKKUREM_DAY                                                                                                     \
+#define YAKKUREM_DAY                                                                                                       \
     const uint16_t *need, size_t needs, const uint16_t *capacity, size_t capacities, const uint32_t *start, size_t starts, \
-        const uint32_t *unit, size_t units, const uint32_t *upkeep, size_t upkeeps, uint16_t opening, uint16_t closing
+        const uint32_t *unit, size_t units, const uint32_t *upkeep, size_t upkeeps, const uint16_t *store, size_t stores,  \
+        uint16_t opening, uint16_t closing
 
 #define YAKKUREM_MEMORY uint64_t *cost_area, size_t cost_cells, uint16_t *choice_area, size_t choice_cells, uint16_t *slots, size_t slot_count
 
 /* The four paths give the same plan: of those that hold the cheapest, and of equally cheap ones that with the smaller
  * amount in the last period where they differ. Accepted, the first n slots hold it, answer holds its cost and its starts
  * (the number of amounts above 0), and the needed cells of the areas hold 0; later cells and slots keep their contents.
- * Refusals in order: 1, 2, 3, 4, 14, 5, 6, 7, then the path's own.
+ * Refusals in order: 1, 2, 3, 4, 14, 5, 6, 7, then the path's own, then for all but yakkurem_full 16.
  *
  *     path                   cost area      choice area              for days with
- *     yakkurem_full          2 * (T + 1)    n * (T + 1)              any capacities
- *     yakkurem_uncapped      n + 1          n + 1                    capacities that can't bind (9)
- *     yakkurem_equal         6 * (n + 1)    4 * (n + 1) * (n + 1)    one capacity throughout (8)
- *     yakkurem_free          n              takes none               any capacities and no start cost (15)
+ *     yakkurem_full          2 * (T + 1)    n * (T + 1)              any capacities and stores
+ *     yakkurem_uncapped      n + 1          n + 1                    capacities that can't bind (9), no low store (16)
+ *     yakkurem_equal         6 * (n + 1)    4 * (n + 1) * (n + 1)    one capacity throughout (8), no low store (16)
+ *     yakkurem_free          n              takes none               any capacities, no start cost (15), no low store (16)
  *
  * T is what a plan makes in all: need over the day + closing - opening. A capacity can't bind if it is at least T less what
  * the periods before it need beyond opening (0 where opening covers them). Areas of 8194 and 393312 cells serve the full
@@ -82,8 +89,9 @@ uint64_t yakkurem_equal(YAKKUREM_DAY, YAKKUREM_MEMORY, uint64_t answer[2]);
 uint64_t yakkurem_free(YAKKUREM_DAY, uint64_t *cost_area, size_t cost_cells, uint16_t *slots, size_t slot_count, uint64_t answer[2]);
 
 /* Weighs somebody's plan. Accepted, it holds, and answer holds its cost and its starts. Else the first period that breaks
- * a rule and which, "above capacity" before the others; in period n it is short below closing, and charge is over above it.
- * Refusals in order: 1, 2, 3, 4, 14, 6. Amounts past n are not read. */
+ * a rule and which: in one period "above capacity" before "short", that before "above store", that before "charge over". In
+ * period n it is short below closing, and charge is over above it. Refusals in order: 1, 2, 3, 4, 14, 6. Amounts past n are
+ * not read. */
 uint64_t yakkurem_weigh(YAKKUREM_DAY, const uint16_t *plan, size_t amounts, uint64_t answer[2]);
 
 /* Weighs two plans. Accepted, both hold, and difference is the first one's cost less the second's: below 0 where the first
@@ -92,20 +100,21 @@ uint64_t yakkurem_compare(
     YAKKUREM_DAY, const uint16_t *first, size_t first_amounts, const uint16_t *second, size_t second_amounts, int64_t difference[1]);
 
 /* Reads a day file: exactly if opening or closing is above 0, a first record of 5 bytes (kind 3, then opening 2, closing 2
- * bytes); then period records of 17 bytes (kind 1, then need 2, capacity 2, start 4, unit 4, upkeep 4 bytes), then an end
- * record of 3 (kind 2, count of period records 2); most significant byte first. Accepted, the first n cells of the five
- * tables hold the day, later ones keep their contents, and day holds n, opening and closing. Refusals: the first fault from
- * front to back of 10, 11, 12; then in order 1, 6, 3. */
+ * bytes); then period records, of 17 bytes (kind 1, then need 2, capacity 2, start 4, unit 4, upkeep 4 bytes) where store is
+ * 65535, else of 19 (kind 4, then the same and store 2 bytes); then an end record of 3 (kind 2, count of period records 2);
+ * most significant byte first. Accepted, the first n cells of the six tables hold the day, later ones keep their contents,
+ * and day holds n, opening and closing. Refusals: the first fault from front to back of 10, 11, 12; then in order 1, 6, 3. */
 uint64_t yakkurem_read(
     const uint8_t *file, size_t bytes, uint16_t *need, size_t needs, uint16_t *capacity, size_t capacities, uint32_t *start, size_t starts,
-    uint32_t *unit, size_t units, uint32_t *upkeep, size_t upkeeps, uint64_t day[3]);
+    uint32_t *unit, size_t units, uint32_t *upkeep, size_t upkeeps, uint16_t *store, size_t stores, uint64_t day[3]);
 
 /* Finds the body of the numbered period record of a day file: part holds where it begins in file, counted from 0, and its
- * length, 16. No byte is copied: the body is file + part[0]. Refusals as yakkurem_read up to 12; then in order 1, 13. */
+ * length, 16 or for kind 4 18. No byte is copied: the body is file + part[0]. Refusals as yakkurem_read up to 12; then in
+ * order 1, 13. */
 uint64_t yakkurem_lookup(const uint8_t *file, size_t bytes, size_t period, uint64_t part[2]);
 
-/* Writes the day file at the front of out: 17 * n + 3 bytes, and 5 more if opening or closing is above 0; count is how
- * many. Later bytes keep their contents. Refusals in order: 1, 2, 3, 6. */
+/* Writes the day file at the front of out: 17 * n + 3 bytes, 2 more for each store below 65535, and 5 more if opening or
+ * closing is above 0, so at most 1832; count is how many. Later bytes keep their contents. Refusals in order: 1, 2, 3, 6. */
 uint64_t yakkurem_write(YAKKUREM_DAY, uint8_t *out, size_t bytes, uint64_t count[1]);
 
 #undef YAKKUREM_DAY

@@ -29,7 +29,7 @@ impl Areas {
     }
 }
 
-/// A day of n periods with need `total` in all, no charge at its ends, one capacity, and costs of a common size.
+/// A day of n periods with need `total` in all, no charge at its ends, no store limits, one capacity, and costs of a common size.
 fn day(n: usize, total: u64, capacity: u16) -> Day {
     let mut random = Random::new(total + capacity as u64 + n as u64);
     let mut table = |low: u64, high: u64| (0..n).map(|_| random.between(low, high) as u32).collect::<Vec<u32>>();
@@ -42,7 +42,7 @@ fn day(n: usize, total: u64, capacity: u16) -> Day {
         demand[i] += moved;
     }
     let (setup, unit, holding) = (table(1000, 9000), table(5, 15), table(1, 9));
-    Day { demand, capacity: vec![capacity; n], setup, unit, holding, opening: 0, closing: 0 }
+    Day { demand, capacity: vec![capacity; n], setup, unit, holding, store: vec![plain::NO_LIMIT; n], opening: 0, closing: 0 }
 }
 
 /// The same without starting cost, and with so little upkeep that it pays to make some of the need in periods before.
@@ -53,8 +53,8 @@ fn free_day(n: usize, total: u64, capacity: u16) -> Day {
 }
 
 fn library(path: Path, day: &Day, areas: &mut Areas) -> u64 {
-    let Day { demand, capacity, setup, unit, holding, .. } = day;
-    let day = yakkurem::Day { demand, capacity, setup, unit, holding, opening: 0, closing: 0 };
+    let Day { demand, capacity, setup, unit, holding, store, .. } = day;
+    let day = yakkurem::Day { demand, capacity, setup, unit, holding, store, opening: 0, closing: 0 };
     let memory = Memory { costs: &mut areas.costs, choices: &mut areas.choices, slots: &mut areas.slots };
     let planned = match path {
         Path::Full => yakkurem::full(day, memory),
@@ -148,6 +148,31 @@ fn alone(path: Path, day: &Day) -> Spread {
     spread((0..ROUNDS).map(|_| time(|| library(path, black_box(day), &mut areas))).collect())
 }
 
+/// The full path on days whose battery is full now and then: the smaller it is, the fewer totals can be reached.
+fn with_store() {
+    println!("\n## Days with a store limit\n");
+    println!(
+        "The full path; n is 96, and the limit is the same in every period. The other paths refuse such days (16). Beside it the same day \
+         without a limit.\n"
+    );
+    println!("| R | Capacity | Limit | Without | With | To the plain program | To recursion (5) |");
+    println!("|---|---|---|---|---|---|---|");
+    for (total, limits) in [(500, [10, 50, 250]), (4096, [100, 250, 1000])] {
+        for (capacity, limit) in [60, 65_535].into_iter().flat_map(|capacity| limits.map(|limit| (capacity, limit))) {
+            let unlimited = day(96, total, capacity);
+            let limited = Day { store: vec![limit; 96], ..unlimited.clone() };
+            let (time, plain, letter) = compare(Path::Full, &limited);
+            println!(
+                "| {total} | {capacity} | {limit} | {} | {} | {} | {} |",
+                alone(Path::Full, &unlimited).time(),
+                time.time(),
+                plain.ratio(),
+                letter.ratio()
+            );
+        }
+    }
+}
+
 const PATHS: [(Path, &str); 3] = [(Path::Full, "full"), (Path::Uncapped, "uncapped"), (Path::Equal, "equal")];
 
 /// The free path beside those that may serve the same days: what a station would take without it.
@@ -178,7 +203,8 @@ fn main() {
         "Written by `bench/run`: the library's paths beside plain Rust programs of the same methods (`bench/src/methods.rs`) and beside \
          recursion (5) by its letter (`outside/src/plain.rs`), which knows no bounds on the totals. Same process, same days, both built for \
          release; all work on lent memory that was not cleared before a call. The library also tests the tables and clears its areas; the \
-         plain programs do neither. Recursion (5) by its letter allocates its rows. The days have no charge at their ends, so R is T.\n"
+         plain programs do neither. Recursion (5) by its letter allocates its rows. The days have no charge at their ends, so R is T, and but \
+         for one table no store limits.\n"
     );
     println!(
         "Times are the thread's processor time on x86-64 Linux. A figure is the median of {ROUNDS} rounds, with the smallest and the \
@@ -199,6 +225,7 @@ fn main() {
         }
     }
     without_starts();
+    with_store();
     println!("\n## Growth with n\n\nR is 500.\n");
     println!("| n | full, capacity 60 | uncapped | equal, capacity 60 |");
     println!("|---|---|---|---|");

@@ -1,5 +1,6 @@
 //! Plain programs of the four paths' methods, on the same lent memory, for comparison of speed.
-//! They are for days without charge at the ends, test nothing and leave their areas as they are.
+//! They are for days without charge at the ends, all but the full path's for days without store limits; they test nothing and leave
+//! their areas as they are.
 use crate::plain::Day;
 
 fn production(day: &Day, i: usize, x: u64) -> u64 {
@@ -15,8 +16,8 @@ fn rate(day: &Day, i: usize) -> u64 {
     day.holding[i] as u64 + day.holding.get(i + 1).map_or(0, |&v| v as u64)
 }
 
-/// Recursion (5) over the totals that can be reached, two cost rows taking turns. Of the totals before a period that a total after it
-/// can come from, a queue keeps the cheapest at its head: both ends of that window only move up.
+/// Recursion (5) over the totals that can be reached and left in store, two cost rows taking turns. Of the totals before a period that a
+/// total after it can come from, a queue keeps the cheapest at its head: both ends of that window only move up.
 pub fn full(day: &Day, costs: &mut [u64], choices: &mut [u16], slots: &mut [u16]) -> u64 {
     let (n, total) = (day.periods(), day.total() as usize);
     let width = total + 1;
@@ -26,7 +27,8 @@ pub fn full(day: &Day, costs: &mut [u64], choices: &mut [u16], slots: &mut [u16]
     let mut queue = Vec::with_capacity(width);
     for i in 0..n {
         let (capacity, setup, unit, rate) = (day.capacity[i] as usize, day.setup[i] as u64, day.unit[i] as u64, rate(day, i));
-        let (floor, top) = (low + day.demand[i] as usize, (high + capacity).min(total));
+        let floor = low + day.demand[i] as usize;
+        let top = (high + capacity).min(total).min(floor + day.store[i] as usize);
         let key = |y: usize| before[y] + unit * (top - y) as u64;
         let (mut head, mut next) = (0, low);
         queue.clear();

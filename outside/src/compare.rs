@@ -62,6 +62,7 @@ fn before(input: &Input) -> Vec<Vec<u64>> {
             wide::<u32>(&pattern(2, l[2])),
             wide::<u32>(&pattern(3, l[3])),
             wide::<u32>(&pattern(4, l[4])),
+            wide::<u16>(&pattern(5, l[5])),
         ],
         Call::Write => vec![wide::<u8>(&pattern(0, l[0]))],
         Call::Weigh | Call::Compare | Call::Lookup => vec![],
@@ -82,6 +83,7 @@ fn broken(rule: Rule, period: usize) -> u64 {
         Rule::AboveCapacity => 101,
         Rule::Short => 102,
         Rule::Over => 103,
+        Rule::AboveStore => 104,
     };
     number + 256 * period as u64
 }
@@ -143,9 +145,10 @@ pub fn expected(input: &Input) -> Seen {
             fill(&mut seen.lent[2], &day.setup);
             fill(&mut seen.lent[3], &day.unit);
             fill(&mut seen.lent[4], &day.holding);
+            fill(&mut seen.lent[5], &day.store);
             seen.out = vec![day.periods() as u64, day.opening as u64, day.closing as u64];
         }
-        Call::Lookup => seen.out = plain::walk(&input.file).unwrap().place(input.period).map(|v| v as u64).into(),
+        Call::Lookup => seen.out = plain::walk(&input.file).unwrap().places[input.period - 1].map(|v| v as u64).into(),
         Call::Write => {
             let file = plain::file_of(&input.day);
             fill(&mut seen.lent[0], &file);
@@ -156,8 +159,8 @@ pub fn expected(input: &Input) -> Seen {
 }
 
 fn day(input: &Input) -> Day<'_> {
-    let plain::Day { demand, capacity, setup, unit, holding, opening, closing } = &input.day;
-    Day { demand, capacity, setup, unit, holding, opening: *opening, closing: *closing }
+    let plain::Day { demand, capacity, setup, unit, holding, store, opening, closing } = &input.day;
+    Day { demand, capacity, setup, unit, holding, store, opening: *opening, closing: *closing }
 }
 
 /// A path's call, with or without its code.
@@ -188,6 +191,7 @@ fn run_read(input: &Input) -> Seen {
     let mut setup: Vec<u32> = pattern(2, l[2]);
     let mut unit: Vec<u32> = pattern(3, l[3]);
     let mut holding: Vec<u32> = pattern(4, l[4]);
+    let mut store: Vec<u16> = pattern(5, l[5]);
     let mut day = out();
     let filled = TablesMut {
         demand: lent(&mut demand),
@@ -195,9 +199,10 @@ fn run_read(input: &Input) -> Seen {
         setup: lent(&mut setup),
         unit: lent(&mut unit),
         holding: lent(&mut holding),
+        store: lent(&mut store),
     };
     let code = codes::read(&input.file, filled, &mut day);
-    Seen { code, out: wide(&day), lent: vec![wide(&demand), wide(&capacity), wide(&setup), wide(&unit), wide(&holding)] }
+    Seen { code, out: wide(&day), lent: vec![wide(&demand), wide(&capacity), wide(&setup), wide(&unit), wide(&holding), wide(&store)] }
 }
 
 /// What the library does. The tables, plans and file that it only reads are to be as they were.
@@ -235,9 +240,9 @@ pub fn actual(given: &Input) -> Seen {
     seen
 }
 
-/// Whether the library's full path, lent enough, says the same of a day that the free path plans: slots, cost and starts.
+/// Whether the library's full path, lent enough, says the same of a day that another path plans: slots, cost and starts.
 pub fn full_agrees(input: &Input, seen: &Seen) -> bool {
-    if input.call != Call::Free || seen.code != 0 {
+    if !input.call.is_short_path() || seen.code != 0 {
         return true;
     }
     let full = actual(&Input::exact(Call::Full, &input.day, [&[]; 2]));
@@ -273,10 +278,16 @@ pub fn results_agree(input: &Input, seen: &Seen) -> bool {
         },
         Call::Read => {
             let l = &input.lent;
-            let (mut demand, mut capacity) = (vec![0; l[0]], vec![0; l[1]]);
-            let (mut setup, mut unit, mut holding) = (vec![0; l[2]], vec![0; l[3]], vec![0; l[4]]);
-            let filled =
-                TablesMut { demand: &mut demand, capacity: &mut capacity, setup: &mut setup, unit: &mut unit, holding: &mut holding };
+            let [mut demand, mut capacity, mut store] = [0, 1, 5].map(|i| vec![0; l[i]]);
+            let [mut setup, mut unit, mut holding] = [2, 3, 4].map(|i| vec![0; l[i]]);
+            let filled = TablesMut {
+                demand: &mut demand,
+                capacity: &mut capacity,
+                setup: &mut setup,
+                unit: &mut unit,
+                holding: &mut holding,
+                store: &mut store,
+            };
             let day = Filled { periods: seen.out[0], opening: seen.out[1] as u16, closing: seen.out[2] as u16 };
             yakkurem::read(&input.file, filled) == if accepted { Ok(day) } else { Err(refusal) }
         }
@@ -295,6 +306,7 @@ fn said(code: u64) -> Fault {
         101 => Fault::Broken(yakkurem::Rule::AboveCapacity, period),
         102 => Fault::Broken(yakkurem::Rule::Short, period),
         103 => Fault::Broken(yakkurem::Rule::Over, period),
+        104 => Fault::Broken(yakkurem::Rule::AboveStore, period),
         _ => Fault::Refused(Refusal { number, period }),
     };
     assert_eq!(fault(code), expected);

@@ -2,21 +2,22 @@
 use crate::input::{Call, Input};
 use crate::plain::{self, Day};
 
-/// A day of n periods that needs `total` in all, as evenly as can be.
-fn day(n: usize, total: usize, capacity: u16, opening: u16, closing: u16) -> Day {
+/// A day of n periods that needs `total` in all, as evenly as can be, without store limits.
+pub fn day(n: usize, total: usize, capacity: u16, opening: u16, closing: u16) -> Day {
     Day {
         demand: (0..n).map(|i| (total * (i + 1) / n - total * i / n) as u16).collect(),
         capacity: vec![capacity; n],
         setup: (0..n).map(|i| 7 * i as u32 % 50).collect(),
         unit: (0..n).map(|i| 3 * i as u32 % 5).collect(),
         holding: (0..n).map(|i| 5 * i as u32 % 4).collect(),
+        store: vec![plain::NO_LIMIT; n],
         opening,
         closing,
     }
 }
 
 /// The input of a call; the plans to weigh make what is wanted in the last period.
-fn input(call: Call, day: &Day) -> Input {
+pub fn input(call: Call, day: &Day) -> Input {
     let mut plan = vec![0; day.periods()];
     *plan.last_mut().unwrap() = day.least_by(day.periods()).min(65_535) as u16;
     Input::exact(call, day, [&plan, &plan])
@@ -40,7 +41,7 @@ pub fn limits(calls: &[Call]) -> Vec<Input> {
 }
 
 /// A file cut at every length from `least` on.
-fn cuts(file: &[u8], least: usize) -> impl Iterator<Item = Vec<u8>> + '_ {
+pub fn cuts(file: &[u8], least: usize) -> impl Iterator<Item = Vec<u8>> + '_ {
     (least..=file.len()).map(|length| file[..length].to_vec())
 }
 
@@ -71,7 +72,7 @@ pub fn files() -> Vec<Vec<u8>> {
 pub fn on_file(file: &[u8]) -> Vec<Input> {
     let of = |call, period, lent| Input { call, day: Day::default(), plans: vec![], file: file.to_vec(), period, lent };
     let last = plain::walk(file).map_or(0, |records| records.periods() + 1);
-    let mut inputs = vec![of(Call::Read, 0, vec![4; 5])];
+    let mut inputs = vec![of(Call::Read, 0, vec![4; 6])];
     inputs.extend((0..=last).map(|period| of(Call::Lookup, period, vec![])));
     inputs
 }

@@ -1,22 +1,22 @@
 //! Inputs for request 2.3: days without starting cost, with ties and at the limits; start costs in every period; lent memory shorter than
 //! needed, as long, and longer.
 use crate::ends;
-use crate::input::{self, Call, Ends, Input, Size};
+use crate::input::{self, Call, Input, Size, With};
 use crate::plain::{self, Day};
 use crate::random::Random;
 
 const N: usize = plain::MAX_PERIODS;
 
 /// A made-up day whose unit costs make up for the upkeep spared, but for a little, so that many periods compare alike.
-pub fn level(random: &mut Random, size: Size, ends: Ends) -> Input {
-    let mut day = input::day(random, Call::Free, size, ends);
+pub fn level(random: &mut Random, size: Size, with: With) -> Input {
+    let mut day = input::day(random, Call::Free, size, with);
     // so low that unit costs stay within their limit
     day.holding.iter_mut().for_each(|h| *h = (*h).min(5000));
     let most = random.pick(&[0, 1, 2]);
     for i in 0..day.periods() {
         day.unit[i] = plain::spared(&day, i) as u32 + random.between(0, most) as u32;
     }
-    input::complete(random, Call::Free, day)
+    input::complete(random, Call::Free, day, with)
 }
 
 fn input(day: &Day) -> Input {
@@ -26,7 +26,8 @@ fn input(day: &Day) -> Input {
 /// A day of n periods without starting cost, with a need of 1 in each.
 fn plain_day(n: usize) -> Day {
     let cost = |factor: usize, high: usize| (0..n).map(|i| (factor * i % high) as u32).collect();
-    Day { demand: vec![1; n], capacity: vec![2; n], setup: vec![0; n], unit: cost(3, 5), holding: cost(5, 4), opening: 0, closing: 0 }
+    let (unit, holding, store) = (cost(3, 5), cost(5, 4), vec![plain::NO_LIMIT; n]);
+    Day { demand: vec![1; n], capacity: vec![2; n], setup: vec![0; n], unit, holding, store, opening: 0, closing: 0 }
 }
 
 /// Unit costs and upkeep of 96 periods.
@@ -74,8 +75,8 @@ fn large() -> Vec<Input> {
         for demand in needs(total) {
             for capacity in &capacities {
                 for (unit, holding) in costs() {
-                    let (demand, capacity) = (demand.clone(), capacity.clone());
-                    inputs.push(input(&Day { demand, capacity, setup: vec![0; N], unit, holding, opening, closing }));
+                    let (demand, capacity, store) = (demand.clone(), capacity.clone(), vec![plain::NO_LIMIT; N]);
+                    inputs.push(input(&Day { demand, capacity, setup: vec![0; N], unit, holding, store, opening, closing }));
                 }
             }
         }

@@ -11,7 +11,8 @@ const N: usize = plain::MAX_PERIODS;
 fn dear(demand: &[u16; N], capacity: &[u16; N], opening: u16, closing: u16) -> Day {
     let costs = |limit: u64| vec![limit as u32; N];
     let (setup, unit, holding) = (costs(plain::MAX_SETUP), costs(plain::MAX_UNIT), costs(plain::MAX_HOLDING));
-    Day { demand: demand.to_vec(), capacity: capacity.to_vec(), setup, unit, holding, opening, closing }
+    let store = vec![plain::NO_LIMIT; N];
+    Day { demand: demand.to_vec(), capacity: capacity.to_vec(), setup, unit, holding, store, opening, closing }
 }
 
 /// Every call on the dearest days. The plans to weigh make all as early as capacity allows, which is held the longest; where it may also be

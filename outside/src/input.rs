@@ -1,6 +1,7 @@
 //! Inputs of every call: valid ones of several sizes, at the limits, and damaged so that a wanted refusal's condition holds.
 use crate::plain::{self, Day, Path};
 use crate::random::Random;
+use std::iter::repeat;
 
 #[derive(Clone, Copy, Debug, PartialEq)]
 pub enum Call {
@@ -32,19 +33,19 @@ impl Call {
         }
     }
 
-    /// The refusals that the call can give on days with such ends, in the papers' order.
-    pub fn refusals(self, ends: Ends) -> Vec<u64> {
+    /// The refusals that the call can give on such days, in the papers' order.
+    pub fn refusals(self, with: With) -> Vec<u64> {
         let order: &[u64] = match self {
             Call::Full => &[1, 2, 3, 4, 14, 5, 6, 7],
-            Call::Uncapped => &[1, 2, 3, 4, 14, 5, 6, 7, 9],
-            Call::Equal => &[1, 2, 3, 4, 14, 5, 6, 7, 8],
-            Call::Free => &[1, 2, 3, 4, 14, 5, 6, 7, 15],
+            Call::Uncapped => &[1, 2, 3, 4, 14, 5, 6, 7, 9, 16],
+            Call::Equal => &[1, 2, 3, 4, 14, 5, 6, 7, 8, 16],
+            Call::Free => &[1, 2, 3, 4, 14, 5, 6, 7, 15, 16],
             Call::Weigh | Call::Compare => &[1, 2, 3, 4, 14, 6],
             Call::Read => &[10, 11, 12, 1, 6, 3],
             Call::Lookup => &[10, 11, 12, 1, 13],
             Call::Write => &[1, 2, 3, 6],
         };
-        order.iter().copied().filter(|&number| ends == Ends::Any || number != 14).collect()
+        order.iter().copied().filter(|&number| (with.ends || number != 14) && (with.stores || number != 16)).collect()
     }
 
     /// How many plans the call weighs.
@@ -68,6 +69,11 @@ impl Call {
     fn reads_file(self) -> bool {
         matches!(self, Call::Read | Call::Lookup)
     }
+
+    /// Whether the call is a path for some days only.
+    pub fn is_short_path(self) -> bool {
+        matches!(self, Call::Uncapped | Call::Equal | Call::Free)
+    }
 }
 
 /// Everything that a caller hands over. What a call does not take stays empty.
@@ -81,15 +87,22 @@ pub struct Input {
     pub file: Vec<u8>,
     /// the asked-for period
     pub period: usize,
-    /// lengths of what is lent: cost area, choice area (not for the free path) and slots; or the five tables to fill; or the bytes to write
+    /// lengths of what is lent: cost area, choice area (not for the free path) and slots; or the six tables to fill; or the bytes to write
     pub lent: Vec<usize>,
 }
 
-/// The charge at both ends of a day.
+/// What made-up days may have: charge at their ends, store limits. Those without are drawn as they were before there were any.
 #[derive(Clone, Copy, Debug, PartialEq)]
-pub enum Ends {
-    Zero,
-    Any,
+pub struct With {
+    pub ends: bool,
+    pub stores: bool,
+}
+
+impl With {
+    pub const NOTHING: With = With { ends: false, stores: false };
+    pub const ENDS: With = With { ends: true, stores: false };
+    pub const STORES: With = With { ends: false, stores: true };
+    pub const BOTH: With = With { ends: true, stores: true };
 }
 
 /// How large a day is, and how its numbers are drawn.
@@ -142,7 +155,7 @@ impl Input {
                 vec![costs, choices, self.day.periods()]
             }
             Call::Free => vec![plain::cells(Path::Free, &self.day).0, self.day.periods()],
-            Call::Read => vec![plain::walk(&self.file).map_or(self.file.len() / 17, |records| records.periods()); 5],
+            Call::Read => vec![plain::walk(&self.file).map_or(self.file.len() / 17, |records| records.periods()); 6],
             Call::Write => vec![plain::file_length(&self.day)],
             Call::Weigh | Call::Compare | Call::Lookup => vec![],
         }
@@ -263,8 +276,54 @@ fn give_ends(random: &mut Random, call: Call, size: Size, day: &mut Day) {
     }
 }
 
+/// The plan that makes all as late as capacity allows, of a day with enough of it: no plan leaves less charge after any period.
+fn latest(day: &Day) -> Vec<u16> {
+    let mut plan = vec![0u16; day.periods()];
+    let mut wanted = 0u64;
+    for i in (0..day.periods()).rev() {
+        wanted += day.least_by(i + 1) - day.least_by(i);
+        plan[i] = wanted.min(day.capacity[i] as u64) as u16;
+        wanted -= plan[i] as u64;
+    }
+    plan
+}
+
+/// The charge that is left after period i, counted from 0, by that plan; 0 where capacity does not suffice.
+fn least_left(day: &Day, i: usize) -> u64 {
+    let made = latest(day)[..=i].iter().map(|&x| x as u64).sum();
+    day.left(i + 1, made).max(0) as u64
+}
+
+/// Store limits: around the least charge that a plan can leave, so that they bind; around R + Z, below which the short paths refuse; here
+/// and there none. A day with a plan mostly keeps one, and a path for some days only mostly gets limits that it accepts.
+fn give_stores(random: &mut Random, call: Call, day: &mut Day) {
+    let n = day.periods();
+    let asked = day.asked();
+    if call.is_short_path() && !random.once_in(4) {
+        day.store.fill_with(|| (asked + random.pick(&[0, 0, 1, 65_535])).min(65_535) as u16);
+        return;
+    }
+    let least: Vec<u64> = (0..n).map(|i| least_left(day, i)).collect();
+    let spare = random.pick(&[0, 0, 1, 2, asked]);
+    let mut limits: Vec<u64> = least.iter().map(|left| left + random.between(0, spare)).collect();
+    if random.once_in(4) {
+        // one battery all day
+        limits.fill(least.iter().max().unwrap() + random.between(0, spare));
+    } else {
+        for limit in &mut limits {
+            *limit = random.pick(&[*limit, *limit, *limit, asked, asked.saturating_sub(1), plain::NO_LIMIT as u64]);
+        }
+    }
+    if random.once_in(6) {
+        // too low for any plan, where something must be left
+        let i = random.index(n);
+        limits[i] = least[i].saturating_sub(1);
+    }
+    day.store = narrow16(limits);
+}
+
 /// A day within the limits; three of four have a plan.
-pub fn day(random: &mut Random, call: Call, size: Size, ends: Ends) -> Day {
+pub fn day(random: &mut Random, call: Call, size: Size, with: With) -> Day {
     let (n, total, capacity, setup, rate) = match size {
         Size::Tiny => (random.between(1, 5), random.between(0, 9), 5, random.pick(&[0, 1, 3, 5]), random.pick(&[0, 1, 2])),
         Size::Middle => (random.between(1, 20), random.between(0, 120), 30, random.pick(&[5, 100, 1000]), random.pick(&[1, 10])),
@@ -292,6 +351,7 @@ pub fn day(random: &mut Random, call: Call, size: Size, ends: Ends) -> Day {
         setup: narrow32(costs(random, setup)),
         unit: narrow32(costs(random, rate)),
         holding: narrow32(costs(random, rate.min(plain::MAX_HOLDING))),
+        store: vec![plain::NO_LIMIT; n],
         opening: 0,
         closing: 0,
     };
@@ -314,8 +374,11 @@ pub fn day(random: &mut Random, call: Call, size: Size, ends: Ends) -> Day {
             shape(random, call, &mut day);
         }
     }
-    if ends == Ends::Any {
+    if with.ends {
         give_ends(random, call, size, &mut day);
+    }
+    if with.stores {
+        give_stores(random, call, &mut day);
     }
     day
 }
@@ -325,17 +388,7 @@ fn weighed(random: &mut Random, day: &Day) -> Vec<u16> {
     let n = day.periods();
     let mut plan = match plain::shortage(day) {
         None if plain::plans(day) <= 2000.0 && !random.once_in(3) => plain::search(day).unwrap().plan,
-        // make what is to be made as late as capacity allows
-        None => {
-            let mut plan = vec![0u16; n];
-            let mut wanted = 0u64;
-            for i in (0..n).rev() {
-                wanted += day.least_by(i + 1) - day.least_by(i);
-                plan[i] = wanted.min(day.capacity[i] as u64) as u16;
-                wanted -= plan[i] as u64;
-            }
-            plan
-        }
+        None => latest(day),
         Some(_) => narrow16(table(random, n, 5)),
     };
     for _ in 0..random.pick(&[0, 0, 0, 1, 1, 2]) {
@@ -358,8 +411,27 @@ fn enough(random: &mut Random, needed: usize) -> usize {
     needed + random.pick(&[0, 0, 0, 1, 2, 7])
 }
 
+/// How many lent parts are drawn one by one. The sixth table to fill is not where there are no store limits, so that draws stay what they
+/// were with five.
+fn drawn(parts: usize, with: With) -> usize {
+    if with.stores {
+        parts
+    } else {
+        parts.min(5)
+    }
+}
+
+/// Lengths that serve; one that is not drawn is that of the part before it.
+fn lend(random: &mut Random, needed: Vec<usize>, with: With) -> Vec<usize> {
+    let mut lent: Vec<usize> = needed.iter().take(drawn(needed.len(), with)).map(|&needed| enough(random, needed)).collect();
+    if lent.len() < needed.len() {
+        lent.extend(lent.last().copied());
+    }
+    lent
+}
+
 /// Fills in what goes with the day, and lends enough.
-pub fn complete(random: &mut Random, call: Call, day: Day) -> Input {
+pub fn complete(random: &mut Random, call: Call, day: Day, with: With) -> Input {
     let plans = (0..call.plans()).map(|_| weighed(random, &day)).collect();
     let mut input = Input { call, day, plans, file: vec![], period: 0, lent: vec![] };
     if call.reads_file() {
@@ -367,17 +439,17 @@ pub fn complete(random: &mut Random, call: Call, day: Day) -> Input {
         input.period = random.between(1, input.day.periods() as u64) as usize;
         input.day = Day::default();
     }
-    input.lent = input.needed().into_iter().map(|needed| enough(random, needed)).collect();
+    input.lent = lend(random, input.needed(), with);
     if call == Call::Lookup {
         input.lent.clear();
     }
     input
 }
 
-/// An input that is refused, if at all, for a shortage or a capacity alone.
-pub fn valid(random: &mut Random, call: Call, size: Size, ends: Ends) -> Input {
-    let day = day(random, call, size, ends);
-    complete(random, call, day)
+/// An input that is refused, if at all, for a shortage, a capacity or a store limit alone.
+pub fn valid(random: &mut Random, call: Call, size: Size, with: With) -> Input {
+    let day = day(random, call, size, with);
+    complete(random, call, day, with)
 }
 
 fn push_period(random: &mut Random, day: &mut Day) {
@@ -387,6 +459,7 @@ fn push_period(random: &mut Random, day: &mut Day) {
     day.setup.push(day.setup[i]);
     day.unit.push(day.unit[i]);
     day.holding.push(day.holding[i]);
+    day.store.push(day.store[i]);
 }
 
 fn shorten<T>(random: &mut Random, table: &mut Vec<T>) {
@@ -394,7 +467,7 @@ fn shorten<T>(random: &mut Random, table: &mut Vec<T>) {
     table.truncate(length);
 }
 
-fn change_length(random: &mut Random, day: &mut Day) {
+fn change_length(random: &mut Random, day: &mut Day, with: With) {
     fn change<T: Copy + Default>(random: &mut Random, table: &mut Vec<T>) {
         if random.once_in(2) {
             shorten(random, table);
@@ -402,11 +475,12 @@ fn change_length(random: &mut Random, day: &mut Day) {
             table.push(T::default());
         }
     }
-    match random.between(0, 3) {
+    match random.between(0, if with.stores { 4 } else { 3 }) {
         0 => change(random, &mut day.capacity),
         1 => change(random, &mut day.setup),
         2 => change(random, &mut day.unit),
-        _ => change(random, &mut day.holding),
+        3 => change(random, &mut day.holding),
+        _ => change(random, &mut day.store),
     }
 }
 
@@ -426,8 +500,19 @@ fn raise_value(random: &mut Random, day: &mut Day) {
     }
 }
 
+/// Lowers a store limit below what must be left there, which may be what later periods need and now can't make.
+fn lower_store(random: &mut Random, day: &mut Day) {
+    let n = day.periods();
+    let i = random.index(n);
+    if random.once_in(2) {
+        day.demand[n - 1] = day.demand[n - 1].max(1);
+        day.capacity[i + 1..].fill(0);
+    }
+    day.store[i] = least_left(day, i).saturating_sub(random.pick(&[1, 1, 2])) as u16;
+}
+
 /// Changes a day so that the numbered condition may hold; one that does not suit the day leaves it.
-fn damage_day(random: &mut Random, day: &mut Day, ends: Ends, number: u64) {
+fn damage_day(random: &mut Random, day: &mut Day, with: With, number: u64) {
     let n = day.periods();
     match number {
         1 if random.once_in(2) => {
@@ -441,9 +526,9 @@ fn damage_day(random: &mut Random, day: &mut Day, ends: Ends, number: u64) {
                 push_period(random, day);
             }
         }
-        2 => change_length(random, day),
+        2 => change_length(random, day, with),
         3 => raise_value(random, day),
-        4 if ends == Ends::Any && random.once_in(2) => {
+        4 if with.ends && random.once_in(2) => {
             let least = (plain::MAX_TOTAL + 1).saturating_sub(day.total());
             day.closing = random.pick(&[least, least, least + 1, 65_535]) as u16;
         }
@@ -452,6 +537,7 @@ fn damage_day(random: &mut Random, day: &mut Day, ends: Ends, number: u64) {
             day.demand[i] = 4096;
             day.demand[j] = day.demand[j].max(1);
         }
+        7 if n > 0 && with.stores && random.once_in(2) => lower_store(random, day),
         7 if n > 0 => {
             let i = random.index(n);
             day.demand[i] = day.demand[i].max(1);
@@ -485,21 +571,36 @@ fn damage_day(random: &mut Random, day: &mut Day, ends: Ends, number: u64) {
                 day.setup[random.index(n)] = random.pick(&[1, 1, 2, plain::MAX_SETUP as u32]);
             }
         }
+        16 => {
+            let asked = day.asked();
+            for _ in 0..random.pick(&[1, 2]) {
+                day.store[random.index(n)] = asked.saturating_sub(random.pick(&[1, 1, 2, asked])) as u16;
+            }
+        }
         _ => {}
     }
 }
 
-/// Where the records begin of a file that was written of a day.
-fn boundaries(file: &[u8]) -> Vec<usize> {
-    let first = if file[0] == plain::CHARGE { vec![0] } else { vec![] };
-    let periods = (1 + plain::CHARGE_BODY) * first.len();
-    let count = file.len().saturating_sub(periods + 1 + plain::END_BODY) / (1 + plain::PERIOD_BODY);
-    first.into_iter().chain((0..=count).map(|i| periods + (1 + plain::PERIOD_BODY) * i)).collect()
+/// Where the records begin of a file that was written of a day with these store limits.
+fn boundaries(store: &[u16], file: &[u8]) -> Vec<usize> {
+    let mut places = vec![0];
+    if file[0] == plain::CHARGE {
+        places.push(1 + plain::CHARGE_BODY);
+    }
+    let mut next = places[places.len() - 1];
+    for &limit in store.iter().chain(repeat(&plain::NO_LIMIT)) {
+        next += plain::period_record(limit);
+        if next + 1 + plain::END_BODY > file.len() {
+            break;
+        }
+        places.push(next);
+    }
+    places
 }
 
 /// Puts in a record of the charge at both ends: one too late, a second one, or a first one with two zeros.
-fn misplace_charge(random: &mut Random, file: &mut Vec<u8>) {
-    let places = boundaries(file);
+fn misplace_charge(random: &mut Random, store: &[u16], file: &mut Vec<u8>) {
+    let places = boundaries(store, file);
     let at = random.pick(&places);
     let record = if at == 0 { plain::charge_record(0, 0) } else { plain::charge_record(random.pick(&[0, 1]), 2) };
     if at > 0 && random.once_in(3) {
@@ -511,10 +612,25 @@ fn misplace_charge(random: &mut Random, file: &mut Vec<u8>) {
     }
 }
 
-fn damage_file(random: &mut Random, file: &mut Vec<u8>, ends: Ends, number: u64) {
+/// Turns a period's record into one of kind 4 with the limit that such a record must not have.
+fn write_no_limit(random: &mut Random, store: &[u16], file: &mut Vec<u8>) {
+    let places = boundaries(store, file);
+    let i = random.index(places.len());
+    let body = places[i] + 1;
+    let limit = body + plain::PERIOD_BODY;
+    let old = match file[places[i]] {
+        plain::PERIOD => limit..limit,
+        plain::STORED => limit..body + plain::STORED_BODY,
+        _ => return,
+    };
+    file[places[i]] = plain::STORED;
+    file.splice(old, plain::NO_LIMIT.to_be_bytes());
+}
+
+fn damage_file(random: &mut Random, store: &[u16], file: &mut Vec<u8>, with: With, number: u64) {
     match number {
         10 => {
-            let places = boundaries(file);
+            let places = boundaries(store, file);
             let at = random.pick(&places);
             file[at] = random.pick(&[0, 6, 7, 255]);
         }
@@ -523,7 +639,8 @@ fn damage_file(random: &mut Random, file: &mut Vec<u8>, ends: Ends, number: u64)
                 if random.once_in(3) { file.len().saturating_sub(random.between(1, 3) as usize) } else { random.index(file.len()) };
             file.truncate(length);
         }
-        12 if ends == Ends::Any && random.once_in(2) => misplace_charge(random, file),
+        12 if with.stores && random.once_in(2) => write_no_limit(random, store, file),
+        12 if with.ends && random.once_in(2) => misplace_charge(random, store, file),
         12 => {
             let last = file.len() - 1;
             match random.between(0, 2) {
@@ -537,17 +654,17 @@ fn damage_file(random: &mut Random, file: &mut Vec<u8>, ends: Ends, number: u64)
 }
 
 /// An input that was damaged for each of the numbers.
-pub fn damaged(random: &mut Random, call: Call, size: Size, ends: Ends, numbers: &[u64]) -> Input {
-    let day = day(random, call, size, ends);
-    damage(random, call, day, ends, numbers)
+pub fn damaged(random: &mut Random, call: Call, size: Size, with: With, numbers: &[u64]) -> Input {
+    let day = day(random, call, size, with);
+    damage(random, call, day, with, numbers)
 }
 
 /// An input with this day, damaged for each of the numbers.
-pub fn damage(random: &mut Random, call: Call, mut day: Day, ends: Ends, numbers: &[u64]) -> Input {
+pub fn damage(random: &mut Random, call: Call, mut day: Day, with: With, numbers: &[u64]) -> Input {
     // in an order in which what comes later mostly keeps what came before
-    for number in [15, 7, 8, 9, 4, 3, 1, 2, 14] {
+    for number in [15, 7, 8, 9, 4, 16, 3, 1, 2, 14] {
         if numbers.contains(&number) {
-            damage_day(random, &mut day, ends, number);
+            damage_day(random, &mut day, with, number);
         }
     }
     let mut input = Input { call, day, plans: vec![], file: vec![], period: 0, lent: vec![] };
@@ -564,11 +681,11 @@ pub fn damage(random: &mut Random, call: Call, mut day: Day, ends: Ends, numbers
         }
         for number in [12, 10, 11] {
             if numbers.contains(&number) {
-                damage_file(random, &mut input.file, ends, number);
+                damage_file(random, &day.store, &mut input.file, with, number);
             }
         }
     }
-    input.lent = input.needed().into_iter().map(|needed| enough(random, needed)).collect();
+    input.lent = lend(random, input.needed(), with);
     let needed = input.needed();
     let short = |random: &mut Random, needed: usize| if random.once_in(3) { 0 } else { needed.saturating_sub(1) };
     if numbers.contains(&5) {
@@ -580,7 +697,7 @@ pub fn damage(random: &mut Random, call: Call, mut day: Day, ends: Ends, numbers
             let which = random.index(plans);
             input.plans[which].truncate(short(random, n));
         } else {
-            let which = if call.path().is_some() { call.areas() } else { random.index(needed.len()) };
+            let which = if call.path().is_some() { call.areas() } else { random.index(drawn(needed.len(), with)) };
             input.lent[which] = short(random, needed[which]);
         }
     }
@@ -588,14 +705,18 @@ pub fn damage(random: &mut Random, call: Call, mut day: Day, ends: Ends, numbers
 }
 
 /// An input with something changed that no rule names: any value, length or byte.
-pub fn changed(random: &mut Random, call: Call, size: Size, ends: Ends) -> Input {
-    let mut input = valid(random, call, size, ends);
+pub fn changed(random: &mut Random, call: Call, size: Size, with: With) -> Input {
+    let mut input = valid(random, call, size, with);
+    let kinds: &[u8] = if with.stores { &[0, 1, 2, 3, 4] } else { &[0, 1, 2, 3] };
+    let mut parts = vec![0, 1, 2, 3, 4, 5];
+    parts.extend(if with.ends { vec![6, 7] } else { vec![] });
+    parts.extend(with.stores.then_some(8));
     for _ in 0..random.between(1, 3) {
         if call.reads_file() {
             let at = random.index(input.file.len());
             match random.between(0, 4) {
                 0 => input.file[at] = random.next() as u8,
-                1 => input.file[at] = random.pick(&[0, 1, 2, 3]),
+                1 => input.file[at] = random.pick(kinds),
                 2 => input.file.insert(at, random.pick(&[0, 1, 2])),
                 3 if input.file.len() > 1 => {
                     input.file.remove(at);
@@ -605,8 +726,7 @@ pub fn changed(random: &mut Random, call: Call, size: Size, ends: Ends) -> Input
         } else {
             let n = input.day.periods();
             let i = random.index(n);
-            let numbers = if ends == Ends::Any { 7 } else { 5 };
-            match random.between(0, numbers) {
+            match random.pick(&parts) {
                 0 => input.day.demand[i] = random.pick(&[0, 1, 4096, 4097, 65_535]),
                 1 => input.day.capacity[i] = random.pick(&[0, 1, 4095, 4096, 65_535]),
                 2 => input.day.setup[i] = random.pick(&[0, 999_999_999, 1_000_000_000, 1_000_000_001, u32::MAX]),
@@ -614,6 +734,7 @@ pub fn changed(random: &mut Random, call: Call, size: Size, ends: Ends) -> Input
                 4 => input.day.holding[i] = random.pick(&[0, 499_999, 500_000, 500_001, u32::MAX]),
                 6 => input.day.opening = random.pick(&[0, 1, 4095, 4096, 4097, 65_535]),
                 7 => input.day.closing = random.pick(&[0, 1, 4095, 4096, 4097, 65_535]),
+                8 => input.day.store[i] = random.pick(&[0, 0, 1, 4095, 4096, 65_534, 65_535]),
                 _ if input.plans.is_empty() => {}
                 _ => {
                     let which = random.index(input.plans.len());
@@ -623,7 +744,7 @@ pub fn changed(random: &mut Random, call: Call, size: Size, ends: Ends) -> Input
         }
     }
     if !input.lent.is_empty() && random.once_in(4) {
-        let which = random.index(input.lent.len());
+        let which = random.index(drawn(input.lent.len(), with));
         input.lent[which] = random.index(input.lent[which] + 2);
     } else if call.path() == Some(Path::Full) {
         // the areas go by T, which may have changed; a full one is too large to lend every time

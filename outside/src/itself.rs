@@ -1,5 +1,5 @@
 //! The plain implementation against itself and the papers, before anything is compared with it.
-use crate::input::{self, Call, Ends, Input, Size, CALLS};
+use crate::input::{self, Call, Input, Size, With, CALLS};
 use crate::plain::{self, Day, Planned, Refusal, Totals};
 use crate::random::Random;
 
@@ -77,6 +77,46 @@ const ROWS: &[Row] = &[
     Row { demand: &[1, 0], capacity: &[3, 3], setup: &[0], unit: &[1, 9], holding: &[2], ends: (3, 4), claim: Ok((&[2, 0], 32, 1)) },
 ];
 
+/// Rows with the store limits of their days, each beside what it is without or with one unit more or less.
+#[rustfmt::skip]
+const LIMITED: &[(&[u16], Row)] = &[
+    // as much as the fourth marked day's plan leaves; a unit less takes that plan away, and no other makes up for a second start
+    (&[3, 9], Row { demand: &[2, 3], capacity: &[5, 5], setup: &[10], unit: &[1], holding: &[1], ends: (0, 0), claim: Ok((&[5, 0], 21, 1)) }),
+    (&[2, 9], Row { demand: &[2, 3], capacity: &[5, 5], setup: &[10], unit: &[1], holding: &[1], ends: (0, 0), claim: Ok((&[2, 3], 25, 2)) }),
+    // it pays to make early, as far as the store goes
+    (&[2, 9], Row { demand: &[2, 3], capacity: &[5, 5], setup: &[0], unit: &[1, 9], holding: &[1], ends: (0, 0), claim: Ok((&[4, 1], 17, 2)) }),
+    // nothing can be left: each need in its own period, or no plan
+    (&[0, 0], Row { demand: &[2, 3], capacity: &[5, 5], setup: &[10], unit: &[1], holding: &[1], ends: (0, 0), claim: Ok((&[2, 3], 25, 2)) }),
+    (&[0, 0], Row { demand: &[0, 4], capacity: &[3, 3], setup: &[10], unit: &[1], holding: &[1], ends: (0, 0), claim: Err((7, 2)) }),
+    (&[1, 0], Row { demand: &[0, 4], capacity: &[3, 3], setup: &[10], unit: &[1], holding: &[1], ends: (0, 0), claim: Ok((&[1, 3], 26, 2)) }),
+    // a low store shows only where the need comes, and there it leaves one plan
+    (&[9, 1, 9], Row { demand: &[0, 1, 4], capacity: &[9, 2, 2], setup: &[0], unit: &[1], holding: &[0], ends: (0, 0), claim: Err((7, 3)) }),
+    (&[9, 2, 9], Row { demand: &[0, 1, 4], capacity: &[9, 2, 2], setup: &[0], unit: &[1], holding: &[0], ends: (0, 0), claim: Ok((&[3, 0, 2], 5, 2)) }),
+    (&[0, 9, 9], Row { demand: &[0, 3, 0], capacity: &[2, 2, 9], setup: &[1], unit: &[1], holding: &[0], ends: (0, 0), claim: Err((7, 2)) }),
+    (&[1, 9, 9], Row { demand: &[0, 3, 0], capacity: &[2, 2, 9], setup: &[1], unit: &[1], holding: &[0], ends: (0, 0), claim: Ok((&[1, 2, 0], 5, 2)) }),
+    // no store limits the charge before the first period; what is left of it counts
+    (&[0], Row { demand: &[9], capacity: &[0], setup: &[0], unit: &[0], holding: &[1], ends: (9, 0), claim: Ok((&[0], 9, 0)) }),
+    (&[1, 9], Row { demand: &[1, 4], capacity: &[5, 5], setup: &[10], unit: &[1], holding: &[1], ends: (3, 0), claim: Err((7, 1)) }),
+    (&[2, 9], Row { demand: &[1, 4], capacity: &[5, 5], setup: &[10], unit: &[1], holding: &[1], ends: (3, 0), claim: Ok((&[0, 2], 19, 1)) }),
+    (&[9, 1, 9], Row { demand: &[1, 1, 4], capacity: &[5, 5, 5], setup: &[10], unit: &[1], holding: &[1], ends: (4, 0), claim: Err((7, 2)) }),
+    (&[9, 2, 9], Row { demand: &[1, 1, 4], capacity: &[5, 5, 5], setup: &[10], unit: &[1], holding: &[1], ends: (4, 0), claim: Ok((&[0, 0, 2], 26, 1)) }),
+    // what is handed on has to fit; a shortage goes before it where it comes before
+    (&[9, 2], Row { demand: &[0, 0], capacity: &[5, 5], setup: &[10], unit: &[1], holding: &[1], ends: (0, 3), claim: Err((7, 2)) }),
+    (&[2, 3], Row { demand: &[0, 0], capacity: &[5, 5], setup: &[10], unit: &[1], holding: &[1], ends: (0, 3), claim: Ok((&[0, 3], 16, 1)) }),
+    (&[0, 2], Row { demand: &[6, 0], capacity: &[5, 5], setup: &[10], unit: &[1], holding: &[1], ends: (0, 3), claim: Err((7, 1)) }),
+    // nothing to make, and too much charge in the first period, or in the second
+    (&[3, 9], Row { demand: &[2, 3], capacity: &[5, 5], setup: &[10], unit: &[1], holding: &[1], ends: (6, 1), claim: Err((7, 1)) }),
+    (&[4, 0], Row { demand: &[2, 3], capacity: &[5, 5], setup: &[10], unit: &[1], holding: &[1], ends: (6, 1), claim: Err((7, 2)) }),
+    (&[4, 1], Row { demand: &[2, 3], capacity: &[5, 5], setup: &[10], unit: &[1], holding: &[1], ends: (6, 1), claim: Ok((&[0, 0], 15, 0)) }),
+    // ties: of request 2.2's two plans the store takes one; of all that cost nothing the smallest that it leaves
+    (&[2, 9], Row { demand: &[2, 2], capacity: &[4, 4], setup: &[8], unit: &[1], holding: &[2], ends: (0, 0), claim: Ok((&[4, 0], 20, 1)) }),
+    (&[1, 9], Row { demand: &[2, 2], capacity: &[4, 4], setup: &[8], unit: &[1], holding: &[2], ends: (0, 0), claim: Ok((&[2, 2], 20, 2)) }),
+    (&[9, 9, 9], Row { demand: &[0, 0, 2], capacity: &[2, 2, 2], setup: &[0], unit: &[0], holding: &[0], ends: (0, 0), claim: Ok((&[2, 0, 0], 0, 1)) }),
+    (&[1, 9, 9], Row { demand: &[0, 0, 2], capacity: &[2, 2, 2], setup: &[0], unit: &[0], holding: &[0], ends: (0, 0), claim: Ok((&[1, 1, 0], 0, 2)) }),
+    (&[1, 1, 9], Row { demand: &[0, 0, 2], capacity: &[2, 2, 2], setup: &[0], unit: &[0], holding: &[0], ends: (0, 0), claim: Ok((&[1, 0, 1], 0, 2)) }),
+    (&[9, 1, 9], Row { demand: &[0, 0, 2], capacity: &[2, 2, 2], setup: &[0], unit: &[0], holding: &[0], ends: (0, 0), claim: Ok((&[1, 0, 1], 0, 2)) }),
+];
+
 fn all(values: &[u32], n: usize) -> Vec<u32> {
     if values.len() == n {
         values.to_vec()
@@ -86,7 +126,7 @@ fn all(values: &[u32], n: usize) -> Vec<u32> {
 }
 
 impl Row {
-    fn day(&self) -> Day {
+    fn day(&self, store: &[u16]) -> Day {
         let n = self.demand.len();
         Day {
             demand: self.demand.to_vec(),
@@ -94,35 +134,41 @@ impl Row {
             setup: all(self.setup, n),
             unit: all(self.unit, n),
             holding: all(self.holding, n),
+            store: store.to_vec(),
             opening: self.ends.0,
             closing: self.ends.1,
         }
     }
 }
 
+/// All rows with their days.
+fn rows() -> impl Iterator<Item = (Day, &'static Row)> {
+    let unlimited = ROWS.iter().map(|row| (row.day(&vec![plain::NO_LIMIT; row.demand.len()]), row));
+    unlimited.chain(LIMITED.iter().map(|(store, row)| (row.day(store), row)))
+}
+
 /// The rows as inputs of every call. The row's plan, or nothing, is weighed, and compared with making each need in its own period: on the
 /// marked tie that costs the same.
 pub fn inputs() -> Vec<Input> {
-    let of = |row: &Row| {
-        let (day, nothing) = (row.day(), vec![0; row.demand.len()]);
+    let of = |(day, row): (Day, &Row)| {
+        let nothing = vec![0; row.demand.len()];
         let plan = row.claim.map_or(&nothing[..], |(plan, _, _)| plan);
         CALLS.map(|call| Input::exact(call, &day, [plan, row.demand]))
     };
-    ROWS.iter().flat_map(of).collect()
+    rows().flat_map(of).collect()
 }
 
-fn check_row(row: &Row) {
-    let day = row.day();
+fn check_row(day: &Day, row: &Row) {
     let expected = row.claim.ok().map(|(plan, cost, setups)| Planned { plan: plan.to_vec(), totals: Totals { cost, setups } });
-    assert_eq!(planned(&day), expected, "{day:?}");
-    assert_eq!(refused(&day), row.claim.err().map(|(number, period)| Refusal { number, period }), "{day:?}");
+    assert_eq!(planned(day), expected, "{day:?}");
+    assert_eq!(refused(day), row.claim.err().map(|(number, period)| Refusal { number, period }), "{day:?}");
 }
 
-/// The plan by trying all, which recursion (5) gives too, and without starting cost the rule of request 2.3.
+/// The plan by trying all, which recursion (5) gives too, and without starting cost or low stores the rule of request 2.3.
 fn planned(day: &Day) -> Option<Planned> {
     let found = plain::search(day);
     assert_eq!(found, plain::recursion(day), "{day:?}");
-    if plain::started(day).is_none() {
+    if plain::started(day).is_none() && plain::low_store(day).is_none() {
         assert_eq!(found, plain::unit_by_unit(day), "{day:?}");
     }
     found
@@ -133,21 +179,43 @@ fn refused(day: &Day) -> Option<Refusal> {
     plain::bad_opening(day).or(plain::shortage(day))
 }
 
-/// The day without charge at its ends that has the same plans: what is still to be made counts as need.
+/// Through how many periods some amounts keep the rules that begin with these, by trying all.
+fn kept_through(day: &Day, amounts: &mut Vec<u16>) -> usize {
+    let i = amounts.len();
+    let mut most = i;
+    for x in 0..=day.capacity.get(i).copied().unwrap_or(0) {
+        amounts.push(x);
+        if i < day.periods() && plain::broken(day, amounts, i + 1).is_none() {
+            most = most.max(kept_through(day, amounts));
+        }
+        amounts.pop();
+    }
+    most
+}
+
+/// What every plan leaves after period i beyond that of the net day: of what the day begins with, until it is used up; what it hands on.
+fn held(day: &Day, i: usize) -> u64 {
+    if i == day.periods() {
+        day.closing as u64
+    } else {
+        (day.opening as u64).saturating_sub(day.demand_to(i))
+    }
+}
+
+/// The day without charge at its ends that has the same plans: what is still to be made counts as need, and the store has room for less.
 fn net(day: &Day) -> Day {
     let demand = (1..=day.periods()).map(|i| day.least_by(i) - if i == 1 { 0 } else { day.least_by(i - 1) });
-    Day { demand: demand.map(|v| v as u16).collect(), opening: 0, closing: 0, ..day.clone() }
+    let store = (1..=day.periods()).map(|i| day.store[i - 1] as u64 - held(day, i));
+    let (demand, store) = (demand.map(|v| v as u16).collect(), store.map(|v| v as u16).collect());
+    Day { demand, store, opening: 0, closing: 0, ..day.clone() }
 }
 
-/// The upkeep that every plan pays beyond the one of the net day: on what the day begins with until it is used up, before the first period
-/// as after each; and on what it hands on.
+/// The upkeep that every plan pays beyond the one of the net day, on the charge before each period as on that left.
 fn standing(day: &Day) -> u64 {
-    let n = day.periods();
-    let held = |i: usize| if i == n { day.closing as u64 } else { (day.opening as u64).saturating_sub(day.demand_to(i)) };
-    (1..=n).map(|i| day.holding[i - 1] as u64 * (held(i - 1) + held(i))).sum()
+    (1..=day.periods()).map(|i| day.holding[i - 1] as u64 * (held(day, i - 1) + held(day, i))).sum()
 }
 
-/// Document 01's file of the fourth marked day, alone and with charge at both ends; and what a walk says of broken files.
+/// Document 01's file of the fourth marked day, alone, with charge at both ends and with a store limit; what a walk says of broken files.
 fn check_files() {
     #[rustfmt::skip]
     let file = [
@@ -156,16 +224,28 @@ fn check_files() {
         2, 0, 2,
     ];
     let (demand, capacity) = (vec![2, 3], vec![5, 5]);
-    let day = Day { demand, capacity, setup: vec![10, 10], unit: vec![1, 1], holding: vec![1, 1], opening: 0, closing: 0 };
+    let (setup, unit, holding, store) = (vec![10, 10], vec![1, 1], vec![1, 1], vec![plain::NO_LIMIT; 2]);
+    let day = Day { demand, capacity, setup, unit, holding, store, opening: 0, closing: 0 };
     let with_ends = Day { opening: 1, closing: 258, ..day.clone() };
-    for (day, first) in [(day, &[][..]), (with_ends, &[3, 0, 1, 1, 2])] {
-        let file = [first, &file].concat();
+    let with_store = Day { store: vec![258, plain::NO_LIMIT], ..with_ends.clone() };
+    let with_stores = Day { store: vec![65_534, 0], ..day.clone() };
+    let stored = |body: &[u8], limit: &[u8]| [&[4], &body[1..], limit].concat();
+    let (first, second, end) = (&file[..17], &file[17..34], &file[34..]);
+    let charge = [3, 0, 1, 1, 2];
+    let files = [
+        (day, file.to_vec(), [[1, 16], [18, 16]]),
+        (with_ends, [&charge, &file[..]].concat(), [[6, 16], [23, 16]]),
+        (with_store, [&charge, &stored(first, &[1, 2])[..], second, end].concat(), [[6, 18], [25, 16]]),
+        (with_stores, [&stored(first, &[255, 254]), &stored(second, &[0, 0])[..], end].concat(), [[1, 18], [20, 18]]),
+    ];
+    for (day, file, places) in files {
         let records = plain::walk(&file).unwrap();
-        assert_eq!([records.place(1), records.place(2)], [[first.len() + 1, 16], [first.len() + 18, 16]]);
+        assert_eq!(records.places, places);
         assert_eq!(plain::day_in(&file, &records), day);
         assert_eq!(plain::file_of(&day), file);
         assert_eq!(plain::file_length(&day), file.len());
     }
+    let no_limit = stored(first, &[255, 255]);
     let broken: &[(&[u8], u64)] = &[
         (&[7], 10),
         (&[], 11),
@@ -181,6 +261,13 @@ fn check_files() {
         (&[3, 0, 0, 0, 1, 3, 0, 0, 0, 1, 2, 0, 0], 12),
         (&[3, 0, 0, 0, 1, 2, 0, 1], 12),
         (&[2, 0, 0, 3, 0, 0, 0, 1], 12),
+        // kind 4: cut short; no limit in it, cut short, whole, before a later fault; after the end; the first unknown kind
+        (&[4], 11),
+        (&no_limit[..18], 11),
+        (&no_limit, 12),
+        (&[&no_limit[..], &[7]].concat(), 12),
+        (&[2, 0, 0, 4], 12),
+        (&[5], 10),
     ];
     for &(bytes, number) in broken {
         assert_eq!(plain::walk(bytes), Err(Refusal { number, period: 0 }), "{bytes:?}");
@@ -189,17 +276,17 @@ fn check_files() {
 }
 
 /// All plans tried, against the other ways to a plan, on days with many ties of the kinds that the paths of these calls are for; and
-/// refusals 7 and 14 exactly where there is no plan.
-pub fn check(random: &mut Random, calls: &[Call], ends: Ends, days: usize) {
+/// refusals 7 and 14 exactly where there is no plan, 7 with its period.
+pub fn check(random: &mut Random, calls: &[Call], with: With, days: usize) {
     let paths: Vec<Call> = calls.iter().copied().filter(|call| call.path().is_some()).collect();
-    for row in ROWS {
-        check_row(row);
+    for (day, row) in rows() {
+        check_row(&day, row);
     }
     check_files();
     for _ in 0..days {
         let call = random.pick(&paths);
-        let mut day = input::day(random, call, Size::Tiny, ends);
-        if ends == Ends::Any && random.once_in(8) {
+        let mut day = input::day(random, call, Size::Tiny, with);
+        if with.ends && random.once_in(8) {
             day.opening = day.asked() as u16 + random.pick(&[1, 2]);
         }
         if plain::plans(&day) <= 100_000.0 {
@@ -211,6 +298,11 @@ pub fn check(random: &mut Random, calls: &[Call], ends: Ends, days: usize) {
 fn check_day(day: &Day) {
     let found = planned(day);
     assert_eq!(found.is_some(), refused(day).is_none(), "{day:?}");
+    if day.capacity.iter().map(|&c| c as f64 + 1.0).product::<f64>() <= 10_000.0 {
+        let kept = kept_through(day, &mut vec![]);
+        let first = (kept < day.periods()).then_some(Refusal { number: 7, period: kept + 1 });
+        assert_eq!(plain::shortage(day), first, "{day:?}");
+    }
     if let Some(planned) = found {
         assert_eq!(plain::verdict(day, &planned.plan), plain::Verdict::Holds(planned.totals));
         let Planned { plan, totals } = plain::recursion(&net(day)).unwrap();

@@ -5,3 +5,4 @@ pub mod holding;
 pub mod input;
 pub mod plain;
 pub mod random;
+pub mod store;

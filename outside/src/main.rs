@@ -8,8 +8,8 @@ mod itself;
 mod published;
 mod shrink;
 
-use input::{Call, Ends, Input, Size, CALLS, EARLIER};
-use outside::{ends, free, holding, input, plain, random};
+use input::{Call, Input, Size, With, CALLS, EARLIER};
+use outside::{ends, free, holding, input, plain, random, store};
 use random::Random;
 use std::iter::once;
 use std::process::exit;
@@ -18,19 +18,20 @@ use std::time::Instant;
 const SEED: u64 = 1979;
 
 /// The last number of a refusal.
-const LAST: usize = 15;
+const LAST: usize = 16;
 
 /// The inputs of one run, counted by their outcome.
 struct Run {
     random: Random,
-    /// of the days that are made up
-    ends: Ends,
+    /// what the days that are made up may have
+    with: With,
     inputs: usize,
     accepted: usize,
-    /// of these, by the free path
-    free: usize,
+    /// of these, plans of a path for some days only
+    short_paths: usize,
     refused: [usize; LAST + 1],
-    broken: usize,
+    /// by the rule: above capacity, short, over, above store
+    broken: [usize; 4],
 }
 
 impl Run {
@@ -43,10 +44,10 @@ impl Run {
         match expected.code % 256 {
             0 => {
                 self.accepted += 1;
-                self.free += usize::from(input.call == Call::Free);
+                self.short_paths += usize::from(input.call.is_short_path());
             }
             number if number <= LAST as u64 => self.refused[number as usize] += 1,
-            _ => self.broken += 1,
+            number => self.broken[number as usize - 101] += 1,
         }
     }
 
@@ -58,7 +59,7 @@ impl Run {
 
     /// Each refusal alone and with each that comes after it: the first in order is given.
     fn pairs(&mut self, call: Call, times: usize) {
-        let order = call.refusals(self.ends);
+        let order = call.refusals(self.with);
         for (place, &first) in order.iter().enumerate() {
             for &second in &order[place..] {
                 for _ in 0..times {
@@ -70,13 +71,13 @@ impl Run {
     }
 
     /// An input that is refused `first` and for which the condition of `second` holds too, as far as the file can be walked, and unless
-    /// there is too much charge to make any (14): then no capacity is too low (7, 9).
+    /// there is too much charge to make any (14): then no capacity is too low (9).
     fn refused_input(&mut self, call: Call, first: u64, second: u64) -> Input {
         for _ in 0..10_000 {
             let size = self.random.pick(&[Size::Tiny, Size::Tiny, Size::Middle]);
-            let input = input::damaged(&mut self.random, call, size, self.ends, &[first, second]);
+            let input = input::damaged(&mut self.random, call, size, self.with, &[first, second]);
             let refusals = input.refusals();
-            let alone = matches!((first, second), (10..=12, _) | (14, 7 | 9));
+            let alone = matches!((first, second), (10..=12, _) | (14, 9));
             if refusals.first().is_some_and(|r| r.number == first) && (alone || refusals.iter().any(|r| r.number == second)) {
                 return input;
             }
@@ -86,7 +87,7 @@ impl Run {
 
     /// Upkeep around its limit in one period of an input that is otherwise valid, and of inputs for each other refusal of the call.
     fn holding(&mut self, call: Call, times: usize) {
-        let order = call.refusals(self.ends);
+        let order = call.refusals(self.with);
         for value in holding::VALUES {
             for other in once(3).chain(order.iter().copied().filter(|&number| number != 3)) {
                 for _ in 0..times {
@@ -101,12 +102,12 @@ impl Run {
     /// holds there exactly if the value is above the limit and the call comes to test values.
     fn holding_input(&mut self, call: Call, value: u32, other: u64) -> Input {
         for _ in 0..10_000 {
-            let mut day = input::day(&mut self.random, call, Size::Tiny, self.ends);
+            let mut day = input::day(&mut self.random, call, Size::Tiny, self.with);
             let i = self.random.index(day.periods());
             day.holding[i] = value;
             let input = match other {
-                3 => input::complete(&mut self.random, call, day),
-                _ => input::damage(&mut self.random, call, day, self.ends, &[other]),
+                3 => input::complete(&mut self.random, call, day, self.with),
+                _ => input::damage(&mut self.random, call, day, self.with, &[other]),
             };
             let refusals = input.refusals();
             let tested = call != Call::Lookup && !matches!(other, 10..=12);
@@ -121,22 +122,22 @@ impl Run {
 
     fn valid(&mut self, call: Call, size: Size, times: usize) {
         for _ in 0..times {
-            let input = input::valid(&mut self.random, call, size, self.ends);
+            let input = input::valid(&mut self.random, call, size, self.with);
             self.try_input(&input);
         }
     }
 
     fn changed(&mut self, call: Call, size: Size, times: usize) {
         for _ in 0..times {
-            let input = input::changed(&mut self.random, call, size, self.ends);
+            let input = input::changed(&mut self.random, call, size, self.with);
             self.try_input(&input);
         }
     }
 
     fn damaged(&mut self, call: Call, times: usize) {
         for _ in 0..times {
-            let numbers: Vec<u64> = (0..3).map(|_| self.random.pick(&call.refusals(self.ends))).collect();
-            let input = input::damaged(&mut self.random, call, Size::Tiny, self.ends, &numbers);
+            let numbers: Vec<u64> = (0..3).map(|_| self.random.pick(&call.refusals(self.with))).collect();
+            let input = input::damaged(&mut self.random, call, Size::Tiny, self.with, &numbers);
             self.try_input(&input);
         }
     }
@@ -144,15 +145,23 @@ impl Run {
     /// Days without starting cost on which many periods compare alike.
     fn level(&mut self, size: Size, times: usize) {
         for _ in 0..times {
-            let input = free::level(&mut self.random, size, self.ends);
+            let input = free::level(&mut self.random, size, self.with);
             self.try_input(&input);
         }
     }
 
-    /// The calls on made-up days with such ends, after the plain implementation against itself; `part` of the full count of each.
-    fn made_up(&mut self, calls: &[Call], ends: Ends, part: usize) {
-        self.ends = ends;
-        itself::check(&mut self.random, calls, ends, 4000 / part);
+    /// Days that differ in store limits alone.
+    fn stores(&mut self, size: Size, times: usize) {
+        for _ in 0..times {
+            let inputs = store::beside(&mut self.random, size);
+            self.try_inputs(&inputs);
+        }
+    }
+
+    /// The calls on such made-up days, after the plain implementation against itself; `part` of the full count of each.
+    fn made_up(&mut self, calls: &[Call], with: With, part: usize) {
+        self.with = with;
+        itself::check(&mut self.random, calls, with, 4000 / part);
         for &call in calls {
             self.pairs(call, 24 / part + 1);
             self.valid(call, Size::Tiny, 3000 / part);
@@ -195,16 +204,20 @@ fn report(input: &Input) -> ! {
 }
 
 /// A file of more records than the end's two bytes can count, alone and after another kind: the count is not taken modulo 65,536.
-fn long_files(call: Call) -> [Input; 2] {
-    [vec![], plain::charge_record(1, 2)].map(|mut file| {
-        for _ in 0..65_537 {
-            file.push(plain::PERIOD);
-            file.extend([0; plain::PERIOD_BODY]);
+fn long_files(call: Call) -> Vec<Input> {
+    let mut inputs = vec![];
+    for (kind, length) in [(plain::PERIOD, plain::PERIOD_BODY), (plain::STORED, plain::STORED_BODY)] {
+        for mut file in [vec![], plain::charge_record(1, 2)] {
+            for _ in 0..65_537 {
+                file.push(kind);
+                file.extend(vec![0; length]);
+            }
+            file.extend([plain::END, 0, 1]);
+            let lent = if call == Call::Read { vec![1; 6] } else { vec![] };
+            inputs.push(Input { call, day: plain::Day::default(), plans: vec![], file, period: 1, lent });
         }
-        file.extend([plain::END, 0, 1]);
-        let lent = if call == Call::Read { vec![1; 5] } else { vec![] };
-        Input { call, day: plain::Day::default(), plans: vec![], file, period: 1, lent }
-    })
+    }
+    inputs
 }
 
 fn main() {
@@ -213,24 +226,32 @@ fn main() {
         Some(word) => word.parse().expect("the seed is a number"),
     };
     let start = Instant::now();
-    let mut run = Run { random: Random::new(seed), ends: Ends::Zero, inputs: 0, accepted: 0, free: 0, refused: [0; LAST + 1], broken: 0 };
-    run.made_up(EARLIER, Ends::Zero, 1);
+    let (random, refused, broken) = (Random::new(seed), [0; LAST + 1], [0; 4]);
+    let mut run = Run { random, with: With::NOTHING, inputs: 0, accepted: 0, short_paths: 0, refused, broken };
+    run.made_up(EARLIER, With::NOTHING, 1);
     for call in [Call::Read, Call::Lookup] {
         run.try_inputs(&long_files(call));
     }
     let published = published::inputs();
     run.try_inputs(&published);
-    run.made_up(EARLIER, Ends::Any, 2);
+    run.made_up(EARLIER, With::ENDS, 2);
     for &call in EARLIER {
         run.holding(call, 3);
     }
-    for (ends, part) in [(Ends::Zero, 1), (Ends::Any, 2)] {
-        run.made_up(&[Call::Free], ends, part);
+    for (with, part) in [(With::NOTHING, 1), (With::ENDS, 2)] {
+        run.made_up(&[Call::Free], with, part);
         run.level(Size::Tiny, 1000);
         run.level(Size::Middle, 200);
         run.level(Size::Long, 40);
     }
     run.holding(Call::Free, 3);
+    for (with, part) in [(With::STORES, 4), (With::BOTH, 2)] {
+        run.made_up(&CALLS, with, part);
+        run.level(Size::Tiny, 500);
+    }
+    run.stores(Size::Tiny, 1000);
+    run.stores(Size::Middle, 100);
+    run.stores(Size::Long, 10);
     run.try_inputs(&free::inputs());
     run.try_inputs(&holding::dearest());
     run.try_inputs(&itself::inputs());
@@ -238,10 +259,16 @@ fn main() {
     for file in ends::files() {
         run.try_inputs(&ends::on_file(&file));
     }
+    run.try_inputs(&store::inputs());
+    for file in store::files() {
+        run.try_inputs(&ends::on_file(&file));
+    }
     let refused = (1..=LAST).map(|number| format!("{number}: {}", run.refused[number])).collect::<Vec<_>>().join(", ");
     println!("outside: seed {seed}, {} inputs of {} calls as the plain implementation has them", run.inputs, CALLS.len());
-    println!("accepted {}, broken plans {}, refused {refused}", run.accepted, run.broken);
-    println!("free path: {} plans, each the full path's on the same day", run.free);
+    let [above, short, over, full] = run.broken;
+    println!("accepted {}, refused {refused}", run.accepted);
+    println!("broken plans: {above} above capacity, {short} short, {over} over at the end, {full} above store");
+    println!("uncapped, equal and free path: {} plans, each the full path's on the same day", run.short_paths);
     println!("published instances: {} inputs, each with the published cost, doubled", published.len());
     eprintln!("{} seconds", start.elapsed().as_secs());
 }

@@ -1,4 +1,4 @@
-//! Documents 01 and 02 (requests 2.1 to 2.3) and the report in plain code, written from these alone: what every call should answer.
+//! Documents 01 and 02 (requests 2.1 to 2.5) and the report in plain code, written from these alone: what every call should answer.
 //! Names are lot sizing's; document 01 says need for demand, start for setup, upkeep for holding.
 
 /// A day: one entry a period in each table, and the charge at both its ends, A and Z.
@@ -9,6 +9,8 @@ pub struct Day {
     pub setup: Vec<u32>,
     pub unit: Vec<u32>,
     pub holding: Vec<u32>,
+    /// s, the most charge that may be left after a period
+    pub store: Vec<u16>,
     pub opening: u16,
     pub closing: u16,
 }
@@ -35,6 +37,7 @@ pub struct Planned {
 pub enum Rule {
     AboveCapacity,
     Short,
+    AboveStore,
     Over,
 }
 
@@ -59,13 +62,19 @@ pub const MAX_UNIT: u64 = 1_000_000;
 pub const MAX_HOLDING: u64 = 500_000;
 pub const MAX_TOTAL: u64 = 4096;
 
-/// The file's kinds: a period, the end, and the charge at both ends of the day; with the lengths of their bodies.
+/// The store limit of a period whose record in the file has none.
+pub const NO_LIMIT: u16 = 65_535;
+
+/// The file's kinds: a period, the end, the charge at both ends of the day, and a period with a store limit; with the lengths of their
+/// bodies.
 pub const PERIOD: u8 = 1;
 pub const END: u8 = 2;
 pub const CHARGE: u8 = 3;
+pub const STORED: u8 = 4;
 pub const PERIOD_BODY: usize = 16;
 pub const END_BODY: usize = 2;
 pub const CHARGE_BODY: usize = 4;
+pub const STORED_BODY: usize = 18;
 
 const INFINITE: u64 = u64::MAX;
 
@@ -143,23 +152,28 @@ pub fn totals(day: &Day, plan: &[u16]) -> Totals {
     Totals { cost: cost(day, plan), setups }
 }
 
-/// The weigher's verdict: the first period decides, and in it "above capacity" goes first.
-pub fn verdict(day: &Day, plan: &[u16]) -> Verdict {
-    let n = day.periods();
-    for i in 1..=n {
-        let left = day.left(i, sum_to(plan, i));
-        let least = if i == n { day.closing as i64 } else { 0 };
-        if plan[i - 1] > day.capacity[i - 1] {
-            return Verdict::Broken(Rule::AboveCapacity, i);
-        }
-        if left < least {
-            return Verdict::Broken(Rule::Short, i);
-        }
-        if i == n && left > least {
-            return Verdict::Broken(Rule::Over, i);
-        }
+/// The rule that amounts for the first i periods break in period i, counted from 1; of several the first in order.
+pub fn broken(day: &Day, amounts: &[u16], i: usize) -> Option<Rule> {
+    let left = day.left(i, sum_to(amounts, i));
+    let last = i == day.periods();
+    let least = if last { day.closing as i64 } else { 0 };
+    if amounts[i - 1] > day.capacity[i - 1] {
+        Some(Rule::AboveCapacity)
+    } else if left < least {
+        Some(Rule::Short)
+    } else if left > day.store[i - 1] as i64 {
+        Some(Rule::AboveStore)
+    } else if last && left > least {
+        Some(Rule::Over)
+    } else {
+        None
     }
-    Verdict::Holds(totals(day, plan))
+}
+
+/// The weigher's verdict: the first period that breaks a rule decides.
+pub fn verdict(day: &Day, plan: &[u16]) -> Verdict {
+    let first = (1..=day.periods()).find_map(|i| broken(day, plan, i).map(|rule| Verdict::Broken(rule, i)));
+    first.unwrap_or_else(|| Verdict::Holds(totals(day, plan)))
 }
 
 /// Whether the first of two equally dear plans has the smaller amount in the last period where they differ.
@@ -201,8 +215,8 @@ pub fn search(day: &Day) -> Option<Planned> {
     best
 }
 
-/// The plan of a day by recursion (5), by its letter: D_i(X) for every X, and the smallest x that gives it. Upkeep on the charge left goes
-/// by X and stands outside the minimum, as in the report; that on the charge before goes by X - x and stands inside.
+/// The plan of a day by recursion (5), by its letter: D_i(X) for every X that the store can take, and the smallest x that gives it. Upkeep
+/// on the charge left goes by X and stands outside the minimum, as in the report; that on the charge before goes by X - x and stands inside.
 pub fn recursion(day: &Day) -> Option<Planned> {
     let n = day.periods();
     let whole = day.whole()? as usize;
@@ -215,6 +229,9 @@ pub fn recursion(day: &Day) -> Option<Planned> {
         let mut costs = vec![INFINITE; whole + 1];
         let mut amounts = vec![0u16; whole + 1];
         for made in day.least_by(i) as usize..=whole {
+            if day.left(i, made as u64) > day.store[i - 1] as i64 {
+                continue;
+            }
             for x in 0..=(day.capacity[i - 1] as usize).min(made) {
                 if begun[made - x] == INFINITE {
                     continue;
@@ -301,8 +318,8 @@ pub fn bad_count(n: usize) -> Option<Refusal> {
 }
 
 pub fn bad_lengths(day: &Day) -> Option<Refusal> {
-    let n = day.periods();
-    refused(2, day.capacity.len() != n || day.setup.len() != n || day.unit.len() != n || day.holding.len() != n)
+    let others = [day.capacity.len(), day.setup.len(), day.unit.len(), day.holding.len(), day.store.len()];
+    refused(2, others.iter().any(|&length| length != day.periods()))
 }
 
 pub fn bad_value(day: &Day) -> Option<Refusal> {
@@ -323,12 +340,31 @@ pub fn bad_opening(day: &Day) -> Option<Refusal> {
     refused(14, day.opening as u64 > day.asked())
 }
 
+/// No amounts up to this period keep the rules through it: there is no total that such amounts come to. Totals above T need not be tried:
+/// amounts that come to more keep the rules no less where they are cut off at T, which covers every period.
 pub fn shortage(day: &Day) -> Option<Refusal> {
     let n = day.periods();
-    refused_at(7, n, |i| {
-        let supply = day.opening as u64 + day.capacity_to(i);
-        day.demand_to(i) > supply || i == n && day.asked() > supply
-    })
+    let most = day.whole().unwrap_or(0) as usize;
+    let entry = |table: &[u16], i: usize| table.get(i - 1).copied().unwrap_or(0);
+    let mut reached = vec![false; most + 1];
+    reached[0] = true;
+    for i in 1..=n {
+        // how many totals below each were reached before this period
+        let mut below = vec![0; most + 2];
+        for made in 0..=most {
+            below[made + 1] = below[made] + usize::from(reached[made]);
+        }
+        let (capacity, store, unmade) = (entry(&day.capacity, i) as usize, entry(&day.store, i) as i64, day.left(i, 0));
+        let kept = |made: usize| {
+            let left = unmade + made as i64;
+            0 <= left && left <= store && (i < n || left == day.closing as i64)
+        };
+        reached = (0..=most).map(|made| kept(made) && below[made + 1] > below[made.saturating_sub(capacity)]).collect();
+        if !reached.contains(&true) {
+            return Some(Refusal { number: 7, period: i });
+        }
+    }
+    None
 }
 
 pub fn unequal(day: &Day) -> Option<Refusal> {
@@ -351,6 +387,10 @@ pub fn binding(day: &Day) -> Option<Refusal> {
 
 pub fn started(day: &Day) -> Option<Refusal> {
     refused_at(15, day.periods(), |i| day.setup.get(i - 1).is_some_and(|&v| v > 0))
+}
+
+pub fn low_store(day: &Day) -> Option<Refusal> {
+    refused_at(16, day.periods(), |i| day.store.get(i - 1).is_some_and(|&s| (s as u64) < day.asked()))
 }
 
 pub fn too_few(cells: usize, needed: usize) -> Option<Refusal> {
@@ -382,9 +422,10 @@ pub fn path_refusals(path: Path, day: &Day, costs: usize, choices: usize, slots:
         Path::Equal => unequal(day),
         Path::Free => started(day),
     };
+    let low = if path == Path::Full { None } else { low_store(day) };
     let areas = refused(5, costs < needed.0 || choices < needed.1);
     let mut refusals = day_refusals(day);
-    refusals.extend([areas, too_few(slots, day.periods()), shortage(day), own].into_iter().flatten());
+    refusals.extend([areas, too_few(slots, day.periods()), shortage(day), own, low].into_iter().flatten());
     refusals
 }
 
@@ -403,18 +444,13 @@ pub fn weigh_refusals(day: &Day, plans: &[&[u16]]) -> Vec<Refusal> {
 pub struct Records {
     pub opening: u16,
     pub closing: u16,
-    /// where the body of each period record begins in the file
-    pub bodies: Vec<usize>,
+    /// where the body of each period record begins in the file, and how long it is
+    pub places: Vec<[usize; 2]>,
 }
 
 impl Records {
     pub fn periods(&self) -> usize {
-        self.bodies.len()
-    }
-
-    /// Where the body of period i, counted from 1, begins, and how long it is.
-    pub fn place(&self, i: usize) -> [usize; 2] {
-        [self.bodies[i - 1], PERIOD_BODY]
+        self.places.len()
     }
 }
 
@@ -435,6 +471,7 @@ pub fn walk(file: &[u8]) -> Result<Records, Refusal> {
         let Some(&kind) = file.get(at) else { return fault(11) };
         let length = match kind {
             PERIOD => PERIOD_BODY,
+            STORED => STORED_BODY,
             END => END_BODY,
             // only as the first record; elsewhere its kind byte is the fault
             CHARGE if at == 0 => CHARGE_BODY,
@@ -444,7 +481,8 @@ pub fn walk(file: &[u8]) -> Result<Records, Refusal> {
         let Some(body) = file.get(at + 1..at + 1 + length) else { return fault(11) };
         let next = at + 1 + length;
         match kind {
-            PERIOD => records.bodies.push(at + 1),
+            STORED if two(body, PERIOD_BODY) == NO_LIMIT => return fault(12),
+            PERIOD | STORED => records.places.push([at + 1, length]),
             CHARGE => {
                 (records.opening, records.closing) = (two(body, 0), two(body, 2));
                 if records.opening == 0 && records.closing == 0 {
@@ -460,7 +498,7 @@ pub fn walk(file: &[u8]) -> Result<Records, Refusal> {
 
 /// The body of period i, counted from 1, of a file that walks cleanly.
 pub fn body<'a>(file: &'a [u8], records: &Records, i: usize) -> &'a [u8] {
-    let [start, length] = records.place(i);
+    let [start, length] = records.places[i - 1];
     &file[start..start + length]
 }
 
@@ -474,6 +512,7 @@ pub fn day_in(file: &[u8], records: &Records) -> Day {
         day.setup.push(four(body, 4));
         day.unit.push(four(body, 8));
         day.holding.push(four(body, 12));
+        day.store.push(if body.len() == STORED_BODY { two(body, PERIOD_BODY) } else { NO_LIMIT });
     }
     day
 }
@@ -486,6 +525,11 @@ pub fn charge_record(opening: u16, closing: u16) -> Vec<u8> {
     record
 }
 
+/// How many bytes the record of a period with this store limit has.
+pub fn period_record(store: u16) -> usize {
+    1 + if store < NO_LIMIT { STORED_BODY } else { PERIOD_BODY }
+}
+
 /// The file of a day whose tables are as long as the first.
 pub fn file_of(day: &Day) -> Vec<u8> {
     let mut file = Vec::new();
@@ -493,12 +537,16 @@ pub fn file_of(day: &Day) -> Vec<u8> {
         file.extend(charge_record(day.opening, day.closing));
     }
     for i in 0..day.periods() {
-        file.push(PERIOD);
+        let limited = day.store[i] < NO_LIMIT;
+        file.push(if limited { STORED } else { PERIOD });
         file.extend(day.demand[i].to_be_bytes());
         file.extend(day.capacity[i].to_be_bytes());
         file.extend(day.setup[i].to_be_bytes());
         file.extend(day.unit[i].to_be_bytes());
         file.extend(day.holding[i].to_be_bytes());
+        if limited {
+            file.extend(day.store[i].to_be_bytes());
+        }
     }
     file.push(END);
     file.extend((day.periods() as u16).to_be_bytes());
@@ -507,7 +555,8 @@ pub fn file_of(day: &Day) -> Vec<u8> {
 
 pub fn file_length(day: &Day) -> usize {
     let first = if day.opening > 0 || day.closing > 0 { 1 + CHARGE_BODY } else { 0 };
-    first + (1 + PERIOD_BODY) * day.periods() + 1 + END_BODY
+    let periods: usize = (0..day.periods()).map(|i| period_record(day.store.get(i).copied().unwrap_or(0))).sum();
+    first + periods + 1 + END_BODY
 }
 
 /// What the reader refuses, in order; `shortest` is the length of the shortest of the lent tables.

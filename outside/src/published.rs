@@ -47,6 +47,7 @@ pub fn inputs() -> Vec<Input> {
                 setup: setup.map(|b| 2 * b).into(),
                 unit: vec![0; 12],
                 holding: vec![holding; 12],
+                store: vec![plain::NO_LIMIT; 12],
                 opening: 0,
                 closing: 0,
             };

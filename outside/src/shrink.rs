@@ -22,8 +22,21 @@ fn without<T: Clone>(table: &[T], i: usize) -> Vec<T> {
     rest
 }
 
+/// No store limit, which is simplest of all, or a smaller one.
+fn lower(limit: u64) -> Vec<u64> {
+    if limit == plain::NO_LIMIT as u64 {
+        return vec![];
+    }
+    let mut tries = smaller(limit);
+    tries.insert(0, plain::NO_LIMIT as u64);
+    tries
+}
+
+/// A part of an input that is a list of numbers.
+type Numbers<T> = fn(&mut Input) -> &mut Vec<T>;
+
 /// Each input with one entry of a table made smaller.
-fn values<T: Copy + Into<u64>>(input: &Input, table: fn(&mut Input) -> &mut Vec<T>, of: fn(u64) -> T, tries: &mut Vec<Input>) {
+fn values<T: Copy + Into<u64>>(input: &Input, table: Numbers<T>, of: fn(u64) -> T, smaller: fn(u64) -> Vec<u64>, tries: &mut Vec<Input>) {
     let mut copy = input.clone();
     for i in 0..table(&mut copy).len() {
         for v in smaller(table(&mut copy)[i].into()) {
@@ -38,30 +51,31 @@ fn values<T: Copy + Into<u64>>(input: &Input, table: fn(&mut Input) -> &mut Vec<
 fn steps(input: &Input) -> Vec<Input> {
     let mut tries = vec![];
     let day = &input.day;
-    let longest = [day.demand.len(), day.capacity.len(), day.setup.len(), day.unit.len(), day.holding.len()].into_iter().max().unwrap();
-    for i in 0..longest {
+    let lengths = [day.demand.len(), day.capacity.len(), day.setup.len(), day.unit.len(), day.holding.len(), day.store.len()];
+    for i in 0..lengths.into_iter().max().unwrap() {
         let mut next = input.clone();
         next.day.demand = without(&day.demand, i);
         next.day.capacity = without(&day.capacity, i);
         next.day.setup = without(&day.setup, i);
         next.day.unit = without(&day.unit, i);
         next.day.holding = without(&day.holding, i);
+        next.day.store = without(&day.store, i);
         next.plans = input.plans.iter().map(|plan| without(plan, i)).collect();
         tries.push(next);
     }
     // a period of a file that is whole, and of its end's count
     if let Ok(records) = plain::walk(&input.file) {
         let count = (records.periods() as u16).wrapping_sub(1).to_be_bytes();
-        for &body in &records.bodies {
+        for &[body, length] in &records.places {
             let mut file = input.file.clone();
-            file.drain(body - 1..body + plain::PERIOD_BODY);
+            file.drain(body - 1..body + length);
             let end = file.len() - plain::END_BODY;
             file[end..].copy_from_slice(&count);
             tries.push(Input { file, ..input.clone() });
         }
     }
     // records of any file: the first may have 5 bytes
-    for (first, length) in [(0, 5), (0, 17), (5, 17)] {
+    for (first, length) in [(0, 5), (0, 17), (5, 17), (0, 19), (5, 19)] {
         for at in (first..input.file.len()).step_by(length) {
             let mut next = input.clone();
             next.file.drain(at..(at + length).min(input.file.len()));
@@ -80,17 +94,18 @@ fn steps(input: &Input) -> Vec<Input> {
     for closing in smaller(day.closing as u64) {
         tries.push(Input { day: Day { closing: closing as u16, ..day.clone() }, ..input.clone() });
     }
-    values(input, |x| &mut x.day.demand, |v| v as u16, &mut tries);
-    values(input, |x| &mut x.day.capacity, |v| v as u16, &mut tries);
-    values(input, |x| &mut x.day.setup, |v| v as u32, &mut tries);
-    values(input, |x| &mut x.day.unit, |v| v as u32, &mut tries);
-    values(input, |x| &mut x.day.holding, |v| v as u32, &mut tries);
-    values(input, |x| &mut x.file, |v| v as u8, &mut tries);
+    values(input, |x| &mut x.day.store, |v| v as u16, lower, &mut tries);
+    values(input, |x| &mut x.day.demand, |v| v as u16, smaller, &mut tries);
+    values(input, |x| &mut x.day.capacity, |v| v as u16, smaller, &mut tries);
+    values(input, |x| &mut x.day.setup, |v| v as u32, smaller, &mut tries);
+    values(input, |x| &mut x.day.unit, |v| v as u32, smaller, &mut tries);
+    values(input, |x| &mut x.day.holding, |v| v as u32, smaller, &mut tries);
+    values(input, |x| &mut x.file, |v| v as u8, smaller, &mut tries);
     if !input.plans.is_empty() {
-        values(input, |x| &mut x.plans[0], |v| v as u16, &mut tries);
+        values(input, |x| &mut x.plans[0], |v| v as u16, smaller, &mut tries);
     }
     if input.plans.len() > 1 {
-        values(input, |x| &mut x.plans[1], |v| v as u16, &mut tries);
+        values(input, |x| &mut x.plans[1], |v| v as u16, smaller, &mut tries);
     }
     for period in smaller(input.period as u64) {
         tries.push(Input { period: period as usize, ..input.clone() });
@@ -134,12 +149,13 @@ pub fn show(input: &Input) -> String {
     let mut lines = vec![format!("call {:?}", input.call)];
     if !matches!(input.call, Call::Read | Call::Lookup) {
         lines.push(format!(
-            "needs {}; capacities {}; b {}; p {}; h {}; A {}; Z {}",
+            "needs {}; capacities {}; b {}; p {}; h {}; s {}; A {}; Z {}",
             words16(&day.demand),
             words16(&day.capacity),
             words32(&day.setup),
             words32(&day.unit),
             words32(&day.holding),
+            words16(&day.store),
             day.opening,
             day.closing
         ));

@@ -1,31 +1,32 @@
 -- What a caller of the tests learns. Main statements, in the documents' order of the tests:
 --     tables-passed, day-passed             1, 2, 3: what `Limits` says of the tables; 4, 14
---     shortage-passed, shortage-refused     7: what must have been made is at most C throughout; the first period in which it is not
+--     shortage-passed, shortage-found       7: what must have been made is at most what can have been; the first period in which it is not
 --     equal-passed                          8
 --     binding-passed                        9
 --     free-passed                           15
+--     store-passed                          16
 --     admitted                              all tests of a path: what its work relies on
 -- Assumes nothing.
 use mathlib.Core.Path.{_≡_, refl, sym, ap, _∙_}
-use mathlib.Core.Bool.{Bool, false, not, _||_, or-false}
+use mathlib.Core.Bool.{Bool, false, not, _||_, true≢false}
 use mathlib.Core.List.{List, [], _∷_}
+use mathlib.Core.Logic.{_↔_}
 use mathlib.Core.Option.{Option, none, some, Option·none-ne-some, Option·some-ne-none, Option·some-injective}
 use Prim.Native.Nat.{ℕ, zero, suc, _+_, _-_, _≤_, _<_}
-use native.Mathlib.Decide.{decLt}
 use native.Mathlib.Omega.{arith}
 use lib.Dec.{ltb, eqb}
 use lib.ListN.{length}
-use borrow.Author.Tests.{ltb-true, ltb-false, lt-ltb, le-ltb, eqb-true, eqb-false, eq-eqb, ne-eqb, not-false}
+use borrow.Author.Tests.{ltb-false, le-ltb, eqb-true, eqb-false, eq-eqb, ne-eqb, not-false}
 use Rattle.day.specs.declared.Refusal.{Refusal}
 use Rattle.day.specs.declared.Refusal.the-variants.{PeriodCount, TableLength, AboveLimit, TotalDemand, ShortArea, FewSlots, SurplusInventory}
-use Rattle.day.specs.declared.Refusal.the-variants.{Shortage, UnequalCapacities, BindingCapacity, PaidSetup}
+use Rattle.day.specs.declared.Refusal.the-variants.{Shortage, UnequalCapacities, BindingCapacity, PaidSetup, LowStore}
 use Rattle.day.specs.Sums.{at}
 use Rattle.day.specs.Find.{find, none-found, nothing-found, some-found}
-use Rattle.day.specs.Day.{Day, periods, maxPeriods, maxDemand, maxCapacity, maxSetup, maxRate, maxHalfRate, maxTotal}
-use Rattle.day.specs.Day.{demandTo, capacityTo, required, total, netTo, net-before, net-end}
+use Rattle.day.specs.Day.{Day, periods, maxPeriods, maxDemand, maxCapacity, maxSetup, maxRate, maxHalfRate, maxTotal, maxStore}
+use Rattle.day.specs.Day.{demandTo, required, total, netTo, net-before}
 use Rattle.day.specs.Refusals.{numberOf, periodOf, refuseAt, anywhere, first, badCount, badLengths, aboveLimit, badValue, tableTests}
 use Rattle.day.specs.Refusals.{badTotal, badOpening, totalTests, dayTests}
-use Rattle.day.specs.Refusals.{badAreas, badSlots, short, shortage, differs, unequal, binds, binding, paid, paidSetup}
+use Rattle.day.specs.Refusals.{badAreas, badSlots, mostTo, short, shortage, FirstAt, differs, unequal, binds, binding, paid, paidSetup, tight, lowStore}
 use Rattle.day.specs.Tests.{first-split, first-passed, first-one, not-refused, nowhere, neither}
 use Rattle.day.specs.Outcome.{Path, Sizes, Roomy, memoryTests, pathTests, refusal}
 
@@ -35,6 +36,7 @@ pub record SameLengths (d : Day) : Type 0 where
   pub setup : length (d .setup) ≡ periods d
   pub unit : length (d .unit) ≡ periods d
   pub holding : length (d .holding) ≡ periods d
+  pub store : length (d .store) ≡ periods d
 
 -- at most 96 periods in tables of one length
 pub record Readable (d : Day) : Type 0 where
@@ -48,6 +50,7 @@ pub record Within (d : Day) (k : ℕ) : Type 0 where
   pub setup : at (d .setup) k ≤ maxSetup
   pub unit : at (d .unit) k ≤ maxRate
   pub holding : at (d .holding) k ≤ maxHalfRate
+  pub store : at (d .store) k ≤ maxStore
 
 -- what tests 1, 2 and 3 leave
 pub record Limits (d : Day) : Type 0 where
@@ -56,14 +59,14 @@ pub record Limits (d : Day) : Type 0 where
   pub lengths : SameLengths d
   pub within : (k : ℕ) → k < periods d → Within d k
 
--- what test 7 refuses, by number and period: the first period k + 1 by whose end more must have been made than C
-pub record FirstShort (d : Day) (r : Refusal) : Type 0 where
-  pub k : ℕ
-  pub number : numberOf r ≡ 7
-  pub period : periodOf r ≡ suc k
-  pub inside : k < periods d
-  pub above : capacityTo d (suc k) < netTo d (suc k)
-  pub earlier : (j : ℕ) → j < k → netTo d (suc j) ≤ capacityTo d (suc j)
+-- what test 7 leaves of period k + 1: the store takes A, and no more must have been made than can have been
+pub record Passes (d : Day) (k : ℕ) : Type 0 where
+  pub room : d .opening ≤ demandTo d (suc k) + at (d .store) k
+  pub reach : netTo d (suc k) ≤ mostTo d (suc k)
+
+-- what test 7 refuses: the first period that does not pass
+abbrev pub FirstFailing : Day → Refusal → Type 0
+FirstFailing d r = FirstAt d (λ k. Passes d k → ⊥) (Passes d) r
 
 -- 1
 pub count-passed : (n : ℕ) → badCount n ≡ none → (1 ≤ n) × (n ≤ maxPeriods)
@@ -85,7 +88,9 @@ lengths-passed d e =
     let b = asLong d (d .setup) in
     let p = asLong d (d .unit) in
     let h = asLong d (d .holding) in
-    let cbp-h = neither (not c || not b || not p) (not h) (not-refused _ TableLength e) in
+    let s = asLong d (d .store) in
+    let cbph-s = neither (not c || not b || not p || not h) (not s) (not-refused _ TableLength e) in
+    let cbp-h = neither (not c || not b || not p) (not h) (cbph-s .0) in
     let cb-p = neither (not c || not b) (not p) (cbp-h .0) in
     let c-b = neither (not c) (not b) (cb-p .0) in
     record {
@@ -93,6 +98,7 @@ lengths-passed d e =
       setup = eqb-true _ _ (not-false b (c-b .1));
       unit = eqb-true _ _ (not-false p (cb-p .1));
       holding = eqb-true _ _ (not-false h (cbp-h .1));
+      store = eqb-true _ _ (not-false s (cbph-s .1));
     }
 
 -- 3
@@ -103,7 +109,9 @@ values-within d k e =
     let b = ltb maxSetup (at (d .setup) k) in
     let p = ltb maxRate (at (d .unit) k) in
     let h = ltb maxHalfRate (at (d .holding) k) in
-    let rcbp-h = neither (r || c || b || p) h e in
+    let s = ltb maxStore (at (d .store) k) in
+    let rcbph-s = neither (r || c || b || p || h) s e in
+    let rcbp-h = neither (r || c || b || p) h (rcbph-s .0) in
     let rcb-p = neither (r || c || b) p (rcbp-h .0) in
     let rc-b = neither (r || c) b (rcb-p .0) in
     let r-c = neither r c (rc-b .0) in
@@ -113,6 +121,7 @@ values-within d k e =
       setup = ltb-false _ _ (rc-b .1);
       unit = ltb-false _ _ (rcb-p .1);
       holding = ltb-false _ _ (rcbp-h .1);
+      store = ltb-false _ _ (rcbph-s .1);
     }
 
 -- 1, 2, 3
@@ -160,34 +169,20 @@ memory-passed P d s e =
       slots = ltb-false _ _ (not-refused (ltb (s .slots) n) FewSlots (rw first-one at (t .1)));
     }
 
--- of two bounds the larger decides
-larger-decides : (c a b : ℕ) → a ≤ b → (ltb c a || ltb c b) ≡ ltb c b
-larger-decides c a b l = go (decLt c a)
-  where
-    go : Dec (c < a) → (ltb c a || ltb c b) ≡ ltb c b
-    go (yes h) = rw (lt-ltb c a h, lt-ltb c b (omega arith)) refl
-    go (no h) = rw (le-ltb c a (omega arith)) refl
+-- 7
+pub passes-iff : (d : Day) (k : ℕ) → (short d k ≡ false) ↔ Passes d k
+passes-iff d k = (
+  λ e. let t = neither _ _ e in record { room = ltb-false _ _ (t .0); reach = ltb-false _ _ (t .1) },
+  λ p. rw (le-ltb (demandTo d (suc k) + at (d .store) k) (d .opening) (p .room), le-ltb (mostTo d (suc k)) (netTo d (suc k)) (p .reach)) refl,
+)
 
--- 7: by the end of the period more must have been made than C
-pub short-is : (d : Day) (k : ℕ) → k < periods d → short d k ≡ ltb (capacityTo d (suc k)) (netTo d (suc k))
-short-is d k l = go (decLt (suc k) (periods d))
-  where
-    go : Dec (suc k < periods d) → short d k ≡ ltb (capacityTo d (suc k)) (netTo d (suc k))
-    go (yes h) = rw (net-before d (suc k) h, ne-eqb (suc k) (periods d) (λ e. omega arith)) (or-false _)
-    go (no h) =
-        let e : suc k ≡ periods d = omega arith in
-        let net : netTo d (suc k) ≡ total d = ap (netTo d) e ∙ net-end d in
-        rw (net, eq-eqb (suc k) (periods d) e)
-        (larger-decides (capacityTo d (suc k)) (demandTo d (suc k) - d .opening) (total d) (omega (arith, ap (demandTo d) e)))
+pub shortage-passed : (d : Day) → shortage d ≡ none → (k : ℕ) → k < periods d → Passes d k
+shortage-passed d e k l = passes-iff d k .0 (none-found (short d) (periods d) (nowhere Shortage _ e) k l)
 
--- never more must have been made than C
-pub shortage-passed : (d : Day) → shortage d ≡ none → (k : ℕ) → k < periods d → netTo d (suc k) ≤ capacityTo d (suc k)
-shortage-passed d e k l = ltb-false _ _ (sym (short-is d k l) ∙ none-found (short d) (periods d) (nowhere Shortage _ e) k l)
-
-pub shortage-refused : (d : Day) (r : Refusal) → shortage d ≡ some r → FirstShort d r
-shortage-refused d r e = go (find (short d) (periods d)) refl e
+pub shortage-found : (d : Day) (r : Refusal) → shortage d ≡ some r → FirstFailing d r
+shortage-found d r e = go (find (short d) (periods d)) refl e
   where
-    go : (o : Option ℕ) → find (short d) (periods d) ≡ o → refuseAt Shortage o ≡ some r → FirstShort d r
+    go : (o : Option ℕ) → find (short d) (periods d) ≡ o → refuseAt Shortage o ≡ some r → FirstFailing d r
     go none found s = absurd (Option·none-ne-some _ s)
     go (some k) found s =
         let f = some-found (short d) (periods d) k found in
@@ -196,8 +191,8 @@ shortage-refused d r e = go (find (short d) (periods d)) refl e
           number = sym (ap numberOf (Option·some-injective _ _ s));
           period = sym (ap periodOf (Option·some-injective _ _ s));
           inside = f .inside;
-          above = ltb-true _ _ (sym (short-is d k (f .inside)) ∙ f .passes);
-          earlier = λ j l. ltb-false _ _ (sym (short-is d j (omega (arith, f .inside))) ∙ f .first j l);
+          fails = λ p. true≢false (sym (f .passes) ∙ passes-iff d k .1 p);
+          earlier = λ j l. passes-iff d j .0 (f .first j l);
         }
 
 -- 8: one capacity throughout
@@ -219,11 +214,15 @@ pub free-passed : (d : Day) → paidSetup d ≡ none → (k : ℕ) → k < perio
 free-passed d e k l =
     omega (arith, ltb-false 0 (at (d .setup) k) (none-found (paid d) (periods d) (nowhere PaidSetup _ e) k l))
 
+-- 16: every store takes R + Z
+pub store-passed : (d : Day) → lowStore d ≡ none → (k : ℕ) → k < periods d → required d ≤ at (d .store) k
+store-passed d e k l = ltb-false _ _ (none-found (tight d) (periods d) (nowhere LowStore _ e) k l)
+
 -- what a path relies on that refuses nothing
 pub record Admitted (P : Path) (d : Day) (s : Sizes) : Type 0 where
   pub day : DayLimits d
   pub room : Roomy P d s
-  pub supplied : (k : ℕ) → k < periods d → netTo d (suc k) ≤ capacityTo d (suc k)
+  pub supplied : (k : ℕ) → k < periods d → Passes d k
   pub own : first (P .own d) ≡ none
 
 pub admitted : (P : Path) (d : Day) (s : Sizes) → refusal P d s ≡ none → Admitted P d s
@@ -240,7 +239,7 @@ admitted P d s e =
 
 -- and the other way round: a day within the limits passes tests 1 to 3, and 4 and 14
 pub lengths-pass : (d : Day) → SameLengths d → badLengths d ≡ none
-lengths-pass d s = simp (eq-eqb _ _ (s .capacity), eq-eqb _ _ (s .setup), eq-eqb _ _ (s .unit), eq-eqb _ _ (s .holding))
+lengths-pass d s = simp (eq-eqb _ _ (s .capacity), eq-eqb _ _ (s .setup), eq-eqb _ _ (s .unit), eq-eqb _ _ (s .holding), eq-eqb _ _ (s .store))
 
 pub tables-pass : (d : Day) → Limits d → first (tableTests d) ≡ none
 tables-pass d l = rw (count, lengths-pass d (l .lengths), value) refl
@@ -250,7 +249,14 @@ tables-pass d l = rw (count, lengths-pass d (l .lengths), value) refl
 
     inside : (k : ℕ) → Within d k → aboveLimit d k ≡ false
     inside k w =
-        simp (le-ltb _ _ (w .demand), le-ltb _ _ (w .capacity), le-ltb _ _ (w .setup), le-ltb _ _ (w .unit), le-ltb _ _ (w .holding))
+        simp (
+          le-ltb _ _ (w .demand),
+          le-ltb _ _ (w .capacity),
+          le-ltb _ _ (w .setup),
+          le-ltb _ _ (w .unit),
+          le-ltb _ _ (w .holding),
+          le-ltb _ _ (w .store),
+        )
 
     value : badValue d ≡ none
     value = ap (refuseAt AboveLimit) (nothing-found (aboveLimit d) (periods d) (λ k h. inside k (l .within k h)))

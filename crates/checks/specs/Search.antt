@@ -7,7 +7,7 @@ use Prim.Native.Nat.{ℕ, _+_, _≤_, _<_}
 use native.Mathlib.Numerals.{add-one}
 use native.Mathlib.Omega.{arith}
 use Rattle.day.specs.declared.Refusal.{Refusal}
-use Rattle.day.specs.declared.Check.the-variants.{Refused}
+use Rattle.day.specs.declared.Check.the-variants.{Passed, Refused}
 use Rattle.day.specs.Find.{find, find-none, find-here}
 use Rattle.day.specs.Refusals.{refuseAt, checked}
 
@@ -30,3 +30,6 @@ module _ {P : ℕ → Bool} {n i : ℕ} (s : Searched P n i) where
 
   pub refused-here : (r : ℕ → Refusal) → P i ≡ true → i < n → Refused (r (i + 1)) ≡ checked (refuseAt r (find P n))
   refused-here r t l = rw (add-one, found-here t l) refl
+
+  pub passed-all : (r : ℕ → Refusal) → n ≤ i → Passed ≡ checked (refuseAt r (find P n))
+  passed-all r h = rw (searched-all h) refl

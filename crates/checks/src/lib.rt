@@ -3,7 +3,7 @@
 ghost use mathlib.Core.Path.{_≡_};
 ghost use mathlib.Core.Bool.{_||_};
 ghost use mathlib.Core.List.{[]};
-ghost use Prim.Native.Nat.{_+_, _-_, _*_, _^_, _≤_, _<_};
+ghost use Prim.Native.Nat.{_+_, _-_, _*_, _^_, _≤_, _<_, min};
 ghost use lib.Dec.{ltb};
 ghost use lib.ListN.{length};
 ghost use Rattle.day.specs.Sums.{Term, at, sumTo};
@@ -39,17 +39,29 @@ pub fn count(n: usize) -> Check
 }
 
 // 2: every table is as long as the demand table
-fn lengths(demand: &[u16], capacity: &[u16], setup: &[u32], unit: &[u32], holding: &[u32]) -> Check
-    ensures { λ r. ⌜ r ≡ checked (badLengths (tablesBefore demand capacity setup unit holding)) ⌝ }
+fn lengths(
+    demand: &[u16],
+    capacity: &[u16],
+    setup: &[u32],
+    unit: &[u32],
+    holding: &[u32],
+    store: &[u16],
+) -> Check
+    ensures { λ r. ⌜ r ≡ checked (badLengths (tablesBefore demand capacity setup unit holding store)) ⌝ }
 {
     let n = demand.len();
-    if capacity.len() != n || setup.len() != n || unit.len() != n || holding.len() != n {
+    if capacity.len() != n
+        || setup.len() != n
+        || unit.len() != n
+        || holding.len() != n
+        || store.len() != n
+    {
         return Check::Refused(Refusal::TableLength);
     }
     Check::Passed
 }
 
-// Whether one of a period's values is above its limit. A capacity of 16 bits never is.
+// Whether one of a period's values is above its limit. A capacity or a store limit of 16 bits never is.
 fn above_limit(demand: u16, setup: u32, unit: u32, holding: u32) -> bool
     ensures { λ r. ⌜ r ≡ (ltb maxDemand demand || ltb maxSetup setup || ltb maxRate unit || ltb maxHalfRate holding) ⌝ }
 {
@@ -63,9 +75,10 @@ pub fn values(
     setup: &[u32],
     unit: &[u32],
     holding: &[u32],
+    store: &[u16],
 ) -> Check
-    requires { ⌜ Readable (tablesOf (now demand) (now capacity) (now setup) (now unit) (now holding)) ⌝ }
-    ensures { λ r. ⌜ r ≡ checked (badValue (tablesBefore demand capacity setup unit holding)) ⌝ }
+    requires { ⌜ Readable (tablesOf (now demand) (now capacity) (now setup) (now unit) (now holding) (now store)) ⌝ }
+    ensures { λ r. ⌜ r ≡ checked (badValue (tablesBefore demand capacity setup unit holding store)) ⌝ }
 {
     let mut i = 0;
     while i < demand.len() {
@@ -84,16 +97,17 @@ pub fn tables(
     setup: &[u32],
     unit: &[u32],
     holding: &[u32],
+    store: &[u16],
 ) -> Check
-    ensures { λ r. ⌜ r ≡ checked (first (tableTests (tablesBefore demand capacity setup unit holding))) ⌝ }
+    ensures { λ r. ⌜ r ≡ checked (first (tableTests (tablesBefore demand capacity setup unit holding store))) ⌝ }
 {
     if let Check::Refused(r) = count(demand.len()) {
         return Check::Refused(r);
     }
-    if let Check::Refused(r) = lengths(demand, capacity, setup, unit, holding) {
+    if let Check::Refused(r) = lengths(demand, capacity, setup, unit, holding, store) {
         return Check::Refused(r);
     }
-    values(demand, capacity, setup, unit, holding)
+    values(demand, capacity, setup, unit, holding, store)
 }
 
 // The sum of a table, R over the day of the needs; it needs more than 16 bits
@@ -111,9 +125,9 @@ pub fn summed(table: &[u16]) -> u64
 }
 
 // R + Z
-fn required(demand: &[u16], ends: Ends) -> u64
+pub fn required(demand: &[u16], ends: Ends) -> u64
     requires { ⌜ length (now demand) ≤ maxPeriods ⌝ }
-    ensures { λ r. ⌜ Term (required (dayOf (now (demand .entry)) [] [] [] [] ends)) maxSum r ⌝ }
+    ensures { λ r. ⌜ Term (required (dayOf (now (demand .entry)) [] [] [] [] [] ends)) maxSum r ⌝ }
 {
     summed(demand) + (ends.closing as u64)
 }
@@ -121,8 +135,8 @@ fn required(demand: &[u16], ends: Ends) -> u64
 // T, what is made over the day
 pub fn total(demand: &[u16], ends: Ends) -> u64
     requires { ⌜ length (now demand) ≤ maxPeriods ⌝ }
-    requires { ⌜ ends .opening ≤ required (dayOf (now demand) [] [] [] [] ends) ⌝ }
-    ensures { λ r. ⌜ Term (total (dayOf (now (demand .entry)) [] [] [] [] ends)) maxSum r ⌝ }
+    requires { ⌜ ends .opening ≤ required (dayOf (now demand) [] [] [] [] [] ends) ⌝ }
+    ensures { λ r. ⌜ Term (total (dayOf (now (demand .entry)) [] [] [] [] [] ends)) maxSum r ⌝ }
 {
     required(demand, ends) - (ends.opening as u64)
 }
@@ -130,7 +144,7 @@ pub fn total(demand: &[u16], ends: Ends) -> u64
 // 4, 14
 fn totals(demand: &[u16], ends: Ends) -> Check
     requires { ⌜ length (now demand) ≤ maxPeriods ⌝ }
-    ensures { λ r. ⌜ r ≡ checked (first (totalTests (dayOf (now (demand .entry)) [] [] [] [] ends))) ⌝ }
+    ensures { λ r. ⌜ r ≡ checked (first (totalTests (dayOf (now (demand .entry)) [] [] [] [] [] ends))) ⌝ }
 {
     let required = required(demand, ends);
     if MAX_TOTAL < required {
@@ -149,11 +163,12 @@ pub fn day(
     setup: &[u32],
     unit: &[u32],
     holding: &[u32],
+    store: &[u16],
     ends: Ends,
 ) -> Check
-    ensures { λ r. ⌜ r ≡ checked (first (dayTests (dayBefore demand capacity setup unit holding ends))) ⌝ }
+    ensures { λ r. ⌜ r ≡ checked (first (dayTests (dayBefore demand capacity setup unit holding store ends))) ⌝ }
 {
-    if let Check::Refused(r) = tables(demand, capacity, setup, unit, holding) {
+    if let Check::Refused(r) = tables(demand, capacity, setup, unit, holding, store) {
         return Check::Refused(r);
     }
     totals(demand, ends)
@@ -178,6 +193,16 @@ pub fn beyond(a: u64, b: u64) -> u64
         return 0;
     }
     a - b
+}
+
+// the smaller of two
+pub fn smaller(a: u64, b: u64) -> u64
+    ensures { λ r. ⌜ r ≡ min a b ⌝ }
+{
+    if a < b {
+        return a;
+    }
+    b
 }
 
 // What must have been made by the end of a period.

@@ -1,4 +1,4 @@
--- A day: its five tables and its two ends, its limits, and the sums R, C and T (document 01, "The day and its plan"; document 02, 2.1, 2.2;
+-- A day: its six tables and its two ends, its limits, and the sums R, C and T (document 01, "The day and its plan"; document 02, 2.1, 2.2, 2.5;
 -- report, section 2).
 -- Assumes nothing.
 use mathlib.Core.Path.{_≡_, refl}
@@ -12,7 +12,7 @@ use borrow.Author.Tests.{eq-eqb, ne-eqb}
 use Rattle.day.specs.declared.Ends.{Ends}
 use Rattle.day.specs.Sums.{at, sumTo}
 
--- One entry a period. In document 01's words: need r, capacity c, start cost b, unit cost p, upkeep h.
+-- One entry a period. In the documents' words: need r, capacity c, start cost b, unit cost p, upkeep h, store limit s (document 02, 2.5).
 -- Then the inventory that the day begins with, and that which it hands on: opening charge A, closing charge Z (document 02, 2.1).
 pub record Day : Type 0 where
   pub demand : List ℕ
@@ -20,17 +20,19 @@ pub record Day : Type 0 where
   pub setup : List ℕ
   pub unit : List ℕ
   pub holding : List ℕ
+  pub store : List ℕ
   pub opening : ℕ
   pub closing : ℕ
 
--- the day that five lent tables hold, with its ends
-abbrev pub dayOf : (demand capacity setup unit holding : List ℕ) → Ends → Day
-dayOf demand capacity setup unit holding ends = record {
+-- the day that six lent tables hold, with its ends
+abbrev pub dayOf : (demand capacity setup unit holding store : List ℕ) → Ends → Day
+dayOf demand capacity setup unit holding store ends = record {
   demand = demand;
   capacity = capacity;
   setup = setup;
   unit = unit;
   holding = holding;
+  store = store;
   opening = ends .opening;
   closing = ends .closing;
 }
@@ -42,8 +44,8 @@ endsWith opening closing = record { opening = opening; closing = closing }
 abbrev pub noEnds : Ends
 noEnds = endsWith 0 0
 
-abbrev pub tablesOf : (demand capacity setup unit holding : List ℕ) → Day
-tablesOf demand capacity setup unit holding = dayOf demand capacity setup unit holding noEnds
+abbrev pub tablesOf : (demand capacity setup unit holding store : List ℕ) → Day
+tablesOf demand capacity setup unit holding store = dayOf demand capacity setup unit holding store noEnds
 
 -- the ends of a day
 abbrev pub endsOf : Day → Ends
@@ -54,7 +56,7 @@ abbrev pub periods : Day → ℕ
 periods d = length (d .demand)
 
 -- the most that the documents allow: n, r, c, b, p; h, which is paid for half a period (document 02, 2.2); and R + Z over the day.
--- A and Z are numbers of 16 bits.
+-- A and Z are numbers of 16 bits, and so is s, whose highest value is above any R + Z that is allowed: it limits nothing.
 abbrev pub maxPeriods : ℕ
 maxPeriods = 96
 
@@ -75,6 +77,9 @@ maxHalfRate = 500000
 
 abbrev pub maxTotal : ℕ
 maxTotal = 4096
+
+abbrev pub maxStore : ℕ
+maxStore = 65535
 
 -- no sum of 96 numbers of 16 bits and one more is above this
 abbrev pub maxSum : ℕ

@@ -1,11 +1,13 @@
--- The day file (document 01, "Day file"; document 02, 2.1): its layout, the day that it holds, the one file of a day, and conditions 10 to 13.
+-- The day file (document 01, "Day file"; document 02, 2.1, 2.5): its layout, the day that it holds, the one file of a day, and conditions 10 to 13.
 -- A record is one byte of kind and a body whose length the kind fixes; numbers are unsigned, most significant byte first:
 --     kind 1  a period (16 bytes)
 --     kind 2  the end (2 bytes)
 --     kind 3  opening and closing charge (4 bytes)
+--     kind 4  a period with its store limit, where that is below 65,535 (18 bytes)
 -- The head is kind 3, where it is there; the periods follow, then the end.
 -- Main definitions: `Layout`, what a file is; `dayIn`, the day that it holds; `fileOf`, the file of a day. Assumes nothing.
 use mathlib.Core.Path.{_≡_}
+use mathlib.Core.Logic.{_⊎_}
 use mathlib.Core.Bool.{Bool, not, _&&_, _||_, cond}
 use mathlib.Core.List.{List, [], _∷_, _++_}
 use mathlib.Core.Option.{Option, none, some}
@@ -16,7 +18,7 @@ use Rattle.day.specs.declared.Refusal.{Refusal}
 use Rattle.day.specs.declared.Refusal.the-variants.{UnknownKind, TruncatedFile, WrongEnd, NoSuchPeriod}
 use Rattle.day.specs.Sums.{at, listOf}
 use Rattle.day.specs.Find.{find}
-use Rattle.day.specs.Day.{Day, periods}
+use Rattle.day.specs.Day.{Day, periods, maxStore}
 use Rattle.day.specs.Refusals.{refuse, first}
 
 -- the kinds
@@ -29,12 +31,16 @@ endKind = 2
 abbrev pub chargeKind : ℕ
 chargeKind = 3
 
+abbrev pub storeKind : ℕ
+storeKind = 4
+
 abbrev pub isKind : ℕ → Bool
-isKind kind = eqb kind periodKind || eqb kind endKind || eqb kind chargeKind
+isKind kind = eqb kind periodKind || eqb kind endKind || eqb kind chargeKind || eqb kind storeKind
 
 -- how long a body the kind fixes; an unknown kind has none
 abbrev pub bodyLength : ℕ → ℕ
-bodyLength kind = cond (eqb kind periodKind) 16 (cond (eqb kind endKind) 2 (cond (eqb kind chargeKind) 4 0))
+bodyLength kind =
+    cond (eqb kind periodKind) 16 (cond (eqb kind endKind) 2 (cond (eqb kind chargeKind) 4 (cond (eqb kind storeKind) 18 0)))
 
 -- the record that begins at byte p: its body, and where the record after it begins
 abbrev pub body : List ℕ → ℕ → List ℕ
@@ -54,8 +60,9 @@ number4 b p = number2 b p * 65536 + number2 b (p + 2)
 abbrev pub isRecord : ℕ → List ℕ → ℕ → Bool
 isRecord kind s p = eqb (at s p) kind && leb (next s p) (length s)
 
+-- a whole period record, with no store limit or with one that limits
 abbrev pub isPeriod : List ℕ → ℕ → Bool
-isPeriod s p = isRecord periodKind s p
+isPeriod s p = isRecord periodKind s p || (isRecord storeKind s p && ltb (number2 (body s p) 16) maxStore)
 
 -- A and Z are both 0: then no record holds them
 abbrev pub bothZero : (opening closing : ℕ) → Bool
@@ -74,9 +81,13 @@ abbrev pub recordAt : List ℕ → ℕ → ℕ
 recordAt s zero = headEnd s
 recordAt s (suc i) = next s (recordAt s i)
 
+-- the record at byte p is a period's: of kind 1, or of kind 4 with a limit below 65,535
+abbrev pub PeriodAt : List ℕ → ℕ → Type 0
+PeriodAt s p = (at s p ≡ periodKind) ⊎ ((at s p ≡ storeKind) × (number2 (body s p) 16 < maxStore))
+
 -- a file of n periods: the head, n period records, then one end record, which holds n, and no byte more
 pub record Layout (s : List ℕ) (n : ℕ) : Type 0 where
-  pub periods : (i : ℕ) → i < n → at s (recordAt s i) ≡ periodKind
+  pub periods : (i : ℕ) → i < n → PeriodAt s (recordAt s i)
   pub ends : at s (recordAt s n) ≡ endKind
   pub count : number2 (body s (recordAt s n)) 0 ≡ n
   pub size : length s ≡ recordAt s (suc n)
@@ -102,7 +113,7 @@ misplaced s p = refuse (eqb (at s p) chargeKind && not (eqb p 0)) WrongEnd
 abbrev pub truncated : List ℕ → ℕ → Option Refusal
 truncated s p = refuse (ltb (length s) (next s p)) TruncatedFile
 
--- 12, after its body: it is no end record (charges that are both 0), bytes follow it, or the count that it holds is not n
+-- 12, after its body: it is no end record (charges that are both 0, a store limit of 65,535), bytes follow it, or the count that it holds is not n
 abbrev pub wrongEnd : List ℕ → (p n : ℕ) → Option Refusal
 wrongEnd s p n =
     refuse (not (eqb (at s p) endKind) || not (eqb (length s) (next s p)) || not (eqb (number2 (body s p) 0) n)) WrongEnd
@@ -118,12 +129,19 @@ walk s = badEnd s (recordAt s (periodsIn s)) (periodsIn s)
 abbrev pub noSuchPeriod : (n i : ℕ) → Option Refusal
 noSuchPeriod n i = refuse (eqb i 0 || ltb n i) NoSuchPeriod
 
--- the day that a file holds: A and Z in the head, both 0 where it has none; r, c, b, p, h at their places in the bodies
+-- the day that a file holds: A and Z in the head, both 0 where it has none; r, c, b, p, h at their places in the bodies, and after them s in those of
+-- kind 4, 65,535 in the others
 abbrev pub chargeIn : ℕ → List ℕ → ℕ
 chargeIn offset s = cond (isCharges s 0) (number2 (body s 0) offset) 0
 
 abbrev pub field : (List ℕ → ℕ → ℕ) → ℕ → List ℕ → ℕ → ℕ
 field number offset s k = number (body s (recordAt s k)) offset
+
+abbrev pub limitIn : (kind : ℕ) → List ℕ → ℕ
+limitIn kind b = cond (eqb kind storeKind) (number2 b 16) maxStore
+
+abbrev pub storeIn : List ℕ → ℕ → ℕ
+storeIn s k = limitIn (at s (recordAt s k)) (body s (recordAt s k))
 
 abbrev pub dayIn : List ℕ → Day
 dayIn s = record {
@@ -132,6 +150,7 @@ dayIn s = record {
   setup = listOf (field number4 4 s) (periodsIn s);
   unit = listOf (field number4 8 s) (periodsIn s);
   holding = listOf (field number4 12 s) (periodsIn s);
+  store = listOf (storeIn s) (periodsIn s);
   opening = chargeIn 0 s;
   closing = chargeIn 2 s;
 }
@@ -149,8 +168,17 @@ headOf opening closing = cond (bothZero opening closing) [] (chargeKind ∷ byte
 abbrev pub fieldsOf : (demand capacity setup unit holding : ℕ) → List ℕ
 fieldsOf demand capacity setup unit holding = bytes2 demand ++ bytes2 capacity ++ bytes4 setup ++ bytes4 unit ++ bytes4 holding
 
+-- the kind of a period's record, and what it adds to the body, by the store limit
+abbrev pub kindOf : ℕ → ℕ
+kindOf store = cond (ltb store maxStore) storeKind periodKind
+
+abbrev pub limitOf : ℕ → List ℕ
+limitOf store = cond (ltb store maxStore) (bytes2 store) []
+
 abbrev pub recordOf : Day → ℕ → List ℕ
-recordOf d k = periodKind ∷ fieldsOf (at (d .demand) k) (at (d .capacity) k) (at (d .setup) k) (at (d .unit) k) (at (d .holding) k)
+recordOf d k =
+    kindOf (at (d .store) k)
+    ∷ fieldsOf (at (d .demand) k) (at (d .capacity) k) (at (d .setup) k) (at (d .unit) k) (at (d .holding) k) ++ limitOf (at (d .store) k)
 
 -- the first k period records
 abbrev pub recordsOf : Day → ℕ → List ℕ

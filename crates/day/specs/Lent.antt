@@ -13,17 +13,17 @@ use Rattle.day.specs.Outcome.{Memory, memoryOf}
 abbrev pub Lent : Type 0
 Lent = Both (RefT (List ℕ)) (RefT (List ℕ))
 
-abbrev pub dayBefore : (demand capacity setup unit holding : Lent) → Ends → Day
-dayBefore demand capacity setup unit holding ends =
-    dayOf (now (demand .entry)) (now (capacity .entry)) (now (setup .entry)) (now (unit .entry)) (now (holding .entry)) ends
+abbrev pub dayBefore : (demand capacity setup unit holding store : Lent) → Ends → Day
+dayBefore demand capacity setup unit holding store ends =
+    dayOf (now (demand .entry)) (now (capacity .entry)) (now (setup .entry)) (now (unit .entry)) (now (holding .entry)) (now (store .entry)) ends
 
 -- tables that are lent without ends
-abbrev pub tablesBefore : (demand capacity setup unit holding : Lent) → Day
-tablesBefore demand capacity setup unit holding = dayBefore demand capacity setup unit holding noEnds
+abbrev pub tablesBefore : (demand capacity setup unit holding store : Lent) → Day
+tablesBefore demand capacity setup unit holding store = dayBefore demand capacity setup unit holding store noEnds
 
-abbrev pub tablesAfter : (demand capacity setup unit holding : Lent) → Day
-tablesAfter demand capacity setup unit holding =
-    tablesOf (now (demand .exit)) (now (capacity .exit)) (now (setup .exit)) (now (unit .exit)) (now (holding .exit))
+abbrev pub tablesAfter : (demand capacity setup unit holding store : Lent) → Day
+tablesAfter demand capacity setup unit holding store =
+    tablesOf (now (demand .exit)) (now (capacity .exit)) (now (setup .exit)) (now (unit .exit)) (now (holding .exit)) (now (store .exit))
 
 abbrev pub memoryBefore : (costs choices slots : Lent) → Memory
 memoryBefore costs choices slots = memoryOf (now (costs .entry)) (now (choices .entry)) (now (slots .entry))

@@ -14,11 +14,11 @@ use Rattle.day.specs.declared.Refusal.{Refusal}
 use Rattle.day.specs.declared.Refusal.the-variants.{PaidSetup}
 use Rattle.day.specs.Sums.{at}
 use Rattle.day.specs.Find.{find}
-use Rattle.day.specs.Day.{Day, tablesOf, periods, capacityTo, netTo}
+use Rattle.day.specs.Day.{Day, tablesOf, periods, maxStore}
 use Rattle.day.specs.Plan.{Feasible, Optimal, cost, setups}
-use Rattle.day.specs.Refusals.{numberOf, periodOf, refuse, refuseAt, orNext, first, paid, paidSetup}
+use Rattle.day.specs.Refusals.{numberOf, periodOf, refuse, refuseAt, orNext, first, FirstShort, paid, paidSetup, lowStore}
 use Rattle.day.specs.Outcome.{Sizes, Path, Roomy, refusal, dayRefusal, roomy-first}
-use Rattle.day.specs.Search.{given, sure, both, iff?, implies?, both-below, below?, feasible?, smaller?, precedes?, optimal?, none?}
+use Rattle.day.specs.Search.{given, sure, both, iff?, implies?, both-below, below?, keeps?, smaller?, precedes?, optimal?, none?}
 
 -- what a row claims of its day: its plan, with cost and setups; what some other plan costs; or the period of refusal 7
 pub data Claim : Type 0 where
@@ -56,11 +56,11 @@ marked =
     ∷ row (2 ∷ 2 ∷ []) (4 ∷ 4 ∷ []) 8 1 2 (planned (4 ∷ 0 ∷ []) 20 1 ∷ costs (2 ∷ 2 ∷ []) 20 ∷ [])
     ∷ []
 
--- the day of a row
+-- the day of a row: no store limit
 abbrev pub dayOfRow : MarkedRow → Day
 dayOfRow r =
     let all = replicate (length (r .demand)) in
-    tablesOf (r .demand) (r .capacity) (all (r .setup)) (all (r .unit)) (all (r .holding))
+    tablesOf (r .demand) (r .capacity) (all (r .setup)) (all (r .unit)) (all (r .holding)) (all maxStore)
 
 -- a plan of the day, and what it costs
 pub record Costs (d : Day) (x : List ℕ) (c : ℕ) : Type 0 where
@@ -71,25 +71,24 @@ pub record Costs (d : Day) (x : List ℕ) (c : ℕ) : Type 0 where
 abbrev pub Given : Day → Option Refusal → Type 0
 Given d o = (P : Path) (s : Sizes) → Roomy P d s → refusal P d s ≡ orNext o (first (P .own d))
 
--- the plan of the day, with its cost and setups; a path refuses it by its own tests alone, the free path 15 with period 1 where b is above 0
+-- the plan of the day, with its cost and setups; a path refuses it by its own tests alone, the free path 15 with period 1 where b is above 0,
+-- and none 16
 pub record PlannedAs (d : Day) (x : List ℕ) (c s : ℕ) : Type 0 where
   pub given : Given d none
   pub paid : paidSetup d ≡ refuse (ltb 0 (at (d .setup) 0)) (PaidSetup 1)
+  pub stores : lowStore d ≡ none
   pub amounts : length x ≡ periods d
   pub plan : Optimal d (at x)
   pub cost : cost d (at x) ≡ c
   pub setups : setups (periods d) (at x) ≡ s
 
--- there is no plan, and period i, counted from 1, is the first by whose end more must be made than can be: every path gives 7 with it
+-- there is no plan: every path gives 7 with period i, counted from 1, the first through which no amounts keep the conditions
 pub record RefusedAt (d : Day) (i : ℕ) : Type 0 where
   pub refusal : Refusal
   pub given : Given d (some refusal)
-  pub number : numberOf refusal ≡ 7
+  pub first : FirstShort d refusal
   pub period : periodOf refusal ≡ i
   pub none : (y : ℕ → ℕ) → Feasible d y → ⊥
-  pub inside : i ≤ periods d
-  pub short : capacityTo d i < netTo d i
-  pub before : (j : ℕ) → j < i → netTo d j ≤ capacityTo d j
 
 abbrev pub ClaimHolds : Day → Claim → Type 0
 ClaimHolds d (planned x c s) = PlannedAs d x c s
@@ -114,9 +113,26 @@ abbrev none-brought? : (o : Option Refusal) → Option (o ≡ none)
 none-brought? none = some refl
 none-brought? (some q) = none
 
-abbrev brought? : (i : ℕ) (o : Option Refusal) → Option ((q : Refusal) × ((o ≡ some q) × ((numberOf q ≡ 7) × (periodOf q ≡ i))))
-brought? i none = none
-brought? i (some q) = Option·map (λ p. (q, (refl, p))) (both (sure (ℕ-discrete (numberOf q) 7)) (sure (ℕ-discrete (periodOf q) i)))
+-- for the periods before it the capacities are such amounts, as no row has a store limit
+abbrev brought? : (d : Day) (k : ℕ) (o : Option Refusal) → Option ((q : Refusal) × ((o ≡ some q) × (FirstShort d q × (periodOf q ≡ suc k))))
+brought? d k none = none
+brought? d k (some q) =
+    Option·map
+    (λ p.
+    let w = p .1 .1 in
+    let first : FirstShort d q =
+    record {
+      k = k;
+      number = p .0;
+      period = p .1 .0;
+      inside = w .0;
+      fails = w .1 .0;
+      earlier = λ j l. (at (d .capacity), w .1 .1 j l);
+    } in
+    (q, (refl, (first, p .1 .0))))
+    (both (sure (ℕ-discrete (numberOf q) 7))
+    (both (sure (ℕ-discrete (periodOf q) (suc k)))
+    (both (sure (decLt k (periods d))) (both (none? d (suc k)) (sure (below? (λ j. keeps? d (suc j) (at (d .capacity))) k))))))
 
 -- the test of what the free path refuses: nothing; 15 with period 1
 abbrev paid? : (o : Option ℕ) (b : Bool) → Option (refuseAt PaidSetup o ≡ refuse b (PaidSetup 1))
@@ -131,34 +147,22 @@ abbrev right? : (d : Day) (c : Claim) → Option (ClaimHolds d c)
 right? d (planned x c s) =
     Option·map
     (λ p.
-    let q = p .1 .1 in
-    record { given = brought d (p .0); paid = p .1 .0; amounts = q .0; plan = q .1 .0; cost = q .1 .1 .0; setups = q .1 .1 .1 })
+    let q = p .1 .1 .1 in
+    record { given = brought d (p .0); paid = p .1 .0; stores = p .1 .1 .0; amounts = q .0; plan = q .1 .0; cost = q .1 .1 .0; setups = q .1 .1 .1 })
     (both (none-brought? (dayRefusal d))
     (both (paid? (find (paid d) (periods d)) (ltb 0 (at (d .setup) 0)))
+    (both (none-brought? (lowStore d))
     (both (sure (ℕ-discrete (length x) (periods d)))
-    (both (optimal? d (at x)) (both (sure (ℕ-discrete (cost d (at x)) c)) (sure (ℕ-discrete (setups (periods d) (at x)) s)))))))
+    (both (optimal? d (at x)) (both (sure (ℕ-discrete (cost d (at x)) c)) (sure (ℕ-discrete (setups (periods d) (at x)) s))))))))
 right? d (costs x c) =
-    Option·map (λ p. record { feasible = p .0; cost = p .1 }) (both (sure (feasible? d (at x))) (sure (ℕ-discrete (cost d (at x)) c)))
-right? d (refused i) =
+    Option·map (λ p. record { feasible = p .0; cost = p .1 }) (both (sure (keeps? d (periods d) (at x))) (sure (ℕ-discrete (cost d (at x)) c)))
+right? d (refused zero) = none
+right? d (refused (suc k)) =
     Option·map
-    (λ p.
-    let q = p .0 in
-    record {
-      refusal = q .0;
-      given = brought d (q .1 .0);
-      number = q .1 .1 .0;
-      period = q .1 .1 .1;
-      none = p .1 .0;
-      inside = p .1 .1 .0;
-      short = p .1 .1 .1 .0;
-      before = p .1 .1 .1 .1;
-    })
-    (both (brought? i (dayRefusal d))
-    (both (none? d)
-    (both (sure (decLe i (periods d)))
-    (both (sure (decLt (capacityTo d i) (netTo d i))) (sure (below? (λ j. decLe (netTo d j) (capacityTo d j)) i))))))
+    (λ p. let q = p .0 in record { refusal = q .0; given = brought d (q .1 .0); first = q .1 .1 .0; period = q .1 .1 .1; none = p .1 })
+    (both (brought? d k (dayRefusal d)) (none? d (periods d)))
 
 -- Every row's claims hold of the written meaning.
 pub marked-right : All (λ r. All (ClaimHolds (dayOfRow r)) (r .claims)) marked
-unfolding iff? implies? both-below below? Dec·and feasible? smaller? precedes? decLe decLt ℕ-discrete
+unfolding iff? implies? both-below below? Dec·and keeps? smaller? precedes? decLe decLt ℕ-discrete
 marked-right = given (all? (λ r. all? (right? (dayOfRow r)) (r .claims)) marked) tt

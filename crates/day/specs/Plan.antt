@@ -1,7 +1,7 @@
 -- Plans of a day: the conditions that they keep, what they cost, how two of equal cost are told apart, and the plan wanted.
--- After the report, section 2, with the charge at both ends of document 02, 2.1, and the upkeep of 2.2.
+-- After the report, section 2, with the charge at both ends of document 02, 2.1, the upkeep of 2.2 and the store limit of 2.5.
 -- A plan is a function from periods to amounts; only its values in the day's periods count.
--- Main definition: `Optimal`. Assumes nothing.
+-- Main definitions: `KeepsTo`, `Feasible`, `Optimal`. Assumes nothing.
 use mathlib.Core.Path.{_≡_}
 use mathlib.Core.Logic.{_⊎_}
 use Prim.Native.Nat.{ℕ, zero, suc, _+_, _-_, _*_, _≤_, _<_}
@@ -33,14 +33,20 @@ costTo d x i = sumTo (costAt d x) i
 abbrev pub cost : Day → (ℕ → ℕ) → ℕ
 cost d x = costTo d x (periods d)
 
--- conditions (2) to (4) of the report, of a day with ends
-pub record Feasible (d : Day) (x : ℕ → ℕ) : Type 0 where
-  -- (2): demand is met on time, R_i ≤ A + X_i
-  pub served : (k : ℕ) → k < periods d → demandTo d (suc k) ≤ d .opening + sumTo x (suc k)
-  -- (3): Z is left at the end, A + X_n = R_n + Z
-  pub ends : d .opening + sumTo x (periods d) ≡ required d
+-- the amounts x of the first i periods keep the conditions: (2) to (4) of the report, of a day with ends, and the store limit
+pub record KeepsTo (d : Day) (i : ℕ) (x : ℕ → ℕ) : Type 0 where
+  -- (2): demand is met on time, R ≤ A + X after every period
+  pub served : (k : ℕ) → k < i → demandTo d (suc k) ≤ d .opening + sumTo x (suc k)
+  -- (3), where i is n: Z is left at the end, A + X_n = R_n + Z
+  pub ends : i ≡ periods d → d .opening + sumTo x i ≡ required d
   -- (4): no amount is above its period's capacity
-  pub within : (k : ℕ) → k < periods d → x k ≤ at (d .capacity) k
+  pub within : (k : ℕ) → k < i → x k ≤ at (d .capacity) k
+  -- document 02, 2.5: the charge left after a period is not above its store limit; that before period 1 has none
+  pub stored : (k : ℕ) → k < i → inventory d x (suc k) ≤ at (d .store) k
+
+-- a plan keeps them through all periods of the day
+abbrev pub Feasible : Day → (ℕ → ℕ) → Type 0
+Feasible d x = KeepsTo d (periods d) x
 
 -- 1 where something is made
 abbrev pub setupAt : ℕ → ℕ

@@ -1,23 +1,24 @@
--- What is refused, and when: document 01's conditions 1 to 9 and document 02's 14 and 15, each as a definition, and the number and period of each refusal.
+-- What is refused, and when: document 01's conditions 1 to 9 and document 02's 14 to 16, each as a definition, and the number and period of each refusal.
 -- A call's first refusal in order is `first` of a list of these; laws of such lists are in `Tests`. Conditions 10 to 13 are in `File`.
 -- Assumes nothing.
 use mathlib.Core.Path.{_≡_}
-use mathlib.Core.Bool.{Bool, true, false, not, _&&_, _||_}
+use mathlib.Core.Bool.{Bool, true, false, not, _||_}
 use mathlib.Core.List.{List, [], _∷_, _++_}
 use mathlib.Core.Option.{Option, none, some}
-use Prim.Native.Nat.{ℕ, suc, _-_}
+use Prim.Native.Nat.{ℕ, suc, _+_, _-_, _<_}
 use lib.Dec.{eqb, ltb}
 use lib.ListN.{length}
 use Rattle.day.specs.declared.Refusal.{Refusal}
 use Rattle.day.specs.declared.Refusal.the-variants.{PeriodCount, TableLength, AboveLimit, TotalDemand, ShortArea, FewSlots, Shortage}
 use Rattle.day.specs.declared.Refusal.the-variants.{UnequalCapacities, BindingCapacity}
-use Rattle.day.specs.declared.Refusal.the-variants.{UnknownKind, TruncatedFile, WrongEnd, NoSuchPeriod, SurplusInventory, PaidSetup}
+use Rattle.day.specs.declared.Refusal.the-variants.{UnknownKind, TruncatedFile, WrongEnd, NoSuchPeriod, SurplusInventory, PaidSetup, LowStore}
 use Rattle.day.specs.declared.Check.{Check}
 use Rattle.day.specs.declared.Check.the-variants.{Passed, Refused}
-use Rattle.day.specs.Sums.{at}
+use Rattle.day.specs.Sums.{at, cappedTo}
 use Rattle.day.specs.Find.{find}
-use Rattle.day.specs.Day.{Day, periods, maxPeriods, maxDemand, maxCapacity, maxSetup, maxRate, maxHalfRate, maxTotal}
-use Rattle.day.specs.Day.{demandTo, capacityTo, required, total}
+use Rattle.day.specs.Day.{Day, periods, maxPeriods, maxDemand, maxCapacity, maxSetup, maxRate, maxHalfRate, maxTotal, maxStore}
+use Rattle.day.specs.Day.{demandTo, required, total, netTo}
+use Rattle.day.specs.Plan.{KeepsTo}
 
 -- the documents' number of a refusal
 abbrev pub numberOf : Refusal → ℕ
@@ -36,6 +37,7 @@ numberOf WrongEnd = 12
 numberOf NoSuchPeriod = 13
 numberOf SurplusInventory = 14
 numberOf (PaidSetup i) = 15
+numberOf (LowStore i) = 16
 
 -- the period that it names, counted from 1; 0 where it names none
 abbrev pub periodOf : Refusal → ℕ
@@ -54,6 +56,7 @@ periodOf WrongEnd = 0
 periodOf NoSuchPeriod = 0
 periodOf SurplusInventory = 0
 periodOf (PaidSetup i) = i
+periodOf (LowStore i) = i
 
 -- the refusal, where its condition holds
 abbrev pub refuse : Bool → Refusal → Option Refusal
@@ -97,10 +100,11 @@ badLengths d =
     (not (eqb (length (d .capacity)) (periods d))
     || not (eqb (length (d .setup)) (periods d))
     || not (eqb (length (d .unit)) (periods d))
-    || not (eqb (length (d .holding)) (periods d)))
+    || not (eqb (length (d .holding)) (periods d))
+    || not (eqb (length (d .store)) (periods d)))
     TableLength
 
--- 3: a value above its limit
+-- 3: a value above its limit; a capacity or a store limit, of 16 bits, never is
 abbrev pub aboveLimit : Day → ℕ → Bool
 aboveLimit d k =
     ltb maxDemand (at (d .demand) k)
@@ -108,6 +112,7 @@ aboveLimit d k =
     || ltb maxSetup (at (d .setup) k)
     || ltb maxRate (at (d .unit) k)
     || ltb maxHalfRate (at (d .holding) k)
+    || ltb maxStore (at (d .store) k)
 
 abbrev pub badValue : Day → Option Refusal
 badValue d = refuseAt AboveLimit (find (aboveLimit d) (periods d))
@@ -128,14 +133,31 @@ badAreas costs needed choices needed′ = refuse (ltb costs needed || ltb choice
 abbrev pub badSlots : (slots needed : ℕ) → Option Refusal
 badSlots slots needed = refuse (ltb slots needed) FewSlots
 
--- 7: R − A above C at some period, or T above C in period n
+-- 7: no amounts for periods 1 to k + 1 keep the conditions through k + 1. The test is on sums; that it says just this of a day that 14 lets pass is
+-- `shortage-names` (theory/specs/Demands).
+-- The most that can have been made after i periods: no more than c in each, and with A no more than R + s after each; 0 where A alone is more
+abbrev pub mostTo : Day → ℕ → ℕ
+mostTo d i = cappedTo (at (d .capacity)) (λ k. demandTo d (suc k) + at (d .store) k - d .opening) i
+
+-- A alone is above R + s, or what must have been made is above that most
 abbrev pub short : Day → ℕ → Bool
-short d k =
-    ltb (capacityTo d (suc k)) (demandTo d (suc k) - d .opening)
-    || (eqb (suc k) (periods d) && ltb (capacityTo d (suc k)) (total d))
+short d k = ltb (demandTo d (suc k) + at (d .store) k) (d .opening) || ltb (mostTo d (suc k)) (netTo d (suc k))
 
 abbrev pub shortage : Day → Option Refusal
 shortage d = refuseAt Shortage (find (short d) (periods d))
+
+-- r is 7 with period k + 1, which fails, as each before it does not
+pub record FirstAt (d : Day) (Fails Passes : ℕ → Type 0) (r : Refusal) : Type 0 where
+  pub k : ℕ
+  pub number : numberOf r ≡ 7
+  pub period : periodOf r ≡ suc k
+  pub inside : k < periods d
+  pub fails : Fails k
+  pub earlier : (j : ℕ) → j < k → Passes j
+
+-- what 7 says: no amounts keep the conditions through that period, and through each before it some do
+abbrev pub FirstShort : Day → Refusal → Type 0
+FirstShort d r = FirstAt d (λ k. (x : ℕ → ℕ) → KeepsTo d (suc k) x → ⊥) (λ k. (x : ℕ → ℕ) × KeepsTo d (suc k) x) r
 
 -- 8: capacities differ
 abbrev pub differs : Day → ℕ → Bool
@@ -161,6 +183,13 @@ paid d k = ltb 0 (at (d .setup) k)
 
 abbrev pub paidSetup : Day → Option Refusal
 paidSetup d = refuseAt PaidSetup (find (paid d) (periods d))
+
+-- 16: a store limit is below R + Z, so it may bind
+abbrev pub tight : Day → ℕ → Bool
+tight d k = ltb (at (d .store) k) (required d)
+
+abbrev pub lowStore : Day → Option Refusal
+lowStore d = refuseAt LowStore (find (tight d) (periods d))
 
 -- the tests that open every call on tables: 1, 2, 3
 abbrev pub tableTests : Day → List (Option Refusal)

@@ -10,7 +10,7 @@ use native.Mathlib.Decide.{decLe, decLt, ℕ-discrete}
 use native.Mathlib.Omega.{arith}
 use Rattle.day.specs.Sums.{at, sumTo, below, sum-ext, listOf, at-listOf}
 use Rattle.day.specs.Day.{Day, periods, demandTo, required}
-use Rattle.day.specs.Plan.{costAt, cost, Feasible, Smaller, Precedes, Optimal}
+use Rattle.day.specs.Plan.{inventory, costAt, cost, KeepsTo, Feasible, Smaller, Precedes, Optimal}
 
 -- a test that passed gives its proof
 pub given : {A : Type 0} (o : Option A) → IsSome o → A
@@ -69,13 +69,14 @@ below? p? zero = yes (λ k l. absurd (omega arith))
 below? p? (suc n) = both-below n (below? p? n) (p? n)
 
 -- the definitions of `Plan`, decided
-unfoldable pub feasible? : (d : Day) (x : ℕ → ℕ) → Dec (Feasible d x)
-feasible? d x =
+unfoldable pub keeps? : (d : Day) (i : ℕ) (x : ℕ → ℕ) → Dec (KeepsTo d i x)
+keeps? d i x =
     iff?
-    (λ p. record { served = p .0; ends = p .1 .0; within = p .1 .1 })
-    (λ f. (f .served, (f .ends, f .within)))
-    (Dec·and (below? (λ k. decLe (demandTo d (suc k)) (d .opening + sumTo x (suc k))) (periods d))
-    (Dec·and (ℕ-discrete (d .opening + sumTo x (periods d)) (required d)) (below? (λ k. decLe (x k) (at (d .capacity) k)) (periods d))))
+    (λ p. record { served = p .0; ends = p .1 .0; within = p .1 .1 .0; stored = p .1 .1 .1 })
+    (λ f. (f .served, (f .ends, (f .within, f .stored))))
+    (Dec·and (below? (λ k. decLe (demandTo d (suc k)) (d .opening + sumTo x (suc k))) i)
+    (Dec·and (implies? (ℕ-discrete i (periods d)) (ℕ-discrete (d .opening + sumTo x i) (required d)))
+    (Dec·and (below? (λ k. decLe (x k) (at (d .capacity) k)) i) (below? (λ k. decLe (inventory d x (suc k)) (at (d .store) k)) i))))
 
 unfoldable pub smaller? : (n : ℕ) (x y : ℕ → ℕ) → Dec (Smaller n x y)
 smaller? n x y =
@@ -93,29 +94,33 @@ precedes? costs n x y =
     (λ p. (p .cheap, p .small))
     (Dec·and (decLe (costs x) (costs y)) (implies? (ℕ-discrete (costs x) (costs y)) (smaller? n x y)))
 
--- only the amounts in the day's periods count
+-- only the amounts in the periods that are spoken of count
+pub kept-alike : (d : Day) (i : ℕ) (x y : ℕ → ℕ) → ((k : ℕ) → k < i → x k ≡ y k) → KeepsTo d i x → KeepsTo d i y
+kept-alike d i x y same f =
+    record {
+      served = λ k l. omega (arith, f .served k l, sums (suc k) l);
+      ends = λ e. omega (arith, f .ends e, sums i (omega arith));
+      within = λ k l. omega (arith, f .within k l, same k l);
+      stored = λ k l. omega (arith, f .stored k l, sums (suc k) l);
+    }
+  where
+    sums : (j : ℕ) → j ≤ i → sumTo x j ≡ sumTo y j
+    sums j l = sum-ext x y j (λ k h. same k (omega arith))
+
 module _ (d : Day) (x y : ℕ → ℕ) (same : (k : ℕ) → k < periods d → x k ≡ y k) where
   pub sums-alike : (i : ℕ) → i ≤ periods d → sumTo x i ≡ sumTo y i
   sums-alike i l = sum-ext x y i (λ j h. same j (omega arith))
 
-  pub feasible-alike : Feasible d x → Feasible d y
-  feasible-alike f =
-      record {
-        served = λ k l. omega (arith, f .served k l, sums-alike (suc k) l);
-        ends = omega (arith, f .ends, sums-alike (periods d) (omega arith));
-        within = λ k l. omega (arith, f .within k l, same k l);
-      }
-
   pub cost-alike : cost d x ≡ cost d y
   cost-alike = sum-ext (costAt d x) (costAt d y) (periods d) (λ k l. let s = sums-alike k (omega arith) in let e = same k l in rw (s, e) refl)
 
--- of a fact about every feasible plan
-abbrev pub everyFeasible : (d : Day) {P : (ℕ → ℕ) → Type 0} → ((y : ℕ → ℕ) → Option (P y))
-    → Option ((y : ℕ → ℕ) → Feasible d y → P (at (listOf y (periods d))))
-everyFeasible d p =
+-- of a fact about all amounts that keep the conditions through i
+abbrev pub everyKept : (d : Day) (i : ℕ) {P : (ℕ → ℕ) → Type 0} → ((y : ℕ → ℕ) → Option (P y))
+    → Option ((y : ℕ → ℕ) → KeepsTo d i y → P (at (listOf y i)))
+everyKept d i p =
     Option·map
-    (λ all y f. all y (f .within) (feasible-alike d y (at (listOf y (periods d))) (λ k l. sym (at-listOf y (periods d) k l)) f))
-    (everyPlan (λ l. onlyIf (feasible? d (at l)) (p (at l))) (at (d .capacity)) (periods d))
+    (λ all y f. all y (f .within) (kept-alike d i y (at (listOf y i)) (λ k l. sym (at-listOf y i k l)) f))
+    (everyPlan (λ l. onlyIf (keeps? d i (at l)) (p (at l))) (at (d .capacity)) i)
 
 -- what precedes the plans that the search meets precedes all
 pub precedes-all : (d : Day) (x : ℕ → ℕ) → ((y : ℕ → ℕ) → Feasible d y → Precedes (cost d) (periods d) x (at (listOf y (periods d))))
@@ -134,8 +139,8 @@ abbrev pub optimal? : (d : Day) (x : ℕ → ℕ) → Option (Optimal d x)
 optimal? d x =
     Option·map
     (λ p. record { feasible = p .0; first = precedes-all d x (p .1) })
-    (both (sure (feasible? d x)) (everyFeasible d (λ y. sure (precedes? (cost d) (periods d) x y))))
+    (both (sure (keeps? d (periods d) x)) (everyKept d (periods d) (λ y. sure (precedes? (cost d) (periods d) x y))))
 
--- Where the search meets no feasible plan, there is none.
-abbrev pub none? : (d : Day) → Option ((y : ℕ → ℕ) → Feasible d y → ⊥)
-none? d = everyFeasible d {P = λ _. ⊥} (λ y. none)
+-- Where the search meets no amounts that keep the conditions through i, there are none.
+abbrev pub none? : (d : Day) (i : ℕ) → Option ((y : ℕ → ℕ) → KeepsTo d i y → ⊥)
+none? d i = everyKept d i {P = λ _. ⊥} (λ y. none)

@@ -4,8 +4,9 @@
 use mathlib.Core.Path.{_≡_, refl, ap, ap₂}
 use mathlib.Core.List.{List, [], _∷_}
 use mathlib.Core.Logic.{⊎-elim}
-use Prim.Native.Nat.{ℕ, zero, suc, _+_, _≤_, _<_, suc-le-suc}
+use Prim.Native.Nat.{ℕ, zero, suc, _+_, _*_, _≤_, _<_, min, suc-le-suc}
 use native.Mathlib.Nat.{eq-or-lt-of-le, le-of-suc-le-suc}
+use native.Mathlib.Numerals.{add-one}
 use native.Mathlib.Omega.{arith}
 use lib.ListN.{getD, length}
 use lib.Arith.{le-zero}
@@ -19,10 +20,19 @@ abbrev pub sumTo : (ℕ → ℕ) → ℕ → ℕ
 sumTo f zero = 0
 sumTo f (suc i) = sumTo f i + f i
 
+-- the same, but after each term no more than u: u k after f k
+abbrev pub cappedTo : (f u : ℕ → ℕ) → ℕ → ℕ
+cappedTo f u zero = 0
+cappedTo f u (suc i) = min (cappedTo f u i + f i) (u i)
+
 -- r is the value, and at most `top`: what a sum of such terms needs so that it fits
 pub record Term (value top r : ℕ) : Type 0 where
   pub is : r ≡ value
   pub low : r ≤ top
+
+-- a running sum of terms that are at most `top`: one term more
+pub term-more : (f : ℕ → ℕ) (top i : ℕ) {sum : ℕ} → Term (sumTo f i) (top * i) sum → f i ≤ top → Term (sumTo f (i + 1)) (top * (i + 1)) (sum + f i)
+term-more f top i t l = rw (add-one i) (record { is = omega (arith, t .is); low = omega (arith, t .low) })
 
 -- what holds below i and at i holds below i + 1
 pub below : (P : ℕ → Type 0) (i : ℕ) → ((k : ℕ) → k < i → P k) → P i → (k : ℕ) → k < suc i → P k

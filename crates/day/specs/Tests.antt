@@ -10,7 +10,7 @@ use lib.ListN.{getD}
 use Rattle.day.specs.declared.Refusal.{Refusal}
 use Rattle.day.specs.declared.Refusal.the-variants.{PeriodCount, TableLength, AboveLimit, TotalDemand, ShortArea, FewSlots, Shortage}
 use Rattle.day.specs.declared.Refusal.the-variants.{UnequalCapacities, BindingCapacity}
-use Rattle.day.specs.declared.Refusal.the-variants.{UnknownKind, TruncatedFile, WrongEnd, NoSuchPeriod, SurplusInventory, PaidSetup}
+use Rattle.day.specs.declared.Refusal.the-variants.{UnknownKind, TruncatedFile, WrongEnd, NoSuchPeriod, SurplusInventory, PaidSetup, LowStore}
 use Rattle.day.specs.declared.Check.{Check}
 use Rattle.day.specs.declared.Check.the-variants.{Passed, Refused}
 use Rattle.day.specs.Refusals.{numberOf, periodOf, Gives, refuse, refuseAt, orNext, first, checked}
@@ -46,9 +46,10 @@ withNumber number i =
     ∷ WrongEnd
     ∷ NoSuchPeriod
     ∷ SurplusInventory
+    ∷ PaidSetup i
     ∷ [])
     number
-    (PaidSetup i)
+    (LowStore i)
 
 number-fixes : (r : Refusal) → withNumber (numberOf r) (periodOf r) ≡ r
 unfolding withNumber
@@ -67,6 +68,7 @@ number-fixes WrongEnd = refl
 number-fixes NoSuchPeriod = refl
 number-fixes SurplusInventory = refl
 number-fixes (PaidSetup i) = refl
+number-fixes (LowStore i) = refl
 
 -- number and period fix a refusal: what is given is the first in order, and the other way round
 pub gives-is : {o : Option Refusal} {r : Refusal} → Gives o r → o ≡ some r
@@ -102,6 +104,21 @@ first-split (some r ∷ xs) ys e = absurd (Option·some-ne-none _ e)
 pub first-one : (o : Option Refusal) → first (o ∷ []) ≡ o
 first-one none = refl
 first-one (some r) = refl
+
+-- a list of two without refusals
+pub first-two : (o p : Option Refusal) → first (o ∷ p ∷ []) ≡ none → (o ≡ none) × (p ≡ none)
+first-two none p e = (refl, sym (first-one p) ∙ e)
+first-two (some r) p e = absurd (Option·some-ne-none _ e)
+
+-- the answers of two tests in order
+abbrev pub inOrder : Check → Check → Check
+inOrder Passed c = c
+inOrder (Refused r) c = Refused r
+
+pub in-order : (o p : Option Refusal) {test answer : Check} → test ≡ checked o → answer ≡ inOrder test (checked p)
+    → answer ≡ checked (first (o ∷ p ∷ []))
+in-order none p is e = rw is at e ∙ ap checked (sym (first-one p))
+in-order (some r) p is e = rw is at e
 
 pub alone : (o : Option Refusal) {answer : Check} → answer ≡ checked o → answer ≡ checked (first (o ∷ []))
 alone none is = is

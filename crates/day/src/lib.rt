@@ -20,6 +20,7 @@ pub enum Refusal {
     NoSuchPeriod,
     SurplusInventory,
     PaidSetup(u16),
+    LowStore(u16),
 }
 
 impl Refusal {
@@ -42,6 +43,7 @@ impl Refusal {
             Refusal::NoSuchPeriod => 13,
             Refusal::SurplusInventory => 14,
             Refusal::PaidSetup(_) => 15,
+            Refusal::LowStore(_) => 16,
         }
     }
 
@@ -64,6 +66,7 @@ impl Refusal {
             Refusal::NoSuchPeriod => 0,
             Refusal::SurplusInventory => 0,
             Refusal::PaidSetup(i) => i,
+            Refusal::LowStore(i) => i,
         }
     }
 }

@@ -6,10 +6,10 @@ use mathlib.Core.List.{List, [], _∷_, _++_}
 use Prim.Native.Nat.{ℕ, _+_, _-_, _≤_, min}
 use lib.ListN.{length, take, drop}
 use denote.Ref.{RefT, now}
-use Rattle.day.specs.Sums.{listOf}
+use Rattle.day.specs.Sums.{at, listOf}
 use Rattle.day.specs.declared.Ends.{Ends}
 use Rattle.day.specs.Day.{Day, dayOf, tablesOf, periods}
-use Rattle.day.specs.File.{body, recordAt, number2, number4, periodsIn, walk, noSuchPeriod, chargeIn, field, dayIn, fileOf}
+use Rattle.day.specs.File.{bodyLength, body, recordAt, number2, number4, periodsIn, walk, noSuchPeriod, chargeIn, field, storeIn, dayIn, fileOf}
 use Rattle.day.specs.Refusals.{Gives, first, badCount, badSlots, badValue, tableTests}
 use Rattle.day.specs.declared.Refusal.{Refusal}
 use Rattle.day.specs.Figures.{Figures, acceptedWith, refusedWith}
@@ -25,6 +25,7 @@ pub record Cells (n : ℕ) (tables : Day) : Type 0 where
   pub setup : n ≤ length (tables .setup)
   pub unit : n ≤ length (tables .unit)
   pub holding : n ≤ length (tables .holding)
+  pub store : n ≤ length (tables .store)
 
 -- what opens every call on a file: the walk (10, 11, 12), then 1
 abbrev pub fileTests : List ℕ → List (Option Refusal)
@@ -50,7 +51,7 @@ Lookup file i r = Part (badLookup (now file) i) file i r
 
 -- a lookup in figures: where the part begins in the file, counted from 0, and how long it is
 abbrev pub partFigures : Option Refusal → List ℕ → ℕ → Figures ℕ
-partFigures none s i = acceptedWith ((recordAt s (i - 1) + 1) ∷ 16 ∷ [])
+partFigures none s i = let p = recordAt s (i - 1) in acceptedWith ((p + 1) ∷ bodyLength (at s p) ∷ [])
 partFigures (some r) s i = refusedWith r
 
 abbrev pub lookupFigures : List ℕ → ℕ → Figures ℕ
@@ -64,7 +65,8 @@ badRead s cells = first (fileTests s ++ (badSlots cells (periodsIn s) ∷ badVal
 abbrev pub shortest : Day → ℕ
 shortest tables =
     min (length (tables .demand))
-    (min (length (tables .capacity)) (min (length (tables .setup)) (min (length (tables .unit)) (length (tables .holding)))))
+    (min (length (tables .capacity))
+    (min (length (tables .setup)) (min (length (tables .unit)) (min (length (tables .holding)) (length (tables .store))))))
 
 -- a table whose first k cells take f 0, .. f (k - 1), and whose later cells stay
 abbrev pub withFirst : (ℕ → ℕ) → ℕ → List ℕ → List ℕ
@@ -79,6 +81,7 @@ withPeriods s k tables =
     (withFirst (field number4 4 s) k (tables .setup))
     (withFirst (field number4 8 s) k (tables .unit))
     (withFirst (field number4 12 s) k (tables .holding))
+    (withFirst (storeIn s) k (tables .store))
 
 -- and of all its periods: the file's day at the tables' front
 abbrev pub withDay : List ℕ → Day → Day
@@ -94,10 +97,18 @@ withTables d tables =
     (d .setup ++ drop n (tables .setup))
     (d .unit ++ drop n (tables .unit))
     (d .holding ++ drop n (tables .holding))
+    (d .store ++ drop n (tables .store))
 
 abbrev pub firstOf : ℕ → Day → Ends → Day
 firstOf n tables ends =
-    dayOf (take n (tables .demand)) (take n (tables .capacity)) (take n (tables .setup)) (take n (tables .unit)) (take n (tables .holding)) ends
+    dayOf
+    (take n (tables .demand))
+    (take n (tables .capacity))
+    (take n (tables .setup))
+    (take n (tables .unit))
+    (take n (tables .holding))
+    (take n (tables .store))
+    ends
 
 -- a reading's answer in figures: the count of periods, A, Z
 abbrev pub readFigures : ReadAnswer → Figures ℕ

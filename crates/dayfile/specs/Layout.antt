@@ -1,30 +1,32 @@
 -- Laws of the layout.
---     whole-record, whole-charges     what the tests of a record say of it
---     period-at                       the records that `periodsIn` counts are whole periods
---     walked-none, -more, -end        a walk over the period records, record by record
---     day-in-front, with-day          the tables that a reading filled begin with the file's day
---     laid-out; counted, walk-clean   the walk meets no fault exactly if the file is laid out as `Layout` says
+--     whole-record, whole-period, whole-charges   what the tests of a record say of it
+--     period-at                                   the records that `periodsIn` counts are whole periods
+--     walked-none, -more, -end; walk-stops        a walk over the period records, record by record; where it stops
+--     day-in-front, with-day                      the tables that a reading filled begin with the file's day
+--     laid-out; counted, walk-clean               the walk meets no fault exactly if the file is laid out as `Layout` says
 -- Assumes nothing.
 use mathlib.Core.Path.{_≡_, refl, ap, _∙_}
-use mathlib.Core.Bool.{Bool, true, false, not, _&&_, cond}
+use mathlib.Core.Bool.{Bool, true, false, not, _&&_, _||_, or-true, cond}
 use mathlib.Core.List.{List, [], _∷_}
 use mathlib.Core.Option.{Option, none, some}
 use Prim.Native.Nat.{ℕ, zero, suc, _+_, _-_, _≤_, _<_}
 use native.Mathlib.Omega.{arith}
 use native.Mathlib.Nat.{eq-or-lt-of-le, le-of-suc-le-suc, add-sub-cancel-left}
-use mathlib.Core.Logic.{⊎-elim}
+use mathlib.Core.Logic.{inl, inr, ⊎-elim}
 use lib.Arith.{le-zero}
-use lib.Dec.{eqb, leb}
+use lib.Dec.{eqb, leb, ltb}
 use lib.ListN.{length, take, drop, length-take, length-drop}
-use borrow.Author.Tests.{eqb-true, leb-true, lt-ltb, le-ltb, le-leb, eq-eqb, not-true, not-false}
+use borrow.Author.Tests.{eqb-true, leb-true, ltb-true, lt-ltb, le-ltb, le-leb, eq-eqb, not-true, not-false}
 use lib.Seq.{take-at}
 use Rattle.day.specs.Sums.{at, listOf, length-listOf}
 use Rattle.day.specs.declared.Ends.{Ends}
-use Rattle.day.specs.Day.{Day, endsOf, maxPeriods}
-use Rattle.day.specs.Find.{find, find-none, find-here, nothing-found, some-found}
+use Rattle.day.specs.Day.{Day, endsOf, maxPeriods, maxStore}
+use Rattle.day.specs.declared.Refusal.the-variants.{UnknownKind}
+use Rattle.day.specs.Refusals.{refuse}
+use Rattle.day.specs.Find.{find, find-none, find-here, some-found}
 use Rattle.day.specs.Tests.{not-refused, neither}
-use Rattle.day.specs.File.{periodKind, chargeKind, bodyLength, body, next, number2, isRecord, isPeriod, bothZero, isCharges, headEnd, recordAt}
-use Rattle.day.specs.File.{Layout, orZero, periodsIn, unknownKind, misplaced, truncated, wrongEnd, walk, field, dayIn}
+use Rattle.day.specs.File.{periodKind, chargeKind, storeKind, isKind, bodyLength, body, next, number2, isRecord, isPeriod, bothZero, isCharges, headEnd}
+use Rattle.day.specs.File.{recordAt, PeriodAt, Layout, orZero, periodsIn, unknownKind, misplaced, truncated, wrongEnd, badEnd, walk, field, storeIn, dayIn}
 use Rattle.checks.specs.Passed.{SameLengths, Readable}
 use Rattle.dayfile.specs.Answers.{withFirst, withDay, withTables, firstOf}
 use Rattle.dayfile.specs.Passed.{each-passed}
@@ -44,6 +46,30 @@ whole-record x s p e = go (eqb (at s p) x) refl e
 pub record-whole : (x : ℕ) (s : List ℕ) (p : ℕ) → WholeRecord x s p → isRecord x s p ≡ true
 record-whole x s p w = rw (eq-eqb (at s p) x (w .kind), le-leb (next s p) (length s) (w .whole)) refl
 
+-- a whole period record
+pub record WholePeriod (s : List ℕ) (p : ℕ) : Type 0 where
+  pub kind : PeriodAt s p
+  pub whole : next s p ≤ length s
+
+pub whole-period : (s : List ℕ) (p : ℕ) → isPeriod s p ≡ true → WholePeriod s p
+whole-period s p e = go (isRecord periodKind s p) (isRecord storeKind s p) refl refl e
+  where
+    go : (a b : Bool) → isRecord periodKind s p ≡ a → isRecord storeKind s p ≡ b → (a || (b && ltb (number2 (body s p) 16) maxStore)) ≡ true
+        → WholePeriod s p
+    go true b qa qb t = let w = whole-record periodKind s p qa in record { kind = inl (w .kind); whole = w .whole }
+    go false true qa qb t = let w = whole-record storeKind s p qb in record { kind = inr (w .kind, ltb-true _ _ t); whole = w .whole }
+    go false false qa qb t = let z : _≡_ {A = ℕ} 0 1 = cc in absurd (omega arith)
+
+pub period-whole : (s : List ℕ) (p : ℕ) → WholePeriod s p → isPeriod s p ≡ true
+period-whole s p w =
+    ⊎-elim
+    (λ e. rw (here periodKind e) refl)
+    (λ e. rw (here storeKind (e .0), lt-ltb (number2 (body s p) 16) maxStore (e .1)) (or-true (isRecord periodKind s p)))
+    (w .kind)
+  where
+    here : (x : ℕ) → at s p ≡ x → isRecord x s p ≡ true
+    here x e = record-whole x s p (record { kind = e; whole = w .whole })
+
 -- a whole record of charges, not both 0
 pub record WholeCharges (s : List ℕ) (p : ℕ) : Type 0 where
   pub here : WholeRecord chargeKind s p
@@ -61,11 +87,18 @@ pub body-part : (s : List ℕ) (p : ℕ) {end : ℕ} → end ≡ next s p → ta
 body-part s p e = rw (e, add-sub-cancel-left) refl
 
 -- a whole body is as long as its kind says
+pub body-whole : (s : List ℕ) (p : ℕ) → next s p ≤ length s → length (body s p) ≡ bodyLength (at s p)
+body-whole s p l = simp (length-take, length-drop) (omega arith)
+
 pub whole-body : (x : ℕ) (s : List ℕ) (p : ℕ) → WholeRecord x s p → length (body s p) ≡ bodyLength x
-whole-body x s p w = long (w .whole) ∙ ap bodyLength (w .kind)
-  where
-    long : next s p ≤ length s → length (body s p) ≡ bodyLength (at s p)
-    long l = simp (length-take, length-drop) (omega arith)
+whole-body x s p w = body-whole s p (w .whole) ∙ ap bodyLength (w .kind)
+
+-- the store limit that a period record holds, by its kind
+pub store-none : (s : List ℕ) (k : ℕ) → at s (recordAt s k) ≡ periodKind → storeIn s k ≡ maxStore
+store-none s k e = ap (λ (x : ℕ). cond (eqb x storeKind) (field number2 16 s k) maxStore) e
+
+pub store-there : (s : List ℕ) (k : ℕ) → at s (recordAt s k) ≡ storeKind → storeIn s k ≡ field number2 16 s k
+store-there s k e = ap (λ (x : ℕ). cond (eqb x storeKind) (field number2 16 s k) maxStore) e
 
 -- the head ends inside the file
 head-inside : (s : List ℕ) → headEnd s ≤ length s
@@ -79,18 +112,13 @@ head-inside s = go (isCharges s 0) refl
 abbrev stops : List ℕ → ℕ → Bool
 stops s i = not (isPeriod s (recordAt s i))
 
--- every record has a byte at least
-record-far : (s : List ℕ) (i : ℕ) → i ≤ recordAt s i
-record-far s zero = omega arith
-record-far s (suc i) = omega (arith, record-far s i)
-
 -- the records that are counted are whole periods
-pub period-at : (s : List ℕ) (i : ℕ) → i < periodsIn s → WholeRecord periodKind s (recordAt s i)
+pub period-at : (s : List ℕ) (i : ℕ) → i < periodsIn s → WholePeriod s (recordAt s i)
 period-at s i = go (find (stops s) (suc (length s))) refl
   where
-    go : (o : Option ℕ) → find (stops s) (suc (length s)) ≡ o → i < orZero o → WholeRecord periodKind s (recordAt s i)
+    go : (o : Option ℕ) → find (stops s) (suc (length s)) ≡ o → i < orZero o → WholePeriod s (recordAt s i)
     go none e l = absurd (omega arith)
-    go (some k) e l = whole-record periodKind s (recordAt s i) (not-false _ (some-found (stops s) (suc (length s)) k e .first i l))
+    go (some k) e l = whole-period s (recordAt s i) (not-false _ (some-found (stops s) (suc (length s)) k e .first i l))
 
 -- a walk that has passed n whole periods stands at byte p
 pub record Walked (s : List ℕ) (n p : ℕ) : Type 0 where
@@ -107,12 +135,28 @@ walked-more s n p w t = record {
   here = rw (w .here) refl;
   passed = find-none (stops s) n (w .passed) (rw (← w .here, t) refl);
   far = omega (arith, w .far);
-  inside = whole-record periodKind s p t .whole;
+  inside = whole-period s p t .whole;
 }
 
 pub walked-end : (s : List ℕ) (n p : ℕ) → Walked s n p → isPeriod s p ≡ false → periodsIn s ≡ n
 walked-end s n p w f =
     rw (find-here (stops s) n (suc (length s)) (w .passed) (rw (← w .here, f) refl) (omega (arith, w .far, w .inside))) refl
+
+-- and so it goes past n whole periods
+pub walked : (s : List ℕ) (n : ℕ) → ((i : ℕ) → i < n → WholePeriod s (recordAt s i)) → Walked s n (recordAt s n)
+walked s zero h = walked-none s
+walked s (suc n) h = walked-more s n (recordAt s n) (walked s n (λ i l. h i (omega arith))) (period-whole s (recordAt s n) (h n (omega arith)))
+
+-- what is no whole period is tested as the end record
+pub walk-stops : (s : List ℕ) (n p : ℕ) → Walked s n p → isPeriod s p ≡ false → walk s ≡ badEnd s p n
+walk-stops s n p w f = rw (walked-end s n p w f, ← w .here) refl
+
+pub known-kind : (s : List ℕ) (p x : ℕ) → at s p ≡ x → isKind x ≡ true → unknownKind s p ≡ none
+known-kind s p x e k = rw (e, k) (go (ltb p (length s)))
+  where
+    go : (b : Bool) → refuse (b && false) UnknownKind ≡ none
+    go true = refl
+    go false = refl
 
 -- a file whose walk meets no fault is laid out as the documents say
 pub laid-out : (s : List ℕ) → walk s ≡ none → Layout s (periodsIn s)
@@ -139,15 +183,10 @@ record-grows s i (suc n) h =
 
 -- a file that is laid out so has that many periods, and its walk meets no fault
 pub counted : (s : List ℕ) (n : ℕ) → Layout s n → periodsIn s ≡ n
-counted s n w =
-    walked-end s n (recordAt s n)
-    (record { here = refl; passed = nothing-found (stops s) n passed; far = record-far s n; inside = omega (arith, w .size) })
-    (rw (w .ends) refl)
+counted s n w = walked-end s n (recordAt s n) (walked s n passed) (rw (w .ends) refl)
   where
-    passed : (i : ℕ) → i < n → stops s i ≡ false
-    passed i l =
-        let far = record-grows s (suc i) n l in
-        rw (record-whole periodKind s (recordAt s i) (record { kind = w .periods i l; whole = omega (arith, w .size) })) refl
+    passed : (i : ℕ) → i < n → WholePeriod s (recordAt s i)
+    passed i l = record { kind = w .periods i l; whole = omega (arith, w .size, record-grows s (suc i) n l) }
 
 pub walk-clean : (s : List ℕ) (n : ℕ) → Layout s n → walk s ≡ none
 walk-clean s n w =
@@ -165,6 +204,7 @@ day-lengths s = record {
   setup = simp length-listOf;
   unit = simp length-listOf;
   holding = simp length-listOf;
+  store = simp length-listOf;
 }
 
 pub day-readable : (s : List ℕ) → periodsIn s ≤ maxPeriods → Readable (dayIn s)

@@ -1,24 +1,28 @@
 -- What demand 2 asks of the lookup, from its contract (`Answers`) and the layout (the crate day's `File`):
 --     lookup-hands-out        the part that a lookup hands out is where the layout has that period
---     place-holds             where its figures point the record's body stands
---     file-size               a file of n periods has 17 × n + 3 bytes, 5 more where there is a head
---     longest-file            with at most 96 periods it has at most 1,640 bytes
+--     place-holds             the figures of a lookup point there, and there the record's body stands
+--     file-size               a file of n periods has 17 × n + 3 bytes, 5 more where there is a head, and 2 more for each store limit below 65,535
+--     longest-file            with at most 96 periods it has at most 1,832 bytes
 -- Assumes nothing.
-use mathlib.Core.Path.{_≡_, refl}
+use mathlib.Core.Path.{_≡_, refl, ap₂, _∙_}
 use mathlib.Core.Bool.{Bool, true, false, cond}
-use mathlib.Core.List.{List}
+use mathlib.Core.List.{List, [], _∷_}
+use mathlib.Core.Logic.{⊎-elim}
 use mathlib.Core.Option.{none}
 use Prim.Native.Nat.{ℕ, zero, suc, _+_, _-_, _*_, _≤_, _<_}
 use native.Mathlib.Omega.{arith}
 use denote.Ref.{RefT, now}
+use lib.Dec.{ltb}
 use lib.ListN.{length, take, drop}
 use lib.Seq.{getD-take, getD-drop}
-use Rattle.day.specs.Sums.{at}
-use Rattle.day.specs.Day.{maxPeriods}
-use Rattle.day.specs.File.{periodKind, body, bodyLength, next, isCharges, headEnd, recordAt, Layout, periodsIn}
-use Rattle.dayfile.specs.Answers.{BodyAt, badLookup, Lookup}
+use borrow.Author.Tests.{lt-ltb}
+use Rattle.day.specs.Sums.{at, sumTo}
+use Rattle.day.specs.Day.{maxPeriods, maxStore}
+use Rattle.day.specs.Figures.{acceptedWith}
+use Rattle.day.specs.File.{body, bodyLength, next, isCharges, headEnd, recordAt, Layout, periodsIn, storeIn, bytes2, limitOf}
+use Rattle.dayfile.specs.Answers.{BodyAt, badLookup, Lookup, lookupFigures}
 use Rattle.dayfile.specs.Passed.{lookup-passed}
-use Rattle.dayfile.specs.Layout.{whole-charges, whole-body, period-at, counted}
+use Rattle.dayfile.specs.Layout.{whole-charges, body-whole, period-at, store-none, store-there, counted}
 
 -- the head has 5 bytes, where there is one
 abbrev pub headSize : List ℕ → ℕ
@@ -31,19 +35,42 @@ head-size s = go (isCharges s 0) refl
     go true q = rw (whole-charges s 0 q .here .kind) refl
     go false q = refl
 
--- a period record has 17 bytes
-record-17 : (s : List ℕ) (k : ℕ) → k ≤ periodsIn s → recordAt s k ≡ headSize s + 17 * k
-record-17 s zero l = omega (arith, head-size s)
-record-17 s (suc k) l = rw (period-at s k l .kind) (omega (arith, record-17 s k (omega arith)))
+-- the bytes of k period records with these store limits: 17 each, and 2 more where the limit is below 65,535
+abbrev pub recordBytes : (ℕ → ℕ) → ℕ → ℕ
+recordBytes store k = sumTo (λ j. 17 + length (limitOf (store j))) k
 
--- where the body of period i begins: at byte 17 × (i − 1) + 1 of the file, 5 more where there is a head
+pub most-bytes : (store : ℕ → ℕ) (k : ℕ) → recordBytes store k ≤ 19 * k
+most-bytes store zero = omega arith
+most-bytes store (suc k) = omega (arith, most-bytes store k, most (ltb (store k) maxStore))
+  where
+    most : (b : Bool) → length (cond b (bytes2 (store k)) []) ≤ 2
+    most true = omega arith
+    most false = omega arith
+
+-- the body of period k + 1 has 16 bytes, and those of its store limit
+period-size : (s : List ℕ) (k : ℕ) → k < periodsIn s → bodyLength (at s (recordAt s k)) ≡ 16 + length (limitOf (storeIn s k))
+period-size s k l =
+    ⊎-elim
+    (λ e. rw (store-none s k e, e) refl)
+    (λ e. rw (store-there s k (e .0), lt-ltb _ _ (e .1), e .0) refl)
+    (period-at s k l .kind)
+
+record-place : (s : List ℕ) (k : ℕ) → k ≤ periodsIn s → recordAt s k ≡ headSize s + recordBytes (storeIn s) k
+record-place s zero l = omega (arith, head-size s)
+record-place s (suc k) l = omega (arith, period-size s k l, record-place s k (omega arith))
+
+-- where the body of period i begins: after the head, the records of the earlier periods, and its kind
 abbrev pub bodyStart : List ℕ → ℕ → ℕ
-bodyStart s i = headSize s + 17 * (i - 1) + 1
+bodyStart s i = headSize s + recordBytes (storeIn s) (i - 1) + 1
 
--- the part that a lookup of period i hands out: 16 bytes, those from there on, in the file's own memory
+-- how many bytes it has: 16, and 2 more where its store limit is below 65,535
+abbrev pub bodySize : List ℕ → ℕ → ℕ
+bodySize s i = 16 + length (limitOf (storeIn s (i - 1)))
+
+-- the part that a lookup of period i hands out: so many bytes, those from there on, in the file's own memory
 pub record Handed (file : RefT (List ℕ)) (i : ℕ) (r : RefT (List ℕ)) : Type 0 where
-  pub size : length (now r) ≡ 16
-  pub bytes : (j : ℕ) → j < 16 → at (now r) j ≡ at (now file) (bodyStart (now file) i + j)
+  pub size : length (now r) ≡ bodySize (now file) i
+  pub bytes : (j : ℕ) → j < bodySize (now file) i → at (now r) j ≡ at (now file) (bodyStart (now file) i + j)
   pub block : r .ptr .0 ≡ file .ptr .0
   pub offset : r .ptr .1 ≡ file .ptr .1 + bodyStart (now file) i
 
@@ -55,26 +82,34 @@ lookup-hands-out file i r e w = go (rw e at w) (lookup-passed (now file) i e)
     go b l =
         let s = now file in
         let k = i - 1 in
-        let p = record-17 s k (omega arith) in
-        let whole = period-at s k (omega arith) in
+        let p = record-place s k (omega arith) in
+        let size = period-size s k (omega arith) in
+        let long = bodyLength (at s (recordAt s k)) in
         record {
-          size = rw (b .bytes) (whole-body periodKind s (recordAt s k) whole);
-          bytes = λ j lt. rw (b .bytes, whole .kind, getD-take 16 (drop (recordAt s k + 1) s) j 0 lt, getD-drop, p) refl;
+          size = rw (b .bytes) (body-whole s (recordAt s k) (period-at s k (omega arith) .whole) ∙ size);
+          bytes = λ j lt. rw (b .bytes, getD-take long (drop (recordAt s k + 1) s) j 0 (omega arith), getD-drop, p) refl;
           block = b .block;
           offset = rw p at (b .offset);
         }
 
-pub place-holds : (s : List ℕ) (i : ℕ) → badLookup s i ≡ none → take 16 (drop (recordAt s (i - 1) + 1) s) ≡ body s (recordAt s (i - 1))
-place-holds s i e = rw (period-at s (i - 1) (omega (arith, lookup-passed s i e)) .kind) refl
+pub place-holds : (s : List ℕ) (i : ℕ) → badLookup s i ≡ none
+    → (lookupFigures s i ≡ acceptedWith (bodyStart s i ∷ bodySize s i ∷ []))
+    × (take (bodySize s i) (drop (bodyStart s i) s) ≡ body s (recordAt s (i - 1)))
+place-holds s i e =
+    let l = lookup-passed s i e in
+    let k = i - 1 in
+    let size = period-size s k (omega arith) in
+    let p = record-place s k (omega arith) in
+    (rw e (ap₂ (λ (a b : ℕ). acceptedWith ((a + 1) ∷ b ∷ [])) p size), rw (← size, ← p) refl)
 
-pub file-size : (s : List ℕ) (n : ℕ) → Layout s n → length s ≡ headSize s + 17 * n + 3
+pub file-size : (s : List ℕ) (n : ℕ) → Layout s n → length s ≡ headSize s + recordBytes (storeIn s) n + 3
 file-size s n w =
-    let here = record-17 s n (omega (arith, counted s n w)) in
+    let here = record-place s n (omega (arith, counted s n w)) in
     let kind : bodyLength (at s (recordAt s n)) ≡ 2 = rw (w .ends) refl in
     omega (arith, w .size)
 
-pub longest-file : (s : List ℕ) (n : ℕ) → Layout s n → n ≤ maxPeriods → length s ≤ 1640
-longest-file s n w l = omega (arith, file-size s n w, most (isCharges s 0))
+pub longest-file : (s : List ℕ) (n : ℕ) → Layout s n → n ≤ maxPeriods → length s ≤ 1832
+longest-file s n w l = omega (arith, file-size s n w, most-bytes (storeIn s) n, most (isCharges s 0))
   where
     most : (b : Bool) → cond b 5 0 ≤ 5
     most true = omega arith

@@ -12,11 +12,16 @@ ghost use Rattle.dayfile.specs.Answers.{BodyAt, fileTests};
 use day::Check;
 use day::Refusal;
 
-const PERIOD: u8 = 1;
+pub const PERIOD: u8 = 1;
 
 const END: u8 = 2;
 
 const CHARGES: u8 = 3;
+
+pub const STORE: u8 = 4;
+
+// A store limit that limits nothing: no record holds it.
+pub const NO_LIMIT: u16 = 65535;
 
 fn wide(x: u8) -> u32
     ensures { λ r. ⌜ Term x 255 r ⌝ }
@@ -42,15 +47,15 @@ pub fn number4(body: &[u8], at: usize) -> u32
 fn is_kind(kind: u8) -> bool
     ensures { λ r. ⌜ r ≡ isKind kind ⌝ }
 {
-    if kind == PERIOD {
+    if kind == PERIOD || kind == END {
         return true;
     }
-    kind == END || kind == CHARGES
+    kind == CHARGES || kind == STORE
 }
 
 // How long a body the kind fixes.
 fn body_length(kind: u8) -> usize
-    ensures { λ r. ⌜ Term (bodyLength kind) 16 r ⌝ }
+    ensures { λ r. ⌜ Term (bodyLength kind) 18 r ⌝ }
 {
     if kind == PERIOD {
         return 16;
@@ -60,6 +65,9 @@ fn body_length(kind: u8) -> usize
     }
     if kind == CHARGES {
         return 4;
+    }
+    if kind == STORE {
+        return 18;
     }
     0
 }
@@ -97,10 +105,17 @@ fn is_record(file: &[u8], at: usize, kind: u8) -> bool
     next(file, at) <= file.len()
 }
 
+// Whether a whole period record begins at `at`, with no store limit or with one that limits.
 fn is_period(file: &[u8], at: usize) -> bool
     ensures { λ r. ⌜ r ≡ isPeriod (now (file .entry)) at ⌝ }
 {
-    is_record(file, at, PERIOD)
+    if is_record(file, at, PERIOD) {
+        return true;
+    }
+    if !is_record(file, at, STORE) {
+        return false;
+    }
+    number2(body(file, at), 16) < NO_LIMIT as u32
 }
 
 // Whether a whole record of charges begins at `at`, not both of them 0.

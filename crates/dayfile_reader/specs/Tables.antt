@@ -2,6 +2,7 @@
 -- Main statements: `read-passed`, what an accepted reading tells; `read-turn`, a turn of the loop that fills. Assumes nothing.
 use mathlib.Core.Path.{_≡_, refl, ap, _∙_}
 use mathlib.Core.List.{List, [], _∷_, _++_}
+use mathlib.Core.Logic.{⊎-elim}
 use mathlib.Core.Option.{none}
 use Prim.Native.Nat.{ℕ, zero, suc, _+_, _≤_, _<_}
 use native.Mathlib.Nat.{le-of-suc-le-suc}
@@ -13,11 +14,12 @@ use Rattle.day.specs.Day.{Day, tablesOf, maxPeriods}
 use Rattle.day.specs.declared.Refusal.the-variants.{FewSlots}
 use Rattle.day.specs.Refusals.{badSlots, badValue}
 use Rattle.day.specs.Tests.{not-refused}
-use Rattle.day.specs.File.{periodKind, recordAt, next, body, number2, number4, periodsIn, walk, field, dayIn}
+use Rattle.day.specs.Sums.{at}
+use Rattle.day.specs.File.{recordAt, next, body, number2, number4, periodsIn, walk, field, storeIn, dayIn}
 use Rattle.dayfile.specs.Answers.{Cells, fileTests, shortest, badRead, withFirst, withPeriods}
 use Rattle.checks.specs.Passed.{count-passed}
 use Rattle.dayfile.specs.Passed.{each-passed}
-use Rattle.dayfile.specs.Layout.{WholeRecord, period-at}
+use Rattle.dayfile.specs.Layout.{WholePeriod, body-whole, period-at}
 use Rattle.dayfile_reader.specs.declared.Numbers.{Numbers}
 use Rattle.dayfile_reader.specs.Numbers.{numbersIn}
 
@@ -35,7 +37,14 @@ read-passed s tables e =
     record {
       walked = each .0;
       few = count-passed n (each .1 .0) .1;
-      cells = record { demand = omega arith; capacity = omega arith; setup = omega arith; unit = omega arith; holding = omega arith };
+      cells = record {
+        demand = omega arith;
+        capacity = omega arith;
+        setup = omega arith;
+        unit = omega arith;
+        holding = omega arith;
+        store = omega arith;
+      };
     }
 
 -- cell k of each table takes a period's number
@@ -47,6 +56,7 @@ stored k p tables =
     (set (tables .setup) k (p .setup))
     (set (tables .unit) k (p .unit))
     (set (tables .holding) k (p .holding))
+    (set (tables .store) k (p .store))
 
 pub with-length : (f : ℕ → ℕ) (k : ℕ) (l : List ℕ) → k ≤ length l → length (withFirst f k l) ≡ length l
 with-length f zero l h = refl
@@ -66,6 +76,10 @@ pub record SameCells (before after : Day) : Type 0 where
   pub setup : length (after .setup) ≡ length (before .setup)
   pub unit : length (after .unit) ≡ length (before .unit)
   pub holding : length (after .holding) ≡ length (before .holding)
+  pub store : length (after .store) ≡ length (before .store)
+
+pub cells-same : (tables : Day) → SameCells tables tables
+cells-same tables = record { demand = refl; capacity = refl; setup = refl; unit = refl; holding = refl; store = refl }
 
 same-cells : (s : List ℕ) (k : ℕ) (before after : Day) → after ≡ withPeriods s k before → Cells k before → SameCells before after
 same-cells s k before after e w =
@@ -76,11 +90,12 @@ same-cells s k before after e w =
       setup = with-length _ k _ (w .setup);
       unit = with-length _ k _ (w .unit);
       holding = with-length _ k _ (w .holding);
+      store = with-length _ k _ (w .store);
     })
 
 -- one period more
 periods-more : (s : List ℕ) (k : ℕ) (before : Day) → Cells (suc k) before
-    → stored k (numbersIn (body s (recordAt s k))) (withPeriods s k before) ≡ withPeriods s (suc k) before
+    → stored k (numbersIn (at s (recordAt s k)) (body s (recordAt s k))) (withPeriods s k before) ≡ withPeriods s (suc k) before
 periods-more s k before w =
     rw (
       with-more (field number2 0 s) k _ (w .demand),
@@ -88,6 +103,7 @@ periods-more s k before w =
       with-more (field number4 4 s) k _ (w .setup),
       with-more (field number4 8 s) k _ (w .unit),
       with-more (field number4 12 s) k _ (w .holding),
+      with-more (storeIn s) k _ (w .store),
     )
     refl
 
@@ -99,6 +115,7 @@ cells-here n k before after l c w = record {
   setup = omega (arith, c .setup, w .setup);
   unit = omega (arith, c .unit, w .unit);
   holding = omega (arith, c .holding, w .holding);
+  store = omega (arith, c .store, w .store);
 }
 
 -- the loop that fills the tables has read k periods and stands at byte p
@@ -110,17 +127,21 @@ pub record PeriodsRead (s : List ℕ) (n : ℕ) (before : Day) (k p : ℕ) (afte
 
 -- a whole period stands there
 pub period-here : (s : List ℕ) (n : ℕ) (before : Day) (k p : ℕ) (after : Day) → PeriodsRead s n before k p after → n ≡ periodsIn s → k < n
-    → WholeRecord periodKind s p
+    → WholePeriod s p
 period-here s n before k p after w e l = rw (w .here) (period-at s k (omega arith))
+
+-- its body has the five numbers at least that every period has
+pub period-long : (s : List ℕ) (p : ℕ) → WholePeriod s p → 16 ≤ length (body s p)
+period-long s p w =
+    rw (body-whole s p (w .whole)) (⊎-elim (λ e. rw e (omega arith)) (λ e. rw (e .0) (omega arith)) (w .kind))
 
 -- a turn of it: the next period's numbers go to cell k
 pub read-turn : (s : List ℕ) (n : ℕ) (before : Day) (k p : ℕ) (after later : Day) {end : ℕ} {numbers : Numbers} {part : List ℕ}
     → PeriodsRead s n before k p after → k < n → Cells n before
-    → end ≡ next s p → part ≡ body s p → numbers ≡ numbersIn part → later ≡ stored k numbers after
+    → end ≡ next s p → part ≡ body s p → numbers ≡ numbersIn (at s p) part → later ≡ stored k numbers after
     → PeriodsRead s n before (k + 1) end later
 read-turn s n before k p after later w l c to from decoded put =
-    let same : SameCells before before = record { demand = refl; capacity = refl; setup = refl; unit = refl; holding = refl } in
-    let room : Cells (suc k) before = rw add-one at (cells-here n k before before l c same) in
+    let room : Cells (suc k) before = rw add-one at (cells-here n k before before l c (cells-same before)) in
     let tables : later ≡ withPeriods s (suc k) before = put ∙ rw (decoded, from, w .tables, w .here) (periods-more s k before room) in
     rw (add-one, to)
     (record { done = l; here = rw (w .here) refl; tables = tables; cells = same-cells s (suc k) before later tables room })

@@ -1,10 +1,10 @@
-//! The reader (document 01, "Day file"; document 02, 2.1): the periods of a file into five lent tables. What it does is `Reading` of the crate dayfile.
+//! The reader (document 01, "Day file"; document 02, 2.1, 2.5): the periods of a file into six lent tables. What it does is `Reading` of the crate dayfile.
 ghost use mathlib.Core.Path.{_≡_};
 ghost use Prim.Native.Nat.{_+_, _≤_, min};
 ghost use lib.ListN.{length};
 ghost use Rattle.day.specs.Day.{tablesOf, endsOf, maxPeriods};
 ghost use Rattle.day.specs.Refusals.{checked, badValue};
-ghost use Rattle.day.specs.File.{periodsIn, dayIn};
+ghost use Rattle.day.specs.File.{bodyLength, limitIn, periodsIn, dayIn};
 ghost use Rattle.day.specs.Lent.{tablesBefore, tablesAfter};
 ghost use Rattle.dayfile.specs.Answers.{Cells, withDay, badRead, Reading};
 ghost use Rattle.dayfile_reader.specs.Numbers.{numbersIn};
@@ -22,12 +22,25 @@ struct Numbers {
     setup: u32,
     unit: u32,
     holding: u32,
+    store: u16,
 }
 
-// The field decoder: the numbers that a period record's body holds.
-fn decode(body: &[u8]) -> Numbers
-    requires { ⌜ length (now body) ≡ 16 ⌝ }
-    ensures { λ r. ⌜ r ≡ numbersIn (now (body .entry)) ⌝ }
+// The store limit of a period record: only kind 4 holds one.
+fn store_limit(kind: u8, body: &[u8]) -> u16
+    requires { ⌜ length (now body) ≡ bodyLength kind ⌝ }
+    ensures { λ r. ⌜ r ≡ limitIn kind (now (body .entry)) ⌝ }
+{
+    if kind != layout::STORE {
+        return layout::NO_LIMIT;
+    }
+    layout::number2(body, 16) as u16
+}
+
+// The field decoder: the numbers that the body of a period record of this kind holds.
+fn decode(kind: u8, body: &[u8]) -> Numbers
+    requires { ⌜ 16 ≤ length (now body) ⌝ }
+    requires { ⌜ length (now body) ≡ bodyLength kind ⌝ }
+    ensures { λ r. ⌜ r ≡ numbersIn kind (now (body .entry)) ⌝ }
 {
     Numbers {
         demand: layout::number2(body, 0) as u16,
@@ -35,6 +48,7 @@ fn decode(body: &[u8]) -> Numbers
         setup: layout::number4(body, 4),
         unit: layout::number4(body, 8),
         holding: layout::number4(body, 12),
+        store: store_limit(kind, body),
     }
 }
 
@@ -64,15 +78,17 @@ fn put(
     setup: &mut [u32],
     unit: &mut [u32],
     holding: &mut [u32],
+    store: &mut [u16],
 )
-    requires { ⌜ Cells (k + 1) (tablesOf (now demand) (now capacity) (now setup) (now unit) (now holding)) ⌝ }
-    ensures { λ _. ⌜ tablesAfter demand capacity setup unit holding ≡ stored k numbers (tablesBefore demand capacity setup unit holding) ⌝ }
+    requires { ⌜ Cells (k + 1) (tablesOf (now demand) (now capacity) (now setup) (now unit) (now holding) (now store)) ⌝ }
+    ensures { λ _. ⌜ tablesAfter demand capacity setup unit holding store ≡ stored k numbers (tablesBefore demand capacity setup unit holding store) ⌝ }
 {
     demand[k] = numbers.demand;
     capacity[k] = numbers.capacity;
     setup[k] = numbers.setup;
     unit[k] = numbers.unit;
     holding[k] = numbers.holding;
+    store[k] = numbers.store;
 }
 
 // The first n cells of each table take the numbers of the file's n periods; later cells stay.
@@ -84,10 +100,14 @@ fn fill(
     setup: &mut [u32],
     unit: &mut [u32],
     holding: &mut [u32],
+    store: &mut [u16],
 )
     requires { ⌜ n ≡ periodsIn (now file) ⌝ }
-    requires { ⌜ Cells n (tablesOf (now demand) (now capacity) (now setup) (now unit) (now holding)) ⌝ }
-    ensures { λ _. ⌜ tablesAfter demand capacity setup unit holding ≡ withDay (now (file .entry)) (tablesBefore demand capacity setup unit holding) ⌝ }
+    requires { ⌜ Cells n (tablesOf (now demand) (now capacity) (now setup) (now unit) (now holding) (now store)) ⌝ }
+    ensures { λ _. ⌜
+        tablesAfter demand capacity setup unit holding store
+        ≡ withDay (now (file .entry)) (tablesBefore demand capacity setup unit holding store)
+        ⌝ }
 {
     let mut at = layout::head_end(file);
     let mut k = 0;
@@ -96,12 +116,13 @@ fn fill(
         let end = layout::next(file, at);
         put(
             k,
-            decode(&file[start..end]),
+            decode(file[at], &file[start..end]),
             demand,
             capacity,
             setup,
             unit,
             holding,
+            store,
         );
         at = end;
         k += 1;
@@ -119,6 +140,7 @@ fn values(file: &[u8], n: usize) -> Check
     let mut setup = [0u32; 96];
     let mut unit = [0u32; 96];
     let mut holding = [0u32; 96];
+    let mut store = [0u16; 96];
     fill(
         file,
         n,
@@ -127,6 +149,7 @@ fn values(file: &[u8], n: usize) -> Check
         &mut setup,
         &mut unit,
         &mut holding,
+        &mut store,
     );
     checks::values(
         &demand[0..n],
@@ -134,6 +157,7 @@ fn values(file: &[u8], n: usize) -> Check
         &setup[0..n],
         &unit[0..n],
         &holding[0..n],
+        &store[0..n],
     )
 }
 
@@ -157,10 +181,20 @@ fn least(a: usize, b: usize) -> usize
     if a < b { a } else { b }
 }
 
-fn shortest(demand: usize, capacity: usize, setup: usize, unit: usize, holding: usize) -> usize
-    ensures { λ r. ⌜ r ≡ min demand (min capacity (min setup (min unit holding))) ⌝ }
+fn shortest(
+    demand: usize,
+    capacity: usize,
+    setup: usize,
+    unit: usize,
+    holding: usize,
+    store: usize,
+) -> usize
+    ensures { λ r. ⌜ r ≡ min demand (min capacity (min setup (min unit (min holding store)))) ⌝ }
 {
-    least(demand, least(capacity, least(setup, least(unit, holding))))
+    least(
+        demand,
+        least(capacity, least(setup, least(unit, least(holding, store)))),
+    )
 }
 
 // Reads a file: 10, 11, 12, then 1, 6, 3. Accepted, the tables' first cells take the numbers of its periods, whose count is given,
@@ -172,9 +206,10 @@ pub fn read(
     setup: &mut [u32],
     unit: &mut [u32],
     holding: &mut [u32],
+    store: &mut [u16],
 ) -> ReadAnswer
     ensures { λ r. ⌜
-        Reading (now (file .entry)) (tablesBefore demand capacity setup unit holding) r (tablesAfter demand capacity setup unit holding)
+        Reading (now (file .entry)) (tablesBefore demand capacity setup unit holding store) r (tablesAfter demand capacity setup unit holding store)
         ⌝ }
 {
     let n = layout::periods(file);
@@ -184,10 +219,11 @@ pub fn read(
         setup.len(),
         unit.len(),
         holding.len(),
+        store.len(),
     );
     if let Check::Refused(r) = tests(file, n, cells) {
         return ReadAnswer::Refused(r);
     }
-    fill(file, n, demand, capacity, setup, unit, holding);
+    fill(file, n, demand, capacity, setup, unit, holding, store);
     ReadAnswer::Periods(n, ends(file))
 }

@@ -2,14 +2,16 @@
 use mathlib.Core.Path.{_≡_, refl, ap, _∙_}
 use mathlib.Core.Bool.{Bool, true, false, cond}
 use mathlib.Core.List.{List, [], _∷_, _++_}
-use Prim.Native.Nat.{ℕ, zero, suc, _+_, _*_, _≤_, _<_}
+use Prim.Native.Nat.{ℕ, zero, suc, _+_, _-_, _≤_, _<_, sub·zero}
 use native.Mathlib.Omega.{arith}
 use lib.ListN.{length, take, drop, set, getD}
 use lib.Seq.{sets, sets-eq, take-suc, length-take-le}
+use Rattle.day.specs.Sums.{at}
 use Rattle.day.specs.Day.{Day, tablesOf, periods}
-use Rattle.day.specs.File.{endKind, chargeKind, bothZero, bytes2, headOf, recordOf, recordsOf, fileOf}
+use Rattle.day.specs.File.{endKind, chargeKind, bothZero, bytes2, headOf, limitOf, recordOf, recordsOf, fileOf}
 use Rattle.dayfile.specs.Answers.{withFile}
-use Rattle.dayfile_writer.specs.RoundTrip.{records-length, file-length}
+use Rattle.dayfile.specs.Theorems.{recordBytes}
+use Rattle.dayfile_writer.specs.RoundTrip.{longRecord, record-front, records-length}
 
 -- one run after another
 pub sets-then : (a b l : List ℕ) (i j : ℕ) → j ≡ i + length a → sets (sets l i a) j b ≡ sets l i (a ++ b)
@@ -39,9 +41,22 @@ head-record o c = go (bothZero o c)
     go true h = absurd (h refl)
     go false h = refl
 
+-- the part of a long record that is the record
+pub record-part : (d : Day) (k : ℕ) {size : ℕ} {bytes : List ℕ}
+    → size ≡ 17 + length (limitOf (at (d .store) k)) → bytes ≡ longRecord d k
+    → take (size - 0) (drop 0 bytes) ≡ recordOf d k
+record-part d k e r = rw (e, r, sub·zero) (record-front d k)
+
+-- a turn of the loop that stores the records
+pub record-stored : (d : Day) (l : List ℕ) (first k : ℕ) {out part after : List ℕ} {place : ℕ}
+    → place ≡ first + recordBytes (at (d .store)) k → out ≡ sets l first (recordsOf d k) → part ≡ recordOf d k → after ≡ sets out place part
+    → after ≡ sets l first (recordsOf d (suc k))
+record-stored d l first k {place = place} here before p e =
+    e ∙ rw (before, p) (sets-then (recordsOf d k) (recordOf d k) l first place (omega (arith, here, records-length d k)))
+
 -- the period records hold nothing of the ends
 abbrev tables : Day → Day
-tables d = tablesOf (d .demand) (d .capacity) (d .setup) (d .unit) (d .holding)
+tables d = tablesOf (d .demand) (d .capacity) (d .setup) (d .unit) (d .holding) (d .store)
 
 records-alike : (d : Day) (k : ℕ) → recordsOf (tables d) k ≡ recordsOf d k
 records-alike d zero = refl
@@ -52,17 +67,17 @@ module _ (d : Day) (out : List ℕ) where
   abbrev head : List ℕ
   head = headOf (d .opening) (d .closing)
 
-  pub file-stored : (first mid after : List ℕ) {place : ℕ} {end : List ℕ}
-      → length head + 17 * periods d + 3 ≤ length out → place ≡ length head
-      → first ≡ sets out 0 head → mid ≡ sets first place (recordsOf (tables d) (periods d))
-      → end ≡ endKind ∷ bytes2 (periods d) → after ≡ sets mid (place + 17 * periods d) end
+  pub file-stored : (first mid after : List ℕ) {place last : ℕ} {end : List ℕ}
+      → length (fileOf d) ≤ length out → place ≡ length head → first ≡ sets out 0 head
+      → (last ≡ place + recordBytes (at (d .store)) (periods d)) × (mid ≡ sets first place (recordsOf (tables d) (periods d)))
+      → end ≡ endKind ∷ bytes2 (periods d) → after ≡ sets mid last end
       → after ≡ withFile d out
-  file-stored first mid after room here h r l e =
+  file-stored first mid after {last = last} room here h r l e =
       let n = periods d in
-      let records : mid ≡ sets first (length head) (recordsOf d n) = r ∙ rw (here, records-alike d n) refl in
-      let end-at : after ≡ sets mid (length head + 17 * n) (endKind ∷ bytes2 n) = e ∙ rw (here, l) refl in
-      let body = sets-then (recordsOf d n) (endKind ∷ bytes2 n) first (length head) (length head + 17 * n) (omega (arith, records-length d n)) in
+      let records : mid ≡ sets first (length head) (recordsOf d n) = r .1 ∙ rw (here, records-alike d n) refl in
+      let end-at : after ≡ sets mid last (endKind ∷ bytes2 n) = e ∙ rw l refl in
+      let body = sets-then (recordsOf d n) (endKind ∷ bytes2 n) first (length head) last (omega (arith, here, r .0, records-length d n)) in
       let whole = sets-then head (recordsOf d n ++ endKind ∷ bytes2 n) out 0 (length head) (omega arith) in
       let from-head : after ≡ sets first (length head) (recordsOf d n ++ endKind ∷ bytes2 n) = end-at ∙ rw records body in
       let from-front : after ≡ sets out 0 (fileOf d) = from-head ∙ rw h whole in
-      from-front ∙ sets-front (fileOf d) out (omega (arith, file-length d))
+      from-front ∙ sets-front (fileOf d) out room

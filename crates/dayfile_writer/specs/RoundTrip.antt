@@ -3,21 +3,23 @@
 use mathlib.Core.Path.{_≡_, refl, sym, ap, ap₂, _∙_}
 use mathlib.Core.Bool.{Bool, true, false, _&&_, cond}
 use mathlib.Core.List.{List, [], _∷_, _++_, append-assoc, append-nil}
-use Prim.Native.Nat.{ℕ, zero, suc, _+_, _*_, _/_, _%_, _≤_, _<_}
+use Prim.Native.Nat.{ℕ, zero, suc, _+_, _/_, _%_, _≤_, _<_}
 use native.Mathlib.Nat.{div-add-mod', eq-or-lt-of-le, le-of-suc-le-suc}
 use native.Mathlib.Numerals.{add-one}
 use native.Mathlib.Omega.{arith}
-use mathlib.Core.Logic.{⊎-elim}
-use lib.Dec.{eqb}
-use borrow.Author.Tests.{eqb-true, ne-eqb}
+use mathlib.Core.Logic.{inl, inr, ⊎-elim}
+use lib.Dec.{eqb, ltb}
+use borrow.Author.Tests.{eqb-true, ne-eqb, ltb-true, ltb-false, lt-ltb}
 use lib.ListN.{length, take, drop, length-append, length-take, length-drop}
 use lib.Seq.{take-add, take-all, take-at, drop-cons, drop-append-add, getD-append-seam, getD-take, getD-drop}
 use Rattle.day.specs.Sums.{at, listOf, at-listOf, length-listOf, listOf-at}
-use Rattle.day.specs.Day.{Day, periods}
+use Rattle.day.specs.Day.{Day, periods, maxStore}
 use Rattle.checks.specs.Passed.{SameLengths}
-use Rattle.dayfile.specs.Layout.{WholeRecord, record-whole, whole-charges, whole-body, period-at, counted}
-use Rattle.day.specs.File.{periodKind, endKind, chargeKind, bodyLength, body, next, number2, number4, bothZero, isCharges, headEnd, recordAt, Layout}
-use Rattle.day.specs.File.{periodsIn, chargeIn, field, dayIn, bytes2, bytes4, headOf, fieldsOf, recordOf, recordsOf, fileOf}
+use Rattle.dayfile.specs.Layout.{WholePeriod, record-whole, whole-charges, body-whole, whole-body, period-at, store-none, store-there, counted}
+use Rattle.dayfile.specs.Theorems.{recordBytes}
+use Rattle.day.specs.File.{periodKind, endKind, chargeKind, storeKind, bodyLength, body, next, number2, number4, bothZero, isCharges, headEnd}
+use Rattle.day.specs.File.{recordAt, PeriodAt, Layout, periodsIn, chargeIn, field, storeIn, dayIn}
+use Rattle.day.specs.File.{bytes2, bytes4, headOf, fieldsOf, kindOf, limitOf, recordOf, recordsOf, fileOf}
 
 -- every entry is a byte
 abbrev pub Bytes : List ℕ → Type 0
@@ -53,14 +55,13 @@ upto4 b h p l =
     let e : p + 4 ≡ p + 2 + 2 = omega arith in
     rw (a, z, e, upto2 b h (p + 2) (omega arith), upto2 b h p (omega arith), append-assoc) refl
 
--- a period's body is made of the numbers that it holds
+-- a period's body begins with the five numbers that every one holds
 abbrev numbersIn : List ℕ → List ℕ
 numbersIn b = fieldsOf (number2 b 0) (number2 b 2) (number4 b 4) (number4 b 8) (number4 b 12)
 
-body-bytes : (b : List ℕ) → Bytes b → length b ≡ 16 → b ≡ numbersIn b
-body-bytes b h e =
+body-bytes : (b : List ℕ) → Bytes b → 16 ≤ length b → take 16 b ≡ numbersIn b
+body-bytes b h l =
     cc (
-      take-all 16 b (omega arith),
       upto4 b h 12 (omega arith),
       upto4 b h 8 (omega arith),
       upto4 b h 4 (omega arith),
@@ -68,12 +69,36 @@ body-bytes b h e =
       upto2 b h 0 (omega arith),
     )
 
--- and a body of two numbers of 2 bytes so too
+-- a body of two numbers of 2 bytes is made of them
 two-bytes : (b : List ℕ) → Bytes b → length b ≡ 4 → b ≡ bytes2 (number2 b 0) ++ bytes2 (number2 b 2)
 two-bytes b h e = cc (take-all 4 b (omega arith), upto2 b h 2 (omega arith), upto2 b h 0 (omega arith))
 
-record-bytes : (s : List ℕ) → Bytes s → (p : ℕ) → WholeRecord periodKind s p → at s p ∷ body s p ≡ periodKind ∷ numbersIn (body s p)
-record-bytes s h p w = cc (w .kind, body-bytes (body s p) (bytes-body s h p) (whole-body periodKind s p w))
+-- a period record is made of the numbers that it holds, without a store limit or with one
+record-bytes : (s : List ℕ) → Bytes s → (k : ℕ) → WholePeriod s (recordAt s k)
+    → at s (recordAt s k) ∷ body s (recordAt s k)
+    ≡ kindOf (storeIn s k) ∷ numbersIn (body s (recordAt s k)) ++ limitOf (storeIn s k)
+record-bytes s h k w = ⊎-elim plain limited (w .kind)
+  where
+    b : List ℕ
+    b = body s (recordAt s k)
+
+    long : {x : ℕ} → at s (recordAt s k) ≡ x → length b ≡ bodyLength x
+    long e = body-whole s (recordAt s k) (w .whole) ∙ ap bodyLength e
+
+    plain : at s (recordAt s k) ≡ periodKind → at s (recordAt s k) ∷ b ≡ kindOf (storeIn s k) ∷ numbersIn b ++ limitOf (storeIn s k)
+    plain e =
+        let l : length b ≡ 16 = long e in
+        let made : b ≡ numbersIn b = cc (take-all 16 b (omega arith), body-bytes b (bytes-body s h (recordAt s k)) (omega arith)) in
+        rw (store-none s k e) (ap₂ _∷_ e made)
+
+    limited : (at s (recordAt s k) ≡ storeKind) × (number2 b 16 < maxStore)
+        → at s (recordAt s k) ∷ b ≡ kindOf (storeIn s k) ∷ numbersIn b ++ limitOf (storeIn s k)
+    limited e =
+        let l : length b ≡ 18 = long (e .0) in
+        let bytes = bytes-body s h (recordAt s k) in
+        let limit = upto2 b bytes 16 (omega arith) in
+        let made : b ≡ numbersIn b ++ bytes2 (number2 b 16) = cc (take-all 18 b (omega arith), limit, body-bytes b bytes (omega arith)) in
+        rw (store-there s k (e .0), lt-ltb (number2 b 16) maxStore (e .1)) (ap₂ _∷_ (e .0) made)
 
 -- the head is made of the charges that it holds
 head-bytes : (s : List ℕ) → Bytes s → take (headEnd s) s ≡ headOf (chargeIn 0 s) (chargeIn 2 s)
@@ -89,9 +114,11 @@ head-bytes s h = go (isCharges s 0) refl
     go false q = refl
 
 -- and so is record k of the day that a file holds
-listed : (s : List ℕ) (k : ℕ) → k < periodsIn s → recordOf (dayIn s) k ≡ periodKind ∷ numbersIn (body s (recordAt s k))
+listed : (s : List ℕ) (k : ℕ) → k < periodsIn s
+    → recordOf (dayIn s) k ≡ kindOf (storeIn s k) ∷ numbersIn (body s (recordAt s k)) ++ limitOf (storeIn s k)
 listed s k l =
     rw (
+      at-listOf (storeIn s) (periodsIn s) k l,
       at-listOf (field number2 0 s) (periodsIn s) k l,
       at-listOf (field number2 2 s) (periodsIn s) k l,
       at-listOf (field number4 4 s) (periodsIn s) k l,
@@ -111,7 +138,7 @@ prefix s h (suc k) l =
     let p = recordAt s k in
     let w = period-at s k l in
     let more : take (next s p) s ≡ upTo (dayIn s) k ++ recordOf (dayIn s) k =
-    cc (record-split s p (omega (arith, w .whole)), prefix s h k (omega arith), record-bytes s h p w, listed s k l) in
+    cc (record-split s p (omega (arith, w .whole)), prefix s h k (omega arith), record-bytes s h k w, listed s k l) in
     more ∙ append-assoc (headOf (chargeIn 0 s) (chargeIn 2 s)) (recordsOf (dayIn s) k) (recordOf (dayIn s) k)
 
 -- a file that is laid out as the documents say is the file of the day that it holds
@@ -184,23 +211,48 @@ records-rest : (d : Day) (n k : ℕ) → k < n → (rest : List ℕ) × (records
 records-rest d zero k l = absurd (omega arith)
 records-rest d (suc n) k l =
     ⊎-elim
-    (λ (e : k ≡ n). ([], rw e refl))
+    (λ (e : k ≡ n). ([], rw e (ap (λ (r : List ℕ). recordsOf d n ++ r) (sym (append-nil (recordOf d n))))))
     (λ lt. let w = records-rest d n k lt in (w .0 ++ recordOf d n, rw (w .1) (simp append-assoc)))
     (eq-or-lt-of-le (le-of-suc-le-suc l))
 
-pub records-length : (d : Day) (k : ℕ) → length (recordsOf d k) ≡ 17 * k
+-- the body of record k is as long as its kind says
+abbrev fieldsAt : Day → ℕ → List ℕ
+fieldsAt d k = fieldsOf (at (d .demand) k) (at (d .capacity) k) (at (d .setup) k) (at (d .unit) k) (at (d .holding) k)
+
+abbrev periodBody : Day → ℕ → List ℕ
+periodBody d k = fieldsAt d k ++ limitOf (at (d .store) k)
+
+body-fits : (d : Day) (k : ℕ) → length (periodBody d k) ≡ bodyLength (kindOf (at (d .store) k))
+body-fits d k = go (ltb (at (d .store) k) maxStore)
+  where
+    go : (b : Bool) → length (fieldsAt d k ++ cond b (bytes2 (at (d .store) k)) []) ≡ bodyLength (cond b storeKind periodKind)
+    go true = refl
+    go false = refl
+
+-- record k with its store limit in any case: it begins with the record, which leaves a limit of 65,535 out
+abbrev pub longRecord : Day → ℕ → List ℕ
+longRecord d k = kindOf (at (d .store) k) ∷ fieldsAt d k ++ bytes2 (at (d .store) k)
+
+pub record-front : (d : Day) (k : ℕ) → take (17 + length (limitOf (at (d .store) k))) (longRecord d k) ≡ recordOf d k
+record-front d k = go (ltb (at (d .store) k) maxStore)
+  where
+    limit : List ℕ
+    limit = bytes2 (at (d .store) k)
+
+    go : (b : Bool) → take (17 + length (cond b limit [])) (cond b storeKind periodKind ∷ fieldsAt d k ++ limit)
+        ≡ cond b storeKind periodKind ∷ fieldsAt d k ++ cond b limit []
+    go true = refl
+    go false = refl
+
+pub records-length : (d : Day) (k : ℕ) → length (recordsOf d k) ≡ recordBytes (at (d .store)) k
 records-length d zero = refl
 records-length d (suc k) = rw length-append (omega (arith, records-length d k))
 
--- the body of record k
-abbrev periodBody : Day → ℕ → List ℕ
-periodBody d k = fieldsOf (at (d .demand) k) (at (d .capacity) k) (at (d .setup) k) (at (d .unit) k) (at (d .holding) k)
-
 module _ (d : Day) where
-  upTo-length : (k : ℕ) → length (upTo d k) ≡ length (headOf (d .opening) (d .closing)) + 17 * k
+  upTo-length : (k : ℕ) → length (upTo d k) ≡ length (headOf (d .opening) (d .closing)) + recordBytes (at (d .store)) k
   upTo-length k = rw (length-append, records-length) refl
 
-  pub file-length : length (fileOf d) ≡ length (headOf (d .opening) (d .closing)) + 17 * periods d + 3
+  pub file-length : length (fileOf d) ≡ length (headOf (d .opening) (d .closing)) + recordBytes (at (d .store)) (periods d) + 3
   file-length = rw (length-append, length-append, records-length) (omega arith)
 
   -- what follows k records
@@ -209,8 +261,8 @@ module _ (d : Day) where
       let w = records-rest d (periods d) k l in
       (w .0 ++ (endKind ∷ bytes2 (periods d)), rw (w .1) (simp append-assoc))
 
-  placed : (k : ℕ) → k < periods d → Stands (fileOf d) (length (upTo d k)) periodKind (periodBody d k)
-  placed k l = let w = from k l in rw (w .1) (stands (upTo d k) periodKind (periodBody d k) (w .0) refl)
+  placed : (k : ℕ) → k < periods d → Stands (fileOf d) (length (upTo d k)) (kindOf (at (d .store) k)) (periodBody d k)
+  placed k l = let w = from k l in rw (w .1) (stands (upTo d k) (kindOf (at (d .store) k)) (periodBody d k) (w .0) (body-fits d k))
 
   end-placed : Stands (fileOf d) (length (upTo d (periods d))) endKind (bytes2 (periods d))
   end-placed = rw (← append-assoc) (stands (upTo d (periods d)) endKind (bytes2 (periods d)) [] refl)
@@ -223,8 +275,12 @@ module _ (d : Day) where
       let n = periods d in
       ⊎-elim
       (λ (e : 0 ≡ n). (endKind, bytes2 n, ap (λ (k : ℕ). head ++ (recordsOf d k ++ endKind ∷ bytes2 n)) (sym e), λ q. omega arith))
-      (λ l. let w = from 0 l in (periodKind, periodBody d 0 ++ w .0, rw append-nil at (w .1), λ q. omega arith))
+      (λ l. let w = from 0 l in (kindOf (at (d .store) 0), periodBody d 0 ++ w .0, rw append-nil at (w .1), kind (ltb (at (d .store) 0) maxStore)))
       (eq-or-lt-of-le z)
+    where
+      kind : (b : Bool) → cond b storeKind periodKind ≡ chargeKind → ⊥
+      kind true q = omega arith
+      kind false q = omega arith
 
   head-of-file : HeadFound (fileOf d) (d .opening) (d .closing)
   head-of-file = let w = after-head in rw (w .2) (head-found (d .opening) (d .closing) (w .0) (w .1) (w .3))
@@ -232,7 +288,21 @@ module _ (d : Day) where
   record-place : (k : ℕ) → k ≤ periods d → recordAt (fileOf d) k ≡ length (upTo d k)
   record-place zero l = rw append-nil (head-of-file .place)
   record-place (suc k) l =
-      rw (record-place k (omega arith), placed k l .kind) (omega (arith, upTo-length k, upTo-length (suc k)))
+      rw (record-place k (omega arith), placed k l .kind) (omega (arith, body-fits d k, upTo-length k, upTo-length (suc k)))
+
+  -- record i is a period's, by its kind
+  period-placed : (i : ℕ) → i < periods d → PeriodAt (fileOf d) (length (upTo d i))
+  period-placed i l = go (ltb (at (d .store) i) maxStore) refl (placed i l)
+    where
+      v : ℕ
+      v = at (d .store) i
+
+      go : (b : Bool) → ltb v maxStore ≡ b → Stands (fileOf d) (length (upTo d i)) (kindOf v) (periodBody d i)
+          → PeriodAt (fileOf d) (length (upTo d i))
+      go true q w =
+          let held : number2 (body (fileOf d) (length (upTo d i))) 16 ≡ v = rw (w .holds, q) (div-add-mod' v 256) in
+          inr (rw q at (w .kind), rw held (ltb-true v maxStore q))
+      go false q w = inl (rw q at (w .kind))
 
   -- the file of a day is laid out as the documents say
   pub file-layout : Layout (fileOf d) (periods d)
@@ -240,7 +310,7 @@ module _ (d : Day) where
       let n = periods d in
       let here = record-place n (omega arith) in
       record {
-        periods = λ i l. rw (record-place i (omega arith)) (placed i l .kind);
+        periods = λ i l. rw (record-place i (omega arith)) (period-placed i l);
         ends = rw here (end-placed .kind);
         count = rw (here, end-placed .holds) (div-add-mod' n 256);
         size = rw (here, end-placed .kind) (omega (arith, file-length, upTo-length n));
@@ -250,9 +320,9 @@ module _ (d : Day) where
 bytes4-back : (v : ℕ) → number4 (bytes4 v) 0 ≡ v
 bytes4-back v = rw (div-add-mod' (v / 65536) 256, div-add-mod' (v % 65536) 256) (div-add-mod' v 65536)
 
--- and holds the day
-pub reads-back : (d : Day) → SameLengths d → dayIn (fileOf d) ≡ d
-reads-back d w =
+-- and holds the day, whose store limits are of 16 bits
+pub reads-back : (d : Day) → SameLengths d → ((k : ℕ) → k < periods d → at (d .store) k ≤ maxStore) → dayIn (fileOf d) ≡ d
+reads-back d w low =
     rw (
       head-of-file d .opening,
       head-of-file d .closing,
@@ -261,16 +331,33 @@ reads-back d w =
       table number4 4 (d .setup) (w .setup) (λ k. bytes4-back (at (d .setup) k)),
       table number4 8 (d .unit) (w .unit) (λ k. bytes4-back (at (d .unit) k)),
       table number4 12 (d .holding) (w .holding) (λ k. bytes4-back (at (d .holding) k)),
+      listed-as (storeIn s) (d .store) (w .store) limit,
     )
     refl
   where
     s : List ℕ
     s = fileOf d
 
+    listed-as : (f : ℕ → ℕ) (l : List ℕ) → length l ≡ periods d → ((k : ℕ) → k < periods d → f k ≡ at l k) → listOf f (periodsIn s) ≡ l
+    listed-as f l e h = rw (counted s (periods d) (file-layout d)) (listOf-at (periods d) l f e h)
+
     table : (number : List ℕ → ℕ → ℕ) (offset : ℕ) (l : List ℕ) → length l ≡ periods d
         → ((k : ℕ) → number (periodBody d k) offset ≡ at l k)
         → listOf (field number offset s) (periodsIn s) ≡ l
     table number offset l e h =
-        rw (counted s (periods d) (file-layout d))
-        (listOf-at (periods d) l (field number offset s) e
-        (λ k lt. rw (record-place d k (omega arith), placed d k lt .holds) (h k)))
+        listed-as (field number offset s) l e (λ k lt. rw (record-place d k (omega arith), placed d k lt .holds) (h k))
+
+    limit : (k : ℕ) → k < periods d → storeIn s k ≡ at (d .store) k
+    limit k l = go (ltb v maxStore) refl
+      where
+        v : ℕ
+        v = at (d .store) k
+
+        kind : at s (recordAt s k) ≡ kindOf v
+        kind = rw (record-place d k (omega arith)) (placed d k l .kind)
+
+        go : (b : Bool) → ltb v maxStore ≡ b → storeIn s k ≡ v
+        go true q =
+            let held : field number2 16 s k ≡ v = rw (record-place d k (omega arith), placed d k l .holds, q) (div-add-mod' v 256) in
+            store-there s k (rw q at kind) ∙ held
+        go false q = store-none s k (rw q at kind) ∙ omega (arith, low k l, ltb-false v maxStore q)

@@ -81,7 +81,7 @@ file-taken d room cells e l =
     let last = badSlots room (length (fileOf d)) in
     let limits = tables-passed d (first-split (tableTests d) (last ∷ []) e .0) in
     let each = each-passed (tableTests d ++ (last ∷ [])) e in
-    let value = ap badValue (reads-back d (limits .lengths)) ∙ each .1 .1 .0 in
+    let value = ap badValue (reads-back d (limits .lengths) (λ k l. limits .within k l .store)) ∙ each .1 .1 .0 in
     let laid = file-layout d in
     rw (value, walk-clean (fileOf d) (periods d) laid, counted (fileOf d) (periods d) laid, each .0, le-ltb cells (periods d) l) refl
 
@@ -94,7 +94,7 @@ written-is-read d n out out′ before after answer w r room =
     let limits = tables-passed d (first-split (tableTests d) (last ∷ []) (w .0) .0) in
     go answer
     (file-taken d (length out) (shortest before) (w .0) room)
-    (reads-back d (limits .lengths))
+    (reads-back d (limits .lengths) (λ k l. limits .within k l .store))
     (subst (λ (s : List ℕ). Reading s before answer after) file r)
   where
     go : (answer : ReadAnswer) → badRead (fileOf d) (shortest before) ≡ none → dayIn (fileOf d) ≡ d → Reading (fileOf d) before answer after

@@ -1,26 +1,60 @@
-//! The writer (document 01, "Day file"; document 02, 2.1): the file of a day at the front of a lent slice. What it does is `Writing` of the crate dayfile.
+//! The writer (document 01, "Day file"; document 02, 2.1, 2.5): the file of a day at the front of a lent slice.
+//! What it does is `Writing` of the crate dayfile.
 ghost use mathlib.Core.Path.{_≡_};
 ghost use mathlib.Core.List.{_∷_, _++_};
 ghost use Prim.Native.Nat.{_+_, _*_, _≤_};
 ghost use lib.ListN.{length};
 ghost use lib.Seq.{sets};
-ghost use Rattle.day.specs.Sums.{Term};
-ghost use Rattle.day.specs.Day.{dayOf, tablesOf};
-ghost use Rattle.day.specs.File.{periodKind, endKind, chargeKind, bytes2, headOf, fieldsOf, recordOf, recordsOf};
+ghost use Rattle.day.specs.Sums.{Term, at};
+ghost use Rattle.day.specs.Day.{dayOf, tablesOf, maxPeriods};
+ghost use Rattle.day.specs.File.{endKind, chargeKind, bytes2, headOf, fieldsOf, kindOf, limitOf, recordsOf, fileOf};
 ghost use Rattle.checks.specs.Passed.{SameLengths, Readable};
 ghost use Rattle.day.specs.Lent.{dayBefore, tablesBefore};
 ghost use Rattle.dayfile.specs.Answers.{Cells, withFile, Writing};
+ghost use Rattle.dayfile.specs.Theorems.{recordBytes};
+ghost use Rattle.dayfile_writer.specs.RoundTrip.{longRecord};
 use day::Check;
 use day::Ends;
 use day::Refusal;
 use dayfile::WriteAnswer;
+use dayfile::layout::NO_LIMIT;
+use dayfile::layout::PERIOD;
+use dayfile::layout::STORE;
 
-// A period's record. Numbers stand most significant byte first.
-fn period_record(demand: u16, capacity: u16, setup: u32, unit: u32, holding: u32) -> [u8; 17]
-    ensures { λ r. ⌜ r ≡ periodKind ∷ fieldsOf demand capacity setup unit holding ⌝ }
+// The kind of a period's record, by its store limit.
+fn kind_of(store: u16) -> u8
+    ensures { λ r. ⌜ r ≡ kindOf store ⌝ }
+{
+    if store < NO_LIMIT {
+        return STORE;
+    }
+    PERIOD
+}
+
+// How long the record is: only a store limit below 65,535 is written.
+fn record_size(store: u16) -> usize
+    ensures { λ r. ⌜ Term (17 + length (limitOf store)) 19 r ⌝ }
+{
+    if store < NO_LIMIT {
+        return 19;
+    }
+    17
+}
+
+// A period's record of this kind, with its store limit in any case. Numbers stand most significant byte first.
+fn period_record(
+    kind: u8,
+    demand: u16,
+    capacity: u16,
+    setup: u32,
+    unit: u32,
+    holding: u32,
+    store: u16,
+) -> [u8; 19]
+    ensures { λ r. ⌜ r ≡ kind ∷ fieldsOf demand capacity setup unit holding ++ bytes2 store ⌝ }
 {
     [
-        1,
+        kind,
         (demand / 256) as u8,
         (demand % 256) as u8,
         (capacity / 256) as u8,
@@ -37,6 +71,8 @@ fn period_record(demand: u16, capacity: u16, setup: u32, unit: u32, holding: u32
         (holding / 65536 % 256) as u8,
         (holding % 65536 / 256) as u8,
         (holding % 65536 % 256) as u8,
+        (store / 256) as u8,
+        (store % 256) as u8,
     ]
 }
 
@@ -47,11 +83,20 @@ fn record_of(
     setup: &[u32],
     unit: &[u32],
     holding: &[u32],
-) -> [u8; 17]
-    requires { ⌜ Cells (k + 1) (tablesOf (now demand) (now capacity) (now setup) (now unit) (now holding)) ⌝ }
-    ensures { λ r. ⌜ r ≡ recordOf (tablesBefore demand capacity setup unit holding) k ⌝ }
+    store: &[u16],
+) -> [u8; 19]
+    requires { ⌜ Cells (k + 1) (tablesOf (now demand) (now capacity) (now setup) (now unit) (now holding) (now store)) ⌝ }
+    ensures { λ r. ⌜ r ≡ longRecord (tablesBefore demand capacity setup unit holding store) k ⌝ }
 {
-    period_record(demand[k], capacity[k], setup[k], unit[k], holding[k])
+    period_record(
+        kind_of(store[k]),
+        demand[k],
+        capacity[k],
+        setup[k],
+        unit[k],
+        holding[k],
+        store[k],
+    )
 }
 
 // The record of charges.
@@ -111,31 +156,49 @@ fn put_head(out: &mut [u8], ends: Ends)
     copy(&record, out, 0);
 }
 
-// The records of all periods, from byte `first` on.
+// How long the records of all periods are.
+fn records_size(store: &[u16]) -> usize
+    requires { ⌜ length (now store) ≤ maxPeriods ⌝ }
+    ensures { λ r. ⌜ Term (recordBytes (at (now (store .entry))) (length (now (store .entry)))) (19 * maxPeriods) r ⌝ }
+{
+    let mut size = 0;
+    let mut k = 0;
+    while k < store.len() {
+        size += record_size(store[k]);
+        k += 1;
+    }
+    size
+}
+
+// The records of all periods, from byte `first` on; where they end.
 fn put_periods(
     demand: &[u16],
     capacity: &[u16],
     setup: &[u32],
     unit: &[u32],
     holding: &[u32],
+    store: &[u16],
     out: &mut [u8],
     first: usize,
-)
-    requires { ⌜ SameLengths (tablesOf (now demand) (now capacity) (now setup) (now unit) (now holding)) ⌝ }
-    requires { ⌜ first + 17 * length (now demand) ≤ length (now out) ⌝ }
-    ensures { λ _. ⌜
-        now (out .exit)
-        ≡ sets (now (out .entry)) first (recordsOf (tablesBefore demand capacity setup unit holding) (length (now (demand .entry))))
+) -> usize
+    requires { ⌜ SameLengths (tablesOf (now demand) (now capacity) (now setup) (now unit) (now holding) (now store)) ⌝ }
+    requires { ⌜ first + recordBytes (at (now store)) (length (now demand)) ≤ length (now out) ⌝ }
+    ensures { λ r. ⌜
+        (r ≡ first + recordBytes (at (now (store .entry))) (length (now (demand .entry))))
+        × (now (out .exit)
+        ≡ sets (now (out .entry)) first (recordsOf (tablesBefore demand capacity setup unit holding store) (length (now (demand .entry)))))
         ⌝ }
 {
     let mut at = first;
     let mut k = 0;
     while k < demand.len() {
-        let record = record_of(k, demand, capacity, setup, unit, holding);
-        copy(&record, out, at);
-        at += 17;
+        let record = record_of(k, demand, capacity, setup, unit, holding, store);
+        let size = record_size(store[k]);
+        copy(&record[0..size], out, at);
+        at += size;
         k += 1;
     }
+    at
 }
 
 // The file, at the slice's front.
@@ -145,19 +208,21 @@ fn put_file(
     setup: &[u32],
     unit: &[u32],
     holding: &[u32],
+    store: &[u16],
     out: &mut [u8],
     ends: Ends,
 )
-    requires { ⌜ Readable (dayOf (now demand) (now capacity) (now setup) (now unit) (now holding) ends) ⌝ }
-    requires { ⌜ length (headOf (ends .opening) (ends .closing)) + 17 * length (now demand) + 3 ≤ length (now out) ⌝ }
-    ensures { λ _. ⌜ now (out .exit) ≡ withFile (dayBefore demand capacity setup unit holding ends) (now (out .entry)) ⌝ }
+    requires { ⌜ Readable (dayOf (now demand) (now capacity) (now setup) (now unit) (now holding) (now store) ends) ⌝ }
+    requires { ⌜
+        length (fileOf (dayOf (now demand) (now capacity) (now setup) (now unit) (now holding) (now store) ends)) ≤ length (now out)
+        ⌝ }
+    ensures { λ _. ⌜ now (out .exit) ≡ withFile (dayBefore demand capacity setup unit holding store ends) (now (out .entry)) ⌝ }
 {
     put_head(out, ends);
     let first = head_size(ends);
-    put_periods(demand, capacity, setup, unit, holding, out, first);
-    let n = demand.len();
-    let record = end_record(n as u16);
-    copy(&record, out, first + 17 * n);
+    let end = put_periods(demand, capacity, setup, unit, holding, store, out, first);
+    let record = end_record(demand.len() as u16);
+    copy(&record, out, end);
 }
 
 // Writes the file of a day: 1, 2, 3, then 6. Accepted, the file stands at the slice's front, and its length is given.
@@ -167,18 +232,19 @@ pub fn write(
     setup: &[u32],
     unit: &[u32],
     holding: &[u32],
+    store: &[u16],
     out: &mut [u8],
     ends: Ends,
 ) -> WriteAnswer
-    ensures { λ r. ⌜ Writing (dayBefore demand capacity setup unit holding ends) (now (out .entry)) r (now (out .exit)) ⌝ }
+    ensures { λ r. ⌜ Writing (dayBefore demand capacity setup unit holding store ends) (now (out .entry)) r (now (out .exit)) ⌝ }
 {
-    if let Check::Refused(r) = checks::tables(demand, capacity, setup, unit, holding) {
+    if let Check::Refused(r) = checks::tables(demand, capacity, setup, unit, holding, store) {
         return WriteAnswer::Refused(r);
     }
-    let size = head_size(ends) + 17 * demand.len() + 3;
+    let size = head_size(ends) + records_size(store) + 3;
     if out.len() < size {
         return WriteAnswer::Refused(Refusal::FewSlots);
     }
-    put_file(demand, capacity, setup, unit, holding, out, ends);
+    put_file(demand, capacity, setup, unit, holding, store, out, ends);
     WriteAnswer::Bytes(size)
 }

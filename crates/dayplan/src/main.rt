@@ -55,7 +55,7 @@ fn read_input(file: &mut [u8]) -> Input
 
 // Reads a file, and writes its text in one piece. What could not be read or written is said on standard error.
 fn main() {
-    let mut file = [0u8; 1641];
+    let mut file = [0u8; 1833];
     let Input::Bytes(n) = read_input(&mut file) else {
         os::fail(b"standard input");
         return;

@@ -10,7 +10,8 @@ use Rattle.day.specs.declared.Totals.{Totals}
 use Rattle.day.specs.Sums.{at}
 use Rattle.day.specs.Day.{Day, periods}
 use Rattle.day.specs.Plan.{Optimal}
-use Rattle.day.specs.Tests.{first-one}
+use Rattle.day.specs.Refusals.{unequal, lowStore}
+use Rattle.day.specs.Tests.{first-two}
 use Rattle.day.specs.Outcome.{Memory, memoryOf, sizesOf, Cleared, Accepted}
 use Rattle.day.specs.Paths.{equal}
 use Rattle.path_checks.specs.declared.Needed.{Needed}
@@ -20,8 +21,9 @@ use Rattle.weigher.specs.Verdict.{totalsOf}
 use Rattle.weigher.specs.Walk.{FeasiblePlan, path-plan}
 use Rattle.theory.specs.Problem.{Problem, modelOf}
 use Rattle.theory.specs.Problem as Problem
-use Rattle.theory.specs.Net.{NetTables, problemBy, problemOf, limits-fit, periods-is, supplied-iff, bounded, problem-is}
-use Rattle.theory.specs.Base.{optimal-iff}
+use Rattle.theory.specs.Net.{NetTables, problemBy, problemOf, periods-is, bounded, problem-is}
+use Rattle.theory.specs.Store.{Loose, limits-loose, loose-supplied}
+use Rattle.theory.specs.Base.{loose-optimal}
 use Rattle.theory.specs.Cut.{optimal-ext}
 use Rattle.equal_rows.specs.Rows.{areas}
 use Rattle.equal.specs.Solved.{Solvable, PlanFound}
@@ -51,6 +53,10 @@ module _ (d : Day) (m : Memory) (ok : Admitted equal d (sizesOf m)) (r : Needed)
   abbrev n : ℕ
   n = periods d
 
+  -- no store can bind
+  loose : Loose d
+  loose = limits-loose (unequal d) (ok .day) (ok .own)
+
   costs-inside : r .costs ≤ length (m .costs)
   costs-inside = omega (arith, needed .costs, ok .room .costs)
 
@@ -77,8 +83,8 @@ module _ (d : Day) (m : Memory) (ok : Admitted equal d (sizesOf m)) (r : Needed)
         (record {
           constant = record {
             bounded = bounded d (ok .day);
-            one = λ k h. equal-passed d (rw first-one at (ok .own)) k (omega arith);
-            supplied = supplied-iff d (ok .day .limits .nonempty) .0 (ok .supplied);
+            one = λ k h. equal-passed d (first-two (unequal d) (lowStore d) (ok .own) .0) k (omega arith);
+            supplied = loose-supplied d loose (ok .supplied);
           };
           sized = record {
             costs = front-length (r .costs) (m .costs) costs-inside ∙ needed .costs ∙ ap (λ (k : ℕ). equal .costCells k 0) (sym size);
@@ -100,7 +106,7 @@ module _ (d : Day) (m : Memory) (ok : Admitted equal d (sizesOf m)) (r : Needed)
       slots-optimal : Optimal d (at slots′)
       slots-optimal =
           let q = problemOf d in
-          optimal-iff d (limits-fit (ok .day)) (at slots′) .1
+          loose-optimal d loose (at slots′) .1
           (optimal-ext (modelOf q) (Problem.periods q) (Problem.total q) (at slots) (at slots′) same found-net)
 
       pub slots-feasible : FeasiblePlan d slots′

@@ -8,7 +8,7 @@ use lib.ListN.{length, replicate, length-replicate, getD-replicate}
 use lib.Seq.{ext-getD}
 use Rattle.day.specs.Sums.{at, sumTo}
 use Rattle.theory.specs.Model.{Model, OptimalTo, production, costTo}
-use Rattle.theory.specs.Problem.{Problem, periods, demandTo, total, modelOf, covered-iff}
+use Rattle.theory.specs.Problem.{Problem, periods, demandTo, total, modelOf, supplied-covered}
 use Rattle.theory.specs.FlorianKlein.{no-room}
 use Rattle.equal_rows.specs.Rows.{Areas, AreasSized}
 use Rattle.equal_rows.specs.Consider.{ConstantCapacity}
@@ -39,7 +39,7 @@ module _ (p : Problem) (constant : ConstantCapacity p 0) (plan : List ℕ) (idle
   n = periods p
 
   calm : (k : ℕ) → k ≤ n → demandTo p k ≡ 0
-  calm = no-room M n (constant .one) (covered-iff p .1 (constant .supplied))
+  calm = no-room M n (constant .one) (supplied-covered p (constant .supplied))
 
   sum-idle : (j : ℕ) → j ≤ n → sumTo (at plan) j ≡ 0
   sum-idle zero h = refl

@@ -1,4 +1,4 @@
-//! The equal path: Florian and Klein (report, section 3), for days with one capacity throughout.
+//! The equal path: Florian and Klein (report, section 3), for days with one capacity throughout whose stores can't bind.
 //! It tests, takes the net needs and the rates, finds the plan row by row, hands out the last row, clears its areas, and weighs the plan.
 ghost use lib.ListN.{length};
 ghost use Rattle.day.specs.Day.{dayOf};
@@ -54,16 +54,17 @@ fn work(
     setup: &[u32],
     unit: &[u32],
     holding: &[u32],
+    store: &[u16],
     costs: &mut [u64],
     choices: &mut [u16],
     slots: &mut [u16],
     ends: Ends,
 ) -> Totals
     requires { ⌜ Admitted equal
-        (dayOf (now demand) (now capacity) (now setup) (now unit) (now holding) ends)
+        (dayOf (now demand) (now capacity) (now setup) (now unit) (now holding) (now store) ends)
         (sizes (length (now costs)) (length (now choices)) (length (now slots))) ⌝ }
     ensures { λ r. ⌜ Accepted equal
-        (dayBefore demand capacity setup unit holding ends)
+        (dayBefore demand capacity setup unit holding store ends)
         r
         (memoryBefore costs choices slots)
         (memoryAfter costs choices slots) ⌝ }
@@ -89,23 +90,24 @@ fn work(
     );
     areas::clear_wide(costs, cost_cells);
     areas::clear_narrow(choices, choice_cells);
-    weigher::totals(demand, capacity, setup, unit, holding, slots, ends)
+    weigher::totals(demand, capacity, setup, unit, holding, store, slots, ends)
 }
 
-// The plan of a day with one capacity throughout, into the first n slots.
+// The plan of a day with one capacity throughout whose stores can't bind, into the first n slots.
 pub fn plan(
     demand: &[u16],
     capacity: &[u16],
     setup: &[u32],
     unit: &[u32],
     holding: &[u32],
+    store: &[u16],
     costs: &mut [u64],
     choices: &mut [u16],
     slots: &mut [u16],
     ends: Ends,
 ) -> Answer
     ensures { λ r. ⌜ Runs equal
-        (dayBefore demand capacity setup unit holding ends)
+        (dayBefore demand capacity setup unit holding store ends)
         (memoryBefore costs choices slots)
         r
         (memoryAfter costs choices slots) ⌝ }
@@ -117,6 +119,7 @@ pub fn plan(
         setup,
         unit,
         holding,
+        store,
         costs.len(),
         choices.len(),
         slots.len(),
@@ -130,6 +133,7 @@ pub fn plan(
         setup,
         unit,
         holding,
+        store,
         costs,
         choices,
         slots,

@@ -9,7 +9,7 @@ use native.Mathlib.Omega.{arith}
 use lib.ListN.{length}
 use Rattle.day.specs.Sums.{at}
 use Rattle.theory.specs.Model.{Model, costTo}
-use Rattle.theory.specs.Problem.{Problem, periods, demandTo, capacityTo, modelOf, Bounded, Supplied, model-rising, model-unlimited, covered-iff}
+use Rattle.theory.specs.Problem.{Problem, periods, demandTo, capacityTo, modelOf, Bounded, Supplied, model-rising, model-unlimited, supplied-covered}
 use Rattle.theory.specs.Stages.{Solution, Answers}
 use Rattle.theory.specs.Reachable.{Covered}
 use Rattle.theory.specs.Regeneration.{Fits}
@@ -92,7 +92,7 @@ module _ (p : Problem) (c : ℕ) (constant : ConstantCapacity p c) where
   equal-to m h k l = constant .one k (omega arith)
 
   covered-to : (m : ℕ) → m ≤ n → Covered M m
-  covered-to m h j l = covered-iff p .1 (constant .supplied) j (omega arith)
+  covered-to m h j l = supplied-covered p (constant .supplied) j (omega arith)
 
   capacity-to : (m : ℕ) → m ≤ n → capacityTo p m ≡ m * c
   capacity-to zero h = omega arith

@@ -1,7 +1,8 @@
 //! Writes the day files of examples/ by the project's own writer: the marked days M1 to M12 (document 01), a day on which two plans cost the
-//! same (document 02, 2.2), one with charge at both ends (2.1), and a day of 96 periods.
+//! same (document 02, 2.2), one with charge at both ends (2.1), one with a low store (2.5), and a day of 96 periods.
 use day::Ends;
 use dayfile::WriteAnswer;
+use dayfile::layout::NO_LIMIT;
 use libc::STDOUT_FILENO;
 
 // The file of a day, under a name in the current folder; its name and length go to standard output.
@@ -12,10 +13,20 @@ fn save(
     setup: &[u32],
     unit: &[u32],
     holding: &[u32],
+    store: &[u16],
     ends: Ends,
 ) {
-    let mut file = [0u8; 1640];
-    let answer = dayfile_writer::write(demand, capacity, setup, unit, holding, &mut file, ends);
+    let mut file = [0u8; 1832];
+    let answer = dayfile_writer::write(
+        demand,
+        capacity,
+        setup,
+        unit,
+        holding,
+        store,
+        &mut file,
+        ends,
+    );
     let WriteAnswer::Bytes(n) = answer else {
         io::write_all(STDOUT_FILENO, b"refused ");
         io::write_all(STDOUT_FILENO, name);
@@ -35,12 +46,13 @@ fn save(
     io::write_all(STDOUT_FILENO, b"\n");
 }
 
-// A day of one to three periods, with one start cost, unit cost and upkeep throughout.
+// A day of one to three periods, with one start cost, unit cost and upkeep throughout, whose store limits nothing.
 fn save_row(name: &[u8], demand: &[u16], capacity: &[u16], b: u32, p: u32, h: u32, ends: Ends) {
     let n = demand.len();
     let setup = [b; 3];
     let unit = [p; 3];
     let holding = [h; 3];
+    let store = [NO_LIMIT; 3];
     if n <= 3 {
         save(
             name,
@@ -49,6 +61,7 @@ fn save_row(name: &[u8], demand: &[u16], capacity: &[u16], b: u32, p: u32, h: u3
             &setup[0..n],
             &unit[0..n],
             &holding[0..n],
+            &store[0..n],
             ends,
         );
     }
@@ -88,6 +101,20 @@ fn save_ends() {
     save_row(b"ends.day", &[2, 2, 3], &[4, 4, 4], 6, 1, 1, ends);
 }
 
+// M11's tables, with a store that takes little before the last period: what the second needs, the first can't make.
+fn save_store() {
+    save(
+        b"store.day",
+        &[2, 2, 3],
+        &[4, 4, 4],
+        &[6, 6, 6],
+        &[1, 1, 1],
+        &[1, 1, 1],
+        &[1, 1, NO_LIMIT],
+        no_ends(),
+    );
+}
+
 // The needs of quarter hours: 2 watt-hours each, 5 in a pass of half an hour every three hours.
 fn passes() -> [u16; 96] {
     let mut demand = [2u16; 96];
@@ -117,6 +144,7 @@ fn save_passes() {
     let setup = [4000u32; 96];
     let unit = fuel();
     let holding = [20u32; 96];
+    let store = [NO_LIMIT; 96];
     save(
         b"passes.day",
         &demand,
@@ -124,6 +152,7 @@ fn save_passes() {
         &setup,
         &unit,
         &holding,
+        &store,
         no_ends(),
     );
 }
@@ -131,5 +160,6 @@ fn save_passes() {
 fn main() {
     save_marked();
     save_ends();
+    save_store();
     save_passes();
 }

@@ -12,7 +12,8 @@ use Rattle.day.specs.Sums.{at}
 use Rattle.day.specs.Day.{Day}
 use Rattle.day.specs.Day as Day
 use Rattle.day.specs.Plan.{Optimal}
-use Rattle.day.specs.Tests.{first-one}
+use Rattle.day.specs.Refusals.{paidSetup, lowStore}
+use Rattle.day.specs.Tests.{first-two}
 use Rattle.day.specs.Outcome.{Memory, memoryOf, sizesOf, cleared, Cleared, Accepted}
 use Rattle.day.specs.Paths.{free}
 use Rattle.checks.specs.Passed.{Admitted, free-passed}
@@ -20,8 +21,9 @@ use Rattle.weigher.specs.Verdict.{totalsOf}
 use Rattle.weigher.specs.Walk.{FeasiblePlan, path-plan}
 use Rattle.theory.specs.Model.{Model}
 use Rattle.theory.specs.Problem.{Problem, periods, modelOf, model-rising, model-unlimited}
-use Rattle.theory.specs.Net.{netNeeds, ratesOf, NetTables, problemOf, limits-fit, periods-is, supplied-iff, bounded}
-use Rattle.theory.specs.Base.{optimal-iff}
+use Rattle.theory.specs.Net.{netNeeds, ratesOf, NetTables, problemOf, periods-is, bounded}
+use Rattle.theory.specs.Store.{Loose, limits-loose, loose-supplied}
+use Rattle.theory.specs.Base.{loose-optimal}
 use Rattle.theory.specs.FreeSetups.{Free}
 use Rattle.theory.specs.Batches.{Filled, Solves, greedy, greedy-right}
 use Rattle.free.specs.Solved.{freeOf, Solvable, Solved}
@@ -40,7 +42,11 @@ module _ (d : Day) (m : Memory) (ok : Admitted free d (sizesOf m)) where
 
   -- no setup of the day is paid for
   unpaid : Free M n
-  unpaid k l = free-passed d (rw first-one at (ok .own)) k (omega (arith, periods-is d))
+  unpaid k l = free-passed d (first-two (paidSetup d) (lowStore d) (ok .own) .0) k (omega (arith, periods-is d))
+
+  -- no store can bind
+  loose : Loose d
+  loose = limits-loose (paidSetup d) (ok .day) (ok .own)
 
   room : n ≤ length (m .slots)
   room = omega (arith, periods-is d, ok .room .slots)
@@ -62,7 +68,7 @@ module _ (d : Day) (m : Memory) (ok : Admitted free d (sizesOf m)) where
           capacities = b .capacities;
           units = b .units;
           holdings = b .holdings;
-          supplied = supplied-iff d (ok .day .limits .nonempty) .0 (ok .supplied);
+          supplied = loose-supplied d loose (ok .supplied);
           cost-cells = omega (arith, periods-is d, ok .room .costs);
           room = room;
         })
@@ -84,7 +90,7 @@ module _ (d : Day) (m : Memory) (ok : Admitted free d (sizesOf m)) where
           (cleared-fresh n (m .slots) room) (at (netNeeds d)) (λ k l. refl))
 
       slots-optimal : Optimal d (at (after .slots))
-      slots-optimal = optimal-iff d (limits-fit (ok .day)) (at (after .slots)) .1 (plan .optimal)
+      slots-optimal = loose-optimal d loose (at (after .slots)) .1 (plan .optimal)
 
       size : length (after .slots) ≡ length (m .slots)
       size = plan .each ∙ cleared-length n (m .slots) room

@@ -10,7 +10,7 @@ use lib.ListN.{length, drop, replicate, length-append, length-drop, length-repli
 use Rattle.day.specs.Sums.{at}
 use Rattle.day.specs.Outcome.{Memory, memoryOf, cleared, Cleared}
 use Rattle.theory.specs.Model.{Model}
-use Rattle.theory.specs.Problem.{Problem, periods, modelOf, model-rising, model-unlimited, covered-iff}
+use Rattle.theory.specs.Problem.{Problem, periods, modelOf, model-rising, model-unlimited, supplied-covered}
 use Rattle.theory.specs.Greedy.{keyOf, greedyTo, greedyTo-same}
 use Rattle.theory.specs.FreeSetups.{key}
 use Rattle.theory.specs.Batches.{Fresh, Filled, greedy, greedy-covered}
@@ -50,7 +50,7 @@ module _ (demand capacity unit holding : List ℕ) (m : Memory) (ok : Solvable (
   finds : (g : List ℕ) × (greedy M n (at demand) (cleared n (m .slots)) ≡ some g) × Filled M n (cleared n (m .slots)) g
   finds =
       greedy-covered M (model-rising p) (model-unlimited p) n (λ k l. refl) (cleared n (m .slots)) (cleared-fresh n (m .slots) (ok .room))
-      (at demand) (λ k l. refl) (covered-iff p .1 (ok .supplied))
+      (at demand) (λ k l. refl) (supplied-covered p (ok .supplied))
 
   -- the keys in the cells are the model's
   cells-key : (costs : List ℕ) → Keyed unit holding (m .costs) costs → (k : ℕ) → k < n → at costs k ≡ key M n k

@@ -1,4 +1,4 @@
-//! The free path: the greedy rule (report, section 4; document 02, 2.3), for days without setup cost.
+//! The free path: the greedy rule (report, section 4; document 02, 2.3), for days without setup cost whose stores can't bind.
 //! It tests, takes the net needs and the rates, writes the keys of the periods into its cost area, serves the needs in turn, clears the area, and
 //! weighs the plan.
 ghost use mathlib.Core.List.{[]};
@@ -41,15 +41,16 @@ fn work(
     setup: &[u32],
     unit: &[u32],
     holding: &[u32],
+    store: &[u16],
     costs: &mut [u64],
     slots: &mut [u16],
     ends: Ends,
 ) -> Totals
     requires { ⌜ Admitted free
-        (dayOf (now demand) (now capacity) (now setup) (now unit) (now holding) ends)
+        (dayOf (now demand) (now capacity) (now setup) (now unit) (now holding) (now store) ends)
         (sizesOf (memoryOf (now costs) [] (now slots))) ⌝ }
     ensures { λ r. ⌜ Accepted free
-        (dayBefore demand capacity setup unit holding ends)
+        (dayBefore demand capacity setup unit holding store ends)
         r
         (cellsBefore costs slots)
         (cellsAfter costs slots) ⌝ }
@@ -62,22 +63,23 @@ fn work(
     net::fill(demand, holding, net, rates, ends);
     solve(net, capacity, unit, rates, costs, slots);
     areas::clear_wide(costs, n);
-    weigher::totals(demand, capacity, setup, unit, holding, slots, ends)
+    weigher::totals(demand, capacity, setup, unit, holding, store, slots, ends)
 }
 
-// The plan of a day without setup cost, into the first n slots.
+// The plan of a day without setup cost whose stores can't bind, into the first n slots.
 pub fn plan(
     demand: &[u16],
     capacity: &[u16],
     setup: &[u32],
     unit: &[u32],
     holding: &[u32],
+    store: &[u16],
     costs: &mut [u64],
     slots: &mut [u16],
     ends: Ends,
 ) -> Answer
     ensures { λ r. ⌜ Runs free
-        (dayBefore demand capacity setup unit holding ends)
+        (dayBefore demand capacity setup unit holding store ends)
         (cellsBefore costs slots)
         r
         (cellsAfter costs slots) ⌝ }
@@ -89,6 +91,7 @@ pub fn plan(
         setup,
         unit,
         holding,
+        store,
         costs.len(),
         0,
         slots.len(),
@@ -96,5 +99,15 @@ pub fn plan(
     ) {
         return Answer::Refused(r);
     }
-    Answer::Planned(work(demand, capacity, setup, unit, holding, costs, slots, ends))
+    Answer::Planned(work(
+        demand,
+        capacity,
+        setup,
+        unit,
+        holding,
+        store,
+        costs,
+        slots,
+        ends,
+    ))
 }

@@ -7,7 +7,7 @@ use native.Mathlib.Omega.{arith}
 use lib.ListN.{length, take, drop, length-append}
 use lib.Seq.{length-take-le, drop-at}
 use Rattle.day.specs.declared.Totals.{Totals}
-use Rattle.day.specs.Sums.{at}
+use Rattle.day.specs.Sums.{at, length-listOf}
 use Rattle.day.specs.Day as Day
 use Rattle.day.specs.Day.{Day}
 use Rattle.day.specs.Plan.{Optimal}
@@ -19,8 +19,9 @@ use Rattle.path_checks.specs.Needed.{NeededBy}
 use Rattle.weigher.specs.Verdict.{totalsOf}
 use Rattle.weigher.specs.Walk.{FeasiblePlan, path-plan}
 use Rattle.theory.specs.Problem.{Problem, periods}
-use Rattle.theory.specs.Net.{NetTables, problemBy, limits-fit, periods-is, total-is, supplied-iff, bounded, problem-is}
-use Rattle.theory.specs.Base.{optimal-iff}
+use Rattle.theory.specs.Net.{NetTables, problemBy, limits-fit, periods-is, total-is, bounded, problem-is}
+use Rattle.theory.specs.Store.{ceilingAt, ceilingsOf, ceiling-is, passes-covered}
+use Rattle.theory.specs.Base.{store-optimal}
 use Rattle.full_table.specs.Table.{cellAt, Fillable, TableFilled, Traceable, planRead}
 use Rattle.full_table.specs.Right.{back-length, filled-longer, filled-traced, filled-optimal}
 use Rattle.full.specs.Work.{Workable, PlanLeft}
@@ -29,7 +30,7 @@ use Rattle.full.specs.Work.{Workable, PlanLeft}
 drop-front : (n k : ℕ) (front l : List ℕ) → k ≡ n → length front ≡ k → drop n (front ++ drop k l) ≡ drop n l
 drop-front n k front l e s = rw (← e) (drop-at front (drop k l) k s)
 
-module _ {p : Problem} {T : ℕ} {c : Needed} {m : Memory} (w : Workable p T c m) where
+module _ {p : Problem} {U : List ℕ} {T : ℕ} {c : Needed} {m : Memory} (w : Workable p U T c m) where
   -- how many cells of each area are lent: a part from 0 to e has e - 0
   abbrev k : ℕ
   k = c .costs - 0
@@ -43,22 +44,24 @@ module _ {p : Problem} {T : ℕ} {c : Needed} {m : Memory} (w : Workable p T c m
   lent′ : length (take k′ (m .choices)) ≡ k′
   lent′ = length-take-le k′ (m .choices) (omega (arith, w .needed .choices, w .fillable .choiceCells))
 
-  pub front-fillable : Fillable p (take k (m .costs)) (take k′ (m .choices)) T
+  pub front-fillable : Fillable p U (take k (m .costs)) (take k′ (m .choices)) T
   front-fillable =
       let f = w .fillable in
       record {
         bounded = f .bounded;
-        supplied = f .supplied;
+        ceilingCells = f .ceilingCells;
+        covered = f .covered;
         is = f .is;
+        under = f .under;
         costCells = omega (arith, lent, w .needed .costs);
         choiceCells = omega (arith, lent′, w .needed .choices);
       }
 
-  module _ {front′ : List ℕ} (filled : TableFilled p T front′) (size′ : length front′ ≡ length (take k′ (m .choices))) where
+  module _ {front′ : List ℕ} (filled : TableFilled p U T front′) (size′ : length front′ ≡ length (take k′ (m .choices))) where
     abbrev cells : List ℕ
     cells = front′ ++ drop k′ (m .choices)
 
-    longer : TableFilled p T cells
+    longer : TableFilled p U T cells
     longer = filled-longer (w .fillable) filled (omega (arith, lent′, w .needed .choices)) (drop k′ (m .choices))
 
     pub front-traceable : Traceable cells (m .slots) (periods p) T
@@ -72,7 +75,7 @@ module _ {p : Problem} {T : ℕ} {c : Needed} {m : Memory} (w : Workable p T c m
 
     pub front-planned : (front : List ℕ) {slots′ : List ℕ} → length front ≡ length (take k (m .costs))
         → slots′ ≡ planRead cells (periods p) T ++ drop (periods p) (m .slots)
-        → PlanLeft p c m (memoryOf (front ++ drop k (m .costs)) cells slots′)
+        → PlanLeft p U c m (memoryOf (front ++ drop k (m .costs)) cells slots′)
     front-planned front size e =
         let rest = drop (periods p) (m .slots) in
         rw e
@@ -83,17 +86,19 @@ module _ {p : Problem} {T : ℕ} {c : Needed} {m : Memory} (w : Workable p T c m
           choices = drop-front (c .choices) k′ front′ (m .choices) (omega arith) (size′ ∙ lent′);
         })
 
-module _ {d : Day} {m : Memory} {net rates : List ℕ} (a : Admitted full d (sizesOf m)) (filled : NetTables d net rates) where
-  pub workable : {T : ℕ} {c : Needed} → T ≡ Day.total d → NeededBy full (Day.periods d) T c → Workable (problemBy net rates d) T c m
+module _ {d : Day} {m : Memory} {net rates ceilings : List ℕ} (a : Admitted full d (sizesOf m)) (filled : NetTables d net rates)
+    (under : ceilings ≡ ceilingsOf d) where
+  pub workable : {T : ℕ} {c : Needed} → T ≡ Day.total d → NeededBy full (Day.periods d) T c → Workable (problemBy net rates d) ceilings T c m
   workable t n =
       let e = periods-is d in
-      let pos = a .day .limits .nonempty in
-      rw (problem-is d filled)
+      rw (problem-is d filled, under)
       (record {
         fillable = record {
           bounded = bounded d (a .day);
-          supplied = supplied-iff d pos .0 (a .supplied);
-          is = t ∙ sym (total-is d pos);
+          ceilingCells = length-listOf (ceilingAt d) (Day.periods d) ∙ sym e;
+          covered = rw e (passes-covered d (limits-fit (a .day)) (Day.periods d) (omega arith) (a .supplied));
+          is = t ∙ sym (total-is d (a .day .limits .nonempty));
+          under = λ k l. omega (arith, ceiling-is d k (omega (arith, e)), t);
           costCells = rw t (a .room .costs);
           choiceCells = rw (e, t) (a .room .choices);
         };
@@ -101,9 +106,11 @@ module _ {d : Day} {m : Memory} {net rates : List ℕ} (a : Admitted full d (siz
         needed = rw e n;
       })
 
-  module _ {c : Needed} {after : Memory} (left : PlanLeft (problemBy net rates d) c m after) (size : length (after .slots) ≡ length (m .slots)) where
+  module _ {c : Needed} {after : Memory} (left : PlanLeft (problemBy net rates d) ceilings c m after)
+      (size : length (after .slots) ≡ length (m .slots)) where
     left-optimal : Optimal d (at (after .slots))
-    left-optimal = optimal-iff d (limits-fit (a .day)) (at (after .slots)) .1 ((rw (problem-is d filled) at left) .plan)
+    left-optimal =
+        store-optimal d (limits-fit (a .day)) (λ k l. a .supplied k l .room) (at (after .slots)) .1 ((rw (problem-is d filled, under) at left) .plan)
 
     pub left-feasible : FeasiblePlan d (after .slots)
     left-feasible = path-plan a size (left-optimal .feasible)

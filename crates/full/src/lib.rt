@@ -20,6 +20,7 @@ fn fill_and_read(
     setup: &[u32],
     unit: &[u32],
     holding: &[u32],
+    ceilings: &[u16],
     costs: &mut [u64],
     choices: &mut [u16],
     slots: &mut [u16],
@@ -28,9 +29,10 @@ fn fill_and_read(
 )
     requires { ⌜ Workable
         (problemWith (now demand) (now capacity) (now setup) (now unit) (now holding))
-        total needed (memoryOf (now costs) (now choices) (now slots)) ⌝ }
+        (now ceilings) total needed (memoryOf (now costs) (now choices) (now slots)) ⌝ }
     ensures { λ _. ⌜ PlanLeft
         (problemWith (now (demand .entry)) (now (capacity .entry)) (now (setup .entry)) (now (unit .entry)) (now (holding .entry)))
+        (now (ceilings .entry))
         needed
         (memoryBefore costs choices slots)
         (memoryAfter costs choices slots) ⌝ }
@@ -43,6 +45,7 @@ fn fill_and_read(
         setup,
         unit,
         holding,
+        ceilings,
         &mut costs[0..cost_cells],
         &mut choices[0..choice_cells],
         total,
@@ -50,23 +53,24 @@ fn fill_and_read(
     full_table::read_back(choices, slots, demand.len(), total);
 }
 
-// The work, once the tests have passed: the loops run on the net needs and the rates, the plan is weighed on the day itself.
+// The work, once the tests have passed: the loops run on the net needs and the rates under the ceilings, the plan is weighed on the day itself.
 fn work(
     demand: &[u16],
     capacity: &[u16],
     setup: &[u32],
     unit: &[u32],
     holding: &[u32],
+    store: &[u16],
     costs: &mut [u64],
     choices: &mut [u16],
     slots: &mut [u16],
     ends: Ends,
 ) -> Totals
     requires { ⌜ Admitted full
-        (dayOf (now demand) (now capacity) (now setup) (now unit) (now holding) ends)
+        (dayOf (now demand) (now capacity) (now setup) (now unit) (now holding) (now store) ends)
         (sizesOf (memoryOf (now costs) (now choices) (now slots))) ⌝ }
     ensures { λ r. ⌜ Accepted full
-        (dayBefore demand capacity setup unit holding ends)
+        (dayBefore demand capacity setup unit holding store ends)
         r
         (memoryBefore costs choices slots)
         (memoryAfter costs choices slots) ⌝ }
@@ -76,22 +80,26 @@ fn work(
     let needed = path_checks::cells(PathKind::Full, n, total);
     let mut need_table = [0u16; 96];
     let mut rate_table = [0u32; 96];
+    let mut ceiling_table = [0u16; 96];
     let net = &mut need_table[0..n];
     let rates = &mut rate_table[0..n];
+    let ceilings = &mut ceiling_table[0..n];
     net::fill(demand, holding, net, rates, ends);
+    net::fill_ceilings(demand, store, ceilings, ends);
     fill_and_read(
         net,
         capacity,
         setup,
         unit,
         rates,
+        ceilings,
         costs,
         choices,
         slots,
         total,
         needed,
     );
-    let totals = weigher::totals(demand, capacity, setup, unit, holding, slots, ends);
+    let totals = weigher::totals(demand, capacity, setup, unit, holding, store, slots, ends);
     areas::clear_wide(costs, needed.costs);
     areas::clear_narrow(choices, needed.choices);
     totals
@@ -104,13 +112,14 @@ pub fn plan(
     setup: &[u32],
     unit: &[u32],
     holding: &[u32],
+    store: &[u16],
     costs: &mut [u64],
     choices: &mut [u16],
     slots: &mut [u16],
     ends: Ends,
 ) -> Answer
     ensures { λ r. ⌜ Runs full
-        (dayBefore demand capacity setup unit holding ends)
+        (dayBefore demand capacity setup unit holding store ends)
         (memoryBefore costs choices slots)
         r
         (memoryAfter costs choices slots) ⌝ }
@@ -122,6 +131,7 @@ pub fn plan(
         setup,
         unit,
         holding,
+        store,
         costs.len(),
         choices.len(),
         slots.len(),
@@ -135,6 +145,7 @@ pub fn plan(
         setup,
         unit,
         holding,
+        store,
         costs,
         choices,
         slots,

@@ -10,9 +10,8 @@ use Rattle.day.specs.Sums.{at}
 use Rattle.theory.specs.Model.{Model, OptimalTo}
 use Rattle.theory.specs.Recursion.{leads-optimal}
 use Rattle.theory.specs.Cut.{optimal-ext}
-use Rattle.theory.specs.Reachable.{Covered}
 use Rattle.theory.specs.Full.{stageOf, costRow, amount, back, fullPath, fullPath-right}
-use Rattle.theory.specs.Problem.{Problem, periods, total, modelOf, model-rising, covered-iff}
+use Rattle.theory.specs.Problem.{Problem, periods, total, modelWithin, model-rising}
 use Rattle.full_rows.specs.Laws.{InReach, amount-between, before}
 use Rattle.full_table.specs.Table.{Reachable, cellAt, Fillable, TableFilled, Traced, planRead}
 
@@ -20,40 +19,37 @@ pub back-length : (ch : ℕ → ℕ → ℕ) (k X : ℕ) → length (back ch k X
 back-length ch zero X = refl
 back-length ch (suc k) X = length-append (back ch k (X - ch k X)) (ch k X ∷ []) ∙ omega (arith, back-length ch k (X - ch k X))
 
-module _ {p : Problem} {costs choices : List ℕ} {T : ℕ} (f : Fillable p costs choices T) where
+module _ {p : Problem} {U costs choices : List ℕ} {T : ℕ} (f : Fillable p U costs choices T) where
   abbrev M : Model
-  M = modelOf p
+  M = modelWithin p U
 
   abbrev n : ℕ
   n = periods p
 
-  pub covered : Covered M n
-  covered = covered-iff p .1 (f .supplied)
+  pub under : (i X : ℕ) → i ≤ n → Reachable p U i X → X ≤ T
+  under zero X l h = omega (arith, h .high)
+  under (suc i) X l h = omega (arith, h .high, f .under i l)
 
-  pub under : (i X : ℕ) → Reachable p i X → X ≤ T
-  under zero X h = omega (arith, h .high)
-  under (suc i) X h = omega (arith, h .high, f .is)
-
-  pub reached : (i X : ℕ) → i < n → Reachable p (suc i) X → InReach (stageOf M i) X
-  reached i X l h = record { some = covered i (omega arith); rises = omega (arith, h .low); near = omega (arith, h .high) }
+  pub reached : (i X : ℕ) → i < n → Reachable p U (suc i) X → InReach (stageOf M i) X
+  reached i X l h = record { some = f .covered i (omega arith); rises = omega (arith, h .low); near = omega (arith, h .high) }
 
   -- the whole demand can be reached
-  whole : Reachable p n T
-  whole = record { low = omega (arith, f .is); high = omega (arith, f .is, covered n (omega arith)) }
+  whole : Reachable p U n T
+  whole = record { low = omega (arith, f .is); high = omega (arith, f .is, f .covered n (omega arith)) }
 
   -- what the choices say does not hang on what lies after them
-  pub filled-longer : {cells : List ℕ} → TableFilled p T cells → n * (T + 1) ≤ length cells → (rest : List ℕ) → TableFilled p T (cells ++ rest)
+  pub filled-longer : {cells : List ℕ} → TableFilled p U T cells → n * (T + 1) ≤ length cells → (rest : List ℕ) → TableFilled p U T (cells ++ rest)
   filled-longer {cells} t l rest =
       record {
         amounts = λ k X h a.
             let m = suc-mul k (T + 1) in
             let b = mul-le-mul-right (T + 1) h in
-            List·getD-append cells rest 0 (k * (T + 1) + X) (omega (arith, under (suc k) X a)) ∙ t .amounts k X h a;
+            List·getD-append cells rest 0 (k * (T + 1) + X) (omega (arith, under (suc k) X h a)) ∙ t .amounts k X h a;
       }
 
-  module _ {cells : List ℕ} (t : TableFilled p T cells) where
+  module _ {cells : List ℕ} (t : TableFilled p U T cells) where
     -- the choices lead from one total that can be reached to another, by the amounts of the full path
-    back-right : (k X : ℕ) → k ≤ n → Reachable p k X → Traced (cellAt cells T) k X × (back (cellAt cells T) k X ≡ back (amount M) k X)
+    back-right : (k X : ℕ) → k ≤ n → Reachable p U k X → Traced (cellAt cells T) k X × (back (cellAt cells T) k X ≡ back (amount M) k X)
     back-right zero X l h = (tt, refl)
     back-right (suc k) X l h =
         let e = t .amounts k X l h in
@@ -71,7 +67,7 @@ module _ {p : Problem} {costs choices : List ℕ} {T : ℕ} (f : Fillable p cost
     filled-optimal rest =
         subst (λ (X : ℕ). OptimalTo M n X (at (planRead cells n T ++ rest))) (f .is)
         (optimal-ext M n T (at (back (amount M) n T)) (at (planRead cells n T ++ rest)) same
-        (leads-optimal M n T (fullPath M n T) (fullPath-right M (model-rising p) n covered T (whole .low) (whole .high))))
+        (leads-optimal M n T (fullPath M n T) (fullPath-right M (model-rising p) n (f .covered) T (whole .low) (whole .high))))
       where
         same : (k : ℕ) → k < n → at (back (amount M) n T) k ≡ at (planRead cells n T ++ rest) k
         same k l =

@@ -6,22 +6,22 @@ ghost use Rattle.theory.specs.Problem.{problemWith};
 ghost use Rattle.full_table.specs.Table.{stageAt, Staged, Fillable, TableFilled, Traceable, planRead};
 use full_rows::Stage;
 
-// A period as a stage, where the totals from `low` to `high` can be reached before it, and `total` is N over all periods.
+// A period as a stage, where the totals from `low` to `high` can be reached before it, and no more than its ceiling may be after it.
 fn stage_at(
     demand: &[u16],
     capacity: &[u16],
     setup: &[u32],
     unit: &[u32],
     holding: &[u32],
+    ceilings: &[u16],
     i: usize,
     low: usize,
     high: usize,
-    total: usize,
 ) -> Stage
-    requires { ⌜ Staged (problemWith (now demand) (now capacity) (now setup) (now unit) (now holding)) i low high ⌝ }
+    requires { ⌜ Staged (problemWith (now demand) (now capacity) (now setup) (now unit) (now holding)) (now ceilings) i low high ⌝ }
     ensures { λ r. ⌜ r ≡ stageAt
         (problemWith (now (demand .entry)) (now (capacity .entry)) (now (setup .entry)) (now (unit .entry)) (now (holding .entry)))
-        i low high total ⌝ }
+        (now (ceilings .entry)) i low high ⌝ }
 {
     let most = capacity[i] as usize;
     Stage {
@@ -32,27 +32,28 @@ fn stage_at(
         low,
         high,
         floor: low + (demand[i] as usize),
-        top: full_rows::smaller(high + most, total),
+        top: full_rows::smaller(high + most, ceilings[i] as usize),
     }
 }
 
-// Fills the rows of choices, for the totals that can be reached. Two rows of costs take turns. Free: all costs, and the other choices.
+// Fills the rows of choices, for the totals that can be reached under the ceilings. Two rows of costs take turns. Free: all costs, and the other choices.
 pub fn fill(
     demand: &[u16],
     capacity: &[u16],
     setup: &[u32],
     unit: &[u32],
     holding: &[u32],
+    ceilings: &[u16],
     costs: &mut [u64],
     choices: &mut [u16],
     total: usize,
 )
     requires { ⌜ Fillable
         (problemWith (now demand) (now capacity) (now setup) (now unit) (now holding))
-        (now costs) (now choices) total ⌝ }
+        (now ceilings) (now costs) (now choices) total ⌝ }
     ensures { λ _. ⌜ TableFilled
         (problemWith (now (demand .entry)) (now (capacity .entry)) (now (setup .entry)) (now (unit .entry)) (now (holding .entry)))
-        total (now (choices .exit)) ⌝ }
+        (now (ceilings .entry)) total (now (choices .exit)) ⌝ }
 {
     let width = total + 1;
     let mut from = 0;
@@ -62,7 +63,17 @@ pub fn fill(
     let mut high = 0;
     costs[0] = 0;
     for i in 0..demand.len() {
-        let s = stage_at(demand, capacity, setup, unit, holding, i, low, high, total);
+        let s = stage_at(
+            demand,
+            capacity,
+            setup,
+            unit,
+            holding,
+            ceilings,
+            i,
+            low,
+            high,
+        );
         full_rows::step(s, costs, from, to, choices, base);
         low = s.floor;
         high = s.top;

@@ -81,7 +81,7 @@ pub fn plan_line(n: u64, cost: u64, setups: u64, text: &mut [u8], place: usize) 
 // The inventory left after the first i periods.
 fn inventory(demand: &[u16], plan: &[u16], i: usize, ends: Ends) -> u64
     requires { ⌜ HavePeriods (now demand) (now plan) i ⌝ }
-    ensures { λ r. ⌜ r ≡ left (dayOf (now (demand .entry)) [] [] [] [] ends) (at (now (plan .entry))) i ⌝ }
+    ensures { λ r. ⌜ r ≡ left (dayOf (now (demand .entry)) [] [] [] [] [] ends) (at (now (plan .entry))) i ⌝ }
 {
     let there = checks::summed(&plan[0..i]) + (ends.opening as u64);
     let needed = checks::summed(&demand[0..i]);
@@ -101,7 +101,7 @@ pub fn amount_line(
     requires { ⌜ place + lineBytes ≤ length (now text) ⌝ }
     ensures { λ r. ⌜
         PutWithin lineBytes (now (text .entry)) place
-        (amountLine (dayOf (now (demand .entry)) [] [] [] [] ends) (at (now (plan .entry))) i)
+        (amountLine (dayOf (now (demand .entry)) [] [] [] [] [] ends) (at (now (plan .entry))) i)
         (now (text .exit)) r
         ⌝ }
 {

@@ -5,7 +5,8 @@ ghost use Prim.Native.Nat.{_≤_};
 ghost use lib.ListN.{length};
 ghost use Rattle.day.specs.Day.{dayOf, tablesOf, required, maxPeriods, maxSum};
 ghost use Rattle.day.specs.Lent.{dayBefore};
-ghost use Rattle.day.specs.Refusals.{checked, first, badAreas, badSlots, shortage, unequal, binding, paidSetup};
+ghost use Rattle.day.specs.Refusals.{checked, first, badAreas, badSlots, shortage, unequal, binding, paidSetup, lowStore};
+ghost use Rattle.day.specs.Tests.{inOrder};
 ghost use Rattle.day.specs.Outcome.{pathTests, refusal, sizes};
 ghost use Rattle.day.specs.Paths.{pathOf};
 ghost use Rattle.path_checks.specs.Needed.{NeededBy};
@@ -34,20 +35,23 @@ fn memory(
     Check::Passed
 }
 
-// 7, for tables of one length: the first period with R − A above C, or the last with T above C
-fn shortage(demand: &[u16], capacity: &[u16], ends: Ends) -> Check
+// 7, for tables of one length: the first period after which A is above R + s, or what must have been made above the most that can have been
+fn shortage(demand: &[u16], capacity: &[u16], store: &[u16], ends: Ends) -> Check
     requires { ⌜ length (now capacity) ≡ length (now demand) ⌝ }
+    requires { ⌜ length (now store) ≡ length (now demand) ⌝ }
     requires { ⌜ length (now demand) ≤ maxPeriods ⌝ }
-    ensures { λ r. ⌜ r ≡ checked (shortage (dayOf (now (demand .entry)) (now (capacity .entry)) [] [] [] ends)) ⌝ }
+    ensures { λ r. ⌜ r ≡ checked (shortage (dayOf (now (demand .entry)) (now (capacity .entry)) [] [] [] (now (store .entry)) ends)) ⌝ }
 {
+    let opening = ends.opening as u64;
     let mut demanded: u64 = 0;
-    let mut available: u64 = 0;
+    let mut most: u64 = 0;
     let mut i = 0;
     while i < demand.len() {
         demanded += demand[i] as u64;
-        available += capacity[i] as u64;
+        let limit = demanded + (store[i] as u64);
+        most = checks::smaller(most + (capacity[i] as u64), checks::beyond(limit, opening));
         i += 1;
-        if available < checks::net_to(demanded, i == demand.len(), ends) {
+        if limit < opening || most < checks::net_to(demanded, i == demand.len(), ends) {
             return Check::Refused(Refusal::Shortage(i as u16));
         }
     }
@@ -57,7 +61,7 @@ fn shortage(demand: &[u16], capacity: &[u16], ends: Ends) -> Check
 // 8, for tables of one length: every capacity is as the first
 fn equal(demand: &[u16], capacity: &[u16]) -> Check
     requires { ⌜ length (now capacity) ≡ length (now demand) ⌝ }
-    ensures { λ r. ⌜ r ≡ checked (unequal (tablesOf (now (demand .entry)) (now (capacity .entry)) [] [] [])) ⌝ }
+    ensures { λ r. ⌜ r ≡ checked (unequal (tablesOf (now (demand .entry)) (now (capacity .entry)) [] [] [] [])) ⌝ }
 {
     let mut i = 0;
     while i < demand.len() {
@@ -73,8 +77,8 @@ fn equal(demand: &[u16], capacity: &[u16]) -> Check
 fn binding(demand: &[u16], capacity: &[u16], ends: Ends) -> Check
     requires { ⌜ length (now capacity) ≡ length (now demand) ⌝ }
     requires { ⌜ length (now demand) ≤ maxPeriods ⌝ }
-    requires { ⌜ ends .opening ≤ required (dayOf (now demand) [] [] [] [] ends) ⌝ }
-    ensures { λ r. ⌜ r ≡ checked (binding (dayOf (now (demand .entry)) (now (capacity .entry)) [] [] [] ends)) ⌝ }
+    requires { ⌜ ends .opening ≤ required (dayOf (now demand) [] [] [] [] [] ends) ⌝ }
+    ensures { λ r. ⌜ r ≡ checked (binding (dayOf (now (demand .entry)) (now (capacity .entry)) [] [] [] [] ends)) ⌝ }
 {
     let total = checks::total(demand, ends);
     let mut demanded: u64 = 0;
@@ -94,7 +98,7 @@ fn binding(demand: &[u16], capacity: &[u16], ends: Ends) -> Check
 fn paid(demand: &[u16], setup: &[u32]) -> Check
     requires { ⌜ length (now setup) ≡ length (now demand) ⌝ }
     requires { ⌜ length (now demand) ≤ maxPeriods ⌝ }
-    ensures { λ r. ⌜ r ≡ checked (paidSetup (tablesOf (now (demand .entry)) [] (now (setup .entry)) [] [])) ⌝ }
+    ensures { λ r. ⌜ r ≡ checked (paidSetup (tablesOf (now (demand .entry)) [] (now (setup .entry)) [] [] [])) ⌝ }
 {
     let mut i = 0;
     while i < demand.len() {
@@ -106,21 +110,59 @@ fn paid(demand: &[u16], setup: &[u32]) -> Check
     Check::Passed
 }
 
+// 16, for tables of one length: the first store limit below R + Z
+fn low_store(demand: &[u16], store: &[u16], ends: Ends) -> Check
+    requires { ⌜ length (now store) ≡ length (now demand) ⌝ }
+    requires { ⌜ length (now demand) ≤ maxPeriods ⌝ }
+    ensures { λ r. ⌜ r ≡ checked (lowStore (dayOf (now (demand .entry)) [] [] [] [] (now (store .entry)) ends)) ⌝ }
+{
+    let required = checks::required(demand, ends);
+    let mut i = 0;
+    while i < demand.len() {
+        if (store[i] as u64) < required {
+            return Check::Refused(Refusal::LowStore((i + 1) as u16));
+        }
+        i += 1;
+    }
+    Check::Passed
+}
+
+// A test of a path's own, then 16.
+fn then_store(test: Check, demand: &[u16], store: &[u16], ends: Ends) -> Check
+    requires { ⌜ length (now store) ≡ length (now demand) ⌝ }
+    requires { ⌜ length (now demand) ≤ maxPeriods ⌝ }
+    ensures { λ r. ⌜ r ≡ inOrder test (checked (lowStore (dayOf (now (demand .entry)) [] [] [] [] (now (store .entry)) ends))) ⌝ }
+{
+    if let Check::Refused(r) = test {
+        return Check::Refused(r);
+    }
+    low_store(demand, store, ends)
+}
+
 // The tests that a path alone applies.
-fn own(kind: PathKind, demand: &[u16], capacity: &[u16], setup: &[u32], ends: Ends) -> Check
+fn own(
+    kind: PathKind,
+    demand: &[u16],
+    capacity: &[u16],
+    setup: &[u32],
+    store: &[u16],
+    ends: Ends,
+) -> Check
     requires { ⌜ length (now capacity) ≡ length (now demand) ⌝ }
     requires { ⌜ length (now setup) ≡ length (now demand) ⌝ }
+    requires { ⌜ length (now store) ≡ length (now demand) ⌝ }
     requires { ⌜ length (now demand) ≤ maxPeriods ⌝ }
-    requires { ⌜ ends .opening ≤ required (dayOf (now demand) [] [] [] [] ends) ⌝ }
+    requires { ⌜ ends .opening ≤ required (dayOf (now demand) [] [] [] [] [] ends) ⌝ }
     ensures { λ r. ⌜
-        r ≡ checked (first (pathOf kind .own (dayOf (now (demand .entry)) (now (capacity .entry)) (now (setup .entry)) [] [] ends)))
+        r ≡ checked (first (pathOf kind .own
+        (dayOf (now (demand .entry)) (now (capacity .entry)) (now (setup .entry)) [] [] (now (store .entry)) ends)))
         ⌝ }
 {
     match kind {
         PathKind::Full => Check::Passed,
-        PathKind::Uncapped => binding(demand, capacity, ends),
-        PathKind::Equal => equal(demand, capacity),
-        PathKind::Free => paid(demand, setup),
+        PathKind::Uncapped => then_store(binding(demand, capacity, ends), demand, store, ends),
+        PathKind::Equal => then_store(equal(demand, capacity), demand, store, ends),
+        PathKind::Free => then_store(paid(demand, setup), demand, store, ends),
     }
 }
 
@@ -160,6 +202,7 @@ fn room(
     demand: &[u16],
     capacity: &[u16],
     setup: &[u32],
+    store: &[u16],
     costs: usize,
     choices: usize,
     slots: usize,
@@ -167,11 +210,12 @@ fn room(
 ) -> Check
     requires { ⌜ length (now capacity) ≡ length (now demand) ⌝ }
     requires { ⌜ length (now setup) ≡ length (now demand) ⌝ }
+    requires { ⌜ length (now store) ≡ length (now demand) ⌝ }
     requires { ⌜ length (now demand) ≤ maxPeriods ⌝ }
-    requires { ⌜ ends .opening ≤ required (dayOf (now demand) [] [] [] [] ends) ⌝ }
+    requires { ⌜ ends .opening ≤ required (dayOf (now demand) [] [] [] [] [] ends) ⌝ }
     ensures { λ r. ⌜
         r ≡ checked (first (pathTests (pathOf kind)
-        (dayOf (now (demand .entry)) (now (capacity .entry)) (now (setup .entry)) [] [] ends)
+        (dayOf (now (demand .entry)) (now (capacity .entry)) (now (setup .entry)) [] [] (now (store .entry)) ends)
         (sizes costs choices slots)))
         ⌝ }
 {
@@ -180,10 +224,10 @@ fn room(
     if let Check::Refused(r) = memory(costs, needed.costs, choices, needed.choices, slots, n) {
         return Check::Refused(r);
     }
-    if let Check::Refused(r) = shortage(demand, capacity, ends) {
+    if let Check::Refused(r) = shortage(demand, capacity, store, ends) {
         return Check::Refused(r);
     }
-    own(kind, demand, capacity, setup, ends)
+    own(kind, demand, capacity, setup, store, ends)
 }
 
 // A path's tests in order: 1 to 4, 14, 5 to 7, then its own
@@ -194,15 +238,26 @@ pub fn path(
     setup: &[u32],
     unit: &[u32],
     holding: &[u32],
+    store: &[u16],
     costs: usize,
     choices: usize,
     slots: usize,
     ends: Ends,
 ) -> Check
-    ensures { λ r. ⌜ r ≡ checked (refusal (pathOf kind) (dayBefore demand capacity setup unit holding ends) (sizes costs choices slots)) ⌝ }
+    ensures { λ r. ⌜ r ≡ checked (refusal (pathOf kind) (dayBefore demand capacity setup unit holding store ends) (sizes costs choices slots)) ⌝ }
 {
-    if let Check::Refused(r) = checks::day(demand, capacity, setup, unit, holding, ends) {
+    if let Check::Refused(r) = checks::day(demand, capacity, setup, unit, holding, store, ends) {
         return Check::Refused(r);
     }
-    room(kind, demand, capacity, setup, costs, choices, slots, ends)
+    room(
+        kind,
+        demand,
+        capacity,
+        setup,
+        store,
+        costs,
+        choices,
+        slots,
+        ends,
+    )
 }

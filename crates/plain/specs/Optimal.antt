@@ -8,7 +8,7 @@ use Prim.Native.Nat.{ℕ, zero, suc, _+_, _*_, _/_, _%_, _≤_, _<_}
 use native.Mathlib.Nat.{div-add-mod, mod-lt}
 use native.Mathlib.Omega.{arith}
 use Rattle.day.specs.Sums.{at, sum-grows}
-use Rattle.day.specs.Search.{feasible-alike, cost-alike}
+use Rattle.day.specs.Search.{kept-alike, cost-alike}
 use Rattle.day.specs.Day.{Day, periods, total}
 use Rattle.day.specs.Plan.{Feasible, Smaller, Precedes, Optimal, cost}
 use Rattle.day.specs.Figures.{first-value}
@@ -113,7 +113,7 @@ module _ (d : Day) (tiny : TinyDay d) where
 
   -- no plan of the day makes more than 10 in a period
   amount-low : (y : ℕ → ℕ) → Feasible d y → (k : ℕ) → k < n → y k ≤ 10
-  amount-low y f k l = omega (arith, sum-grows y (suc k) n l, f .ends, tiny .low)
+  amount-low y f k l = omega (arith, sum-grows y (suc k) n l, f .ends refl, tiny .low)
 
   number-digit : (y : ℕ → ℕ) → Feasible d y → (k : ℕ) → k < n → y k ≡ digit (numberOf n y) k
   number-digit y f k l = sym (digit-number n y (amount-low y f) k l)
@@ -129,7 +129,7 @@ module _ (d : Day) (tiny : TinyDay d) where
   held : (y : ℕ → ℕ) → Feasible d y → HoldsAs d (numberOf n y) (totalsOf d (at (planOf (numberOf n y))))
   held y f =
       let x = at (planOf (numberOf n y)) in
-      rw (tiny .accepted, feasible-holds d x (feasible-alike d y x (alike y f) f)) refl
+      rw (tiny .accepted, feasible-holds d x (kept-alike d n y x (alike y f) f)) refl
 
   module _ (best : Best) where
     none-feasible : Chosen d (plansOf n) best → best .found ≡ false → (y : ℕ → ℕ) → Feasible d y → ⊥

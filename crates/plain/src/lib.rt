@@ -92,9 +92,10 @@ pub fn search(
     setup: &[u32],
     unit: &[u32],
     holding: &[u32],
+    store: &[u16],
     ends: Ends,
 ) -> Best
-    ensures { λ r. ⌜ Searched (dayBefore demand capacity setup unit holding ends) r ⌝ }
+    ensures { λ r. ⌜ Searched (dayBefore demand capacity setup unit holding store ends) r ⌝ }
 {
     let mut best = Best {
         found: false,
@@ -106,7 +107,7 @@ pub fn search(
     let mut m = 0;
     while m < count {
         let plan = plan_of(m);
-        let w = weigher::weigh(demand, capacity, setup, unit, holding, &plan, ends);
+        let w = weigher::weigh(demand, capacity, setup, unit, holding, store, &plan, ends);
         best = better(best, plan, w);
         m += 1;
     }
@@ -134,9 +135,9 @@ fn same_plan(plan: [u16; 4], n: usize, slots: &[u16]) -> bool
 // The refusal's number of a day without a plan: 14 where A is above R + Z, else 7.
 fn without_plan(demand: &[u16], ends: Ends) -> u8
     requires { ⌜ length (now demand) ≤ 4 ⌝ }
-    ensures { λ r. ⌜ r ≡ withoutPlan (dayOf (now (demand .entry)) [] [] [] [] ends) ⌝ }
+    ensures { λ r. ⌜ r ≡ withoutPlan (dayOf (now (demand .entry)) [] [] [] [] [] ends) ⌝ }
 {
-    if checks::summed(demand) + (ends.closing as u64) < (ends.opening as u64) {
+    if checks::required(demand, ends) < (ends.opening as u64) {
         return 14;
     }
     7
@@ -146,7 +147,7 @@ fn without_plan(demand: &[u16], ends: Ends) -> u8
 // refusal 14 or 7.
 pub fn agrees(best: Best, demand: &[u16], answer: Answer, slots: &[u16], ends: Ends) -> bool
     ensures { λ r. ⌜
-        Decides (Agreement (dayOf (now (demand .entry)) [] [] [] [] ends) best answer (now (slots .entry))) r
+        Decides (Agreement (dayOf (now (demand .entry)) [] [] [] [] [] ends) best answer (now (slots .entry))) r
         ⌝ }
 {
     if 4 < demand.len() {

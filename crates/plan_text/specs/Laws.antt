@@ -34,7 +34,7 @@ use Rattle.plan_text.specs.Text.{lent, amountLines, planText, Printed, P
 -- the loop over the periods: the lines of the first i stand from the place on, up to `next`
 pub record Lined (demand plan : List ℕ) (ends : Ends) (before : List ℕ) (place i : ℕ) (after : List ℕ) (next : ℕ) : Type 0 where
   pub done : i ≤ length demand
-  pub put : Put before place (amountLines (dayOf demand [] [] [] [] ends) (at plan) i) after next
+  pub put : Put before place (amountLines (dayOf demand [] [] [] [] [] ends) (at plan) i) after next
   pub few : next ≤ place + i * lineBytes
 
 pub no-lines : (demand plan : List ℕ) (ends : Ends) (text : List ℕ) (place : ℕ) → place ≤ length text → Lined demand plan ends text place 0 text place
@@ -48,7 +48,7 @@ no-lines demand plan ends text place h =
 -- one line more
 pub amounts-more : (demand plan : List ℕ) (ends : Ends) {before between after : List ℕ} {place next later : ℕ} (i : ℕ) → i < length demand
     → Lined demand plan ends before place i between next
-    → PutWithin lineBytes between next (amountLine (dayOf demand [] [] [] [] ends) (at plan) i) after later
+    → PutWithin lineBytes between next (amountLine (dayOf demand [] [] [] [] [] ends) (at plan) i) after later
     → Lined demand plan ends before place (i + 1) after later
 amounts-more demand plan ends i l p q =
     rw add-one (record { done = l; put = put-put (p .put) (q .put); few = omega (arith, p .few, q .few) })
@@ -75,7 +75,7 @@ planned-has d after answer t e r =
     record { demanded = omega arith; planned = omega (arith, q .1 .size, length-replicate {A = ℕ} 96 0); few = few }
 
 -- lines of amounts need no more of a day than its demand and its ends
-lines-of-demand : (d : Day) (x : ℕ → ℕ) (k : ℕ) → amountLines (dayOf (d .demand) [] [] [] [] (endsOf d)) x k ≡ amountLines d x k
+lines-of-demand : (d : Day) (x : ℕ → ℕ) (k : ℕ) → amountLines (dayOf (d .demand) [] [] [] [] [] (endsOf d)) x k ≡ amountLines d x k
 lines-of-demand d x zero = refl
 lines-of-demand d x (suc k) = ap (λ (l : List ℕ). l ++ amountLine d x k) (lines-of-demand d x k)
 
@@ -83,7 +83,7 @@ lines-of-demand d x (suc k) = ap (λ (l : List ℕ). l ++ amountLine d x k) (lin
 pub planned-text : (d : Day) (after : Memory) (answer : Answer) (t : Totals) {text later : List ℕ} {r : ℕ} → answer ≡ Planned t
     → Runs full d blank answer after
     → Put text 0
-    (planLine (periods d) (t .cost) (t .setups) ++ amountLines (dayOf (d .demand) [] [] [] [] (endsOf d)) (at (after .slots)) (periods d))
+    (planLine (periods d) (t .cost) (t .setups) ++ amountLines (dayOf (d .demand) [] [] [] [] [] (endsOf d)) (at (after .slots)) (periods d))
     later r
     → PrintedDay d text later r
 planned-text d after answer t e r p =
@@ -108,7 +108,7 @@ refused-day d after answer refused e r p =
 
 -- the tables that the reader fills, before the call
 abbrev pub blankDay : Day
-blankDay = tablesOf (replicate 96 0) (replicate 96 0) (replicate 96 0) (replicate 96 0) (replicate 96 0)
+blankDay = tablesOf (replicate 96 0) (replicate 96 0) (replicate 96 0) (replicate 96 0) (replicate 96 0) (replicate 96 0)
 
 blank-shortest : shortest blankDay ≡ 96
 blank-shortest = rw (length-replicate {A = ℕ} 96 0) refl
@@ -155,9 +155,9 @@ refused-file s after answer refused e r p =
     refused-text refused (rw first refl) (rw e at p)
 
 -- the length is tested first
-pub long-text : (s : List ℕ) {text later : List ℕ} {r : ℕ} → 1640 < length s → Put text 0 (refusalLine WrongEnd) later r
+pub long-text : (s : List ℕ) {text later : List ℕ} {r : ℕ} → 1832 < length s → Put text 0 (refusalLine WrongEnd) later r
     → PrintedText s text later r
-long-text s l p = refused-text WrongEnd (rw (lt-ltb 1640 (length s) l) refl) p
+long-text s l p = refused-text WrongEnd (rw (lt-ltb 1832 (length s) l) refl) p
 
-pub short-text : (s : List ℕ) {text later : List ℕ} {r : ℕ} → length s ≤ 1640 → PrintedFile s text later r → PrintedText s text later r
-short-text s l p = rw (le-ltb 1640 (length s) l) p
+pub short-text : (s : List ℕ) {text later : List ℕ} {r : ℕ} → length s ≤ 1832 → PrintedFile s text later r → PrintedText s text later r
+short-text s l p = rw (le-ltb 1832 (length s) l) p

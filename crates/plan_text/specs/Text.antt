@@ -23,9 +23,9 @@ use Rattle.lines.specs.Text.{planLine, amountLine, refusalLine, Put}
 abbrev pub lent : Sizes
 lent = sizes 1000 24000 96
 
--- 12: more than 1,640 bytes, which are those of both ends, 96 periods and the end
+-- 12: more than 1,832 bytes, which are those of both ends, 96 periods and the end
 abbrev pub tooLong : List ℕ → Option Refusal
-tooLong s = refuse (ltb 1640 (length s)) WrongEnd
+tooLong s = refuse (ltb 1832 (length s)) WrongEnd
 
 -- the first refusal of a file: its length, the reader's tests, the full path's
 abbrev pub textRefusal : List ℕ → Option Refusal

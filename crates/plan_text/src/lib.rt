@@ -4,6 +4,7 @@ ghost use mathlib.Core.List.{[], _++_};
 ghost use lib.ListN.{length};
 ghost use Rattle.day.specs.Sums.{at};
 ghost use Rattle.day.specs.Day.{dayOf};
+ghost use Rattle.day.specs.Lent.{dayBefore};
 ghost use Rattle.lines.specs.Text.{planLine, lineBytes, HavePeriods, Put};
 ghost use Rattle.plan_text.specs.Text.{textBytes, amountLines, PrintedAnswer, PrintedDay, PrintedFile, PrintedText};
 use day::Answer;
@@ -18,7 +19,7 @@ fn amount_lines(demand: &[u16], plan: &[u16], text: &mut [u8], place: usize, end
     requires { ⌜ place + length (now demand) * lineBytes ≤ length (now text) ⌝ }
     ensures { λ r. ⌜
         Put (now (text .entry)) place
-        (amountLines (dayOf (now (demand .entry)) [] [] [] [] ends) (at (now (plan .entry))) (length (now (demand .entry))))
+        (amountLines (dayOf (now (demand .entry)) [] [] [] [] [] ends) (at (now (plan .entry))) (length (now (demand .entry))))
         (now (text .exit)) r
         ⌝ }
 {
@@ -38,7 +39,7 @@ fn plan_lines(demand: &[u16], plan: &[u16], totals: Totals, text: &mut [u8], end
     ensures { λ r. ⌜
         Put (now (text .entry)) 0
         (planLine (length (now (demand .entry))) (totals .cost) (totals .setups)
-        ++ amountLines (dayOf (now (demand .entry)) [] [] [] [] ends) (at (now (plan .entry))) (length (now (demand .entry))))
+        ++ amountLines (dayOf (now (demand .entry)) [] [] [] [] [] ends) (at (now (plan .entry))) (length (now (demand .entry))))
         (now (text .exit)) r
         ⌝ }
 {
@@ -54,13 +55,14 @@ fn day_text(
     setup: &[u32],
     unit: &[u32],
     holding: &[u32],
+    store: &[u16],
     text: &mut [u8],
     ends: Ends,
 ) -> usize
     requires { ⌜ textBytes ≤ length (now text) ⌝ }
     ensures { λ r. ⌜
         PrintedDay
-        (dayOf (now (demand .entry)) (now (capacity .entry)) (now (setup .entry)) (now (unit .entry)) (now (holding .entry)) ends)
+        (dayBefore demand capacity setup unit holding store ends)
         (now (text .entry)) (now (text .exit)) r
         ⌝ }
 {
@@ -73,6 +75,7 @@ fn day_text(
         setup,
         unit,
         holding,
+        store,
         &mut costs,
         &mut choices,
         &mut slots,
@@ -104,6 +107,7 @@ fn file_text(file: &[u8], text: &mut [u8]) -> usize
     let mut setup = [0u32; 96];
     let mut unit = [0u32; 96];
     let mut holding = [0u32; 96];
+    let mut store = [0u16; 96];
     let answer = dayfile_reader::read(
         file,
         &mut demand,
@@ -111,6 +115,7 @@ fn file_text(file: &[u8], text: &mut [u8]) -> usize
         &mut setup,
         &mut unit,
         &mut holding,
+        &mut store,
     );
     let ReadAnswer::Periods(n, ends) = answer else {
         return refused_text(answer, text);
@@ -121,16 +126,17 @@ fn file_text(file: &[u8], text: &mut [u8]) -> usize
         &setup[0..n],
         &unit[0..n],
         &holding[0..n],
+        &store[0..n],
         text,
         ends,
     )
 }
 
-// The text of a file, at the front of a buffer with room for 97 lines. One of more than 1,640 bytes is refused 12 before any other test.
+// The text of a file, at the front of a buffer with room for 97 lines. One of more than 1,832 bytes is refused 12 before any other test.
 pub fn text_of(file: &[u8], text: &mut [u8; 9312]) -> usize
     ensures { λ r. ⌜ PrintedText (now (file .entry)) (now (text .entry)) (now (text .exit)) r ⌝ }
 {
-    if 1640 < file.len() {
+    if 1832 < file.len() {
         return lines::refusal_line(Refusal::WrongEnd, text, 0);
     }
     file_text(file, text)

@@ -22,22 +22,22 @@ pub record Shows {A B : Type 0} (Given : A → Type 0) (figures : A → Figures 
   pub given : Given answer
   pub shown : seen r (now (out .exit)) ≡ seenOf (now (out .entry)) (figures answer)
 
-abbrev pub PathShows : Path → (demand capacity setup unit holding : Lent) → Ends → (before after : Memory) → (answer : Lent) → ℕ → Type 0
-PathShows P demand capacity setup unit holding ends before after answer r =
-    Shows (λ a. Runs P (dayBefore demand capacity setup unit holding ends) before a after) answerFigures answer r
+abbrev pub PathShows : Path → (demand capacity setup unit holding store : Lent) → Ends → (before after : Memory) → (answer : Lent) → ℕ → Type 0
+PathShows P demand capacity setup unit holding store ends before after answer r =
+    Shows (λ a. Runs P (dayBefore demand capacity setup unit holding store ends) before a after) answerFigures answer r
 
-abbrev pub ReadShows : (file demand capacity setup unit holding day : Lent) → ℕ → Type 0
-ReadShows file demand capacity setup unit holding day r =
+abbrev pub ReadShows : (file demand capacity setup unit holding store day : Lent) → ℕ → Type 0
+ReadShows file demand capacity setup unit holding store day r =
     Shows
-    (λ a. Reading (now (file .entry)) (tablesBefore demand capacity setup unit holding) a (tablesAfter demand capacity setup unit holding))
+    (λ a. Reading (now (file .entry)) (tablesBefore demand capacity setup unit holding store) a (tablesAfter demand capacity setup unit holding store))
     readFigures
     day
     r
 
-abbrev pub WriteShows : (demand capacity setup unit holding : Lent) → Ends → (out count : Lent) → ℕ → Type 0
-WriteShows demand capacity setup unit holding ends out count r =
+abbrev pub WriteShows : (demand capacity setup unit holding store : Lent) → Ends → (out count : Lent) → ℕ → Type 0
+WriteShows demand capacity setup unit holding store ends out count r =
     Shows
-    (λ a. Writing (dayBefore demand capacity setup unit holding ends) (now (out .entry)) a (now (out .exit)))
+    (λ a. Writing (dayBefore demand capacity setup unit holding store ends) (now (out .entry)) a (now (out .exit)))
     writeFigures
     count
     r

@@ -15,6 +15,7 @@ pub extern "C" fn yakkurem_full(
     setup: &[u32],
     unit: &[u32],
     holding: &[u32],
+    store: &[u16],
     opening: u16,
     closing: u16,
     costs: &mut [u64],
@@ -23,7 +24,7 @@ pub extern "C" fn yakkurem_full(
     answer: &mut [u64; 2],
 ) -> u64
     ensures { λ r. ⌜
-        PathShows full demand capacity setup unit holding (endsWith opening closing)
+        PathShows full demand capacity setup unit holding store (endsWith opening closing)
         (memoryBefore costs choices slots) (memoryAfter costs choices slots) answer r ⌝ }
 {
     let ends = Ends { opening, closing };
@@ -33,6 +34,7 @@ pub extern "C" fn yakkurem_full(
         setup,
         unit,
         holding,
+        store,
         costs,
         choices,
         slots,
@@ -41,7 +43,7 @@ pub extern "C" fn yakkurem_full(
     codes::planned(a, answer)
 }
 
-// The plan of a day whose capacities can't bind; the answer is its cost and setups.
+// The plan of a day whose capacities and stores can't bind; the answer is its cost and setups.
 #[no_mangle]
 pub extern "C" fn yakkurem_uncapped(
     demand: &[u16],
@@ -49,6 +51,7 @@ pub extern "C" fn yakkurem_uncapped(
     setup: &[u32],
     unit: &[u32],
     holding: &[u32],
+    store: &[u16],
     opening: u16,
     closing: u16,
     costs: &mut [u64],
@@ -57,7 +60,7 @@ pub extern "C" fn yakkurem_uncapped(
     answer: &mut [u64; 2],
 ) -> u64
     ensures { λ r. ⌜
-        PathShows uncapped demand capacity setup unit holding (endsWith opening closing)
+        PathShows uncapped demand capacity setup unit holding store (endsWith opening closing)
         (memoryBefore costs choices slots) (memoryAfter costs choices slots) answer r ⌝ }
 {
     let ends = Ends { opening, closing };
@@ -67,6 +70,7 @@ pub extern "C" fn yakkurem_uncapped(
         setup,
         unit,
         holding,
+        store,
         costs,
         choices,
         slots,
@@ -75,7 +79,7 @@ pub extern "C" fn yakkurem_uncapped(
     codes::planned(a, answer)
 }
 
-// The plan of a day with one capacity throughout; the answer is its cost and setups.
+// The plan of a day with one capacity throughout whose stores can't bind; the answer is its cost and setups.
 #[no_mangle]
 pub extern "C" fn yakkurem_equal(
     demand: &[u16],
@@ -83,6 +87,7 @@ pub extern "C" fn yakkurem_equal(
     setup: &[u32],
     unit: &[u32],
     holding: &[u32],
+    store: &[u16],
     opening: u16,
     closing: u16,
     costs: &mut [u64],
@@ -91,7 +96,7 @@ pub extern "C" fn yakkurem_equal(
     answer: &mut [u64; 2],
 ) -> u64
     ensures { λ r. ⌜
-        PathShows equal demand capacity setup unit holding (endsWith opening closing)
+        PathShows equal demand capacity setup unit holding store (endsWith opening closing)
         (memoryBefore costs choices slots) (memoryAfter costs choices slots) answer r ⌝ }
 {
     let ends = Ends { opening, closing };
@@ -101,6 +106,7 @@ pub extern "C" fn yakkurem_equal(
         setup,
         unit,
         holding,
+        store,
         costs,
         choices,
         slots,
@@ -109,7 +115,7 @@ pub extern "C" fn yakkurem_equal(
     codes::planned(a, answer)
 }
 
-// The plan of a day without setup cost; the answer is its cost and setups. No choice area is lent.
+// The plan of a day without setup cost whose stores can't bind; the answer is its cost and setups. No choice area is lent.
 #[no_mangle]
 pub extern "C" fn yakkurem_free(
     demand: &[u16],
@@ -117,6 +123,7 @@ pub extern "C" fn yakkurem_free(
     setup: &[u32],
     unit: &[u32],
     holding: &[u32],
+    store: &[u16],
     opening: u16,
     closing: u16,
     costs: &mut [u64],
@@ -124,11 +131,21 @@ pub extern "C" fn yakkurem_free(
     answer: &mut [u64; 2],
 ) -> u64
     ensures { λ r. ⌜
-        PathShows free demand capacity setup unit holding (endsWith opening closing)
+        PathShows free demand capacity setup unit holding store (endsWith opening closing)
         (cellsBefore costs slots) (cellsAfter costs slots) answer r ⌝ }
 {
     let ends = Ends { opening, closing };
-    let a = free::plan(demand, capacity, setup, unit, holding, costs, slots, ends);
+    let a = free::plan(
+        demand,
+        capacity,
+        setup,
+        unit,
+        holding,
+        store,
+        costs,
+        slots,
+        ends,
+    );
     codes::planned(a, answer)
 }
 
@@ -140,15 +157,18 @@ pub extern "C" fn yakkurem_weigh(
     setup: &[u32],
     unit: &[u32],
     holding: &[u32],
+    store: &[u16],
     opening: u16,
     closing: u16,
     plan: &[u16],
     answer: &mut [u64; 2],
 ) -> u64
-    ensures { λ r. ⌜ Shows (Weighs (dayBefore demand capacity setup unit holding (endsWith opening closing)) (now (plan .entry))) weighedFigures answer r ⌝ }
+    ensures { λ r. ⌜
+        Shows (Weighs (dayBefore demand capacity setup unit holding store (endsWith opening closing)) (now (plan .entry)))
+        weighedFigures answer r ⌝ }
 {
     let ends = Ends { opening, closing };
-    let w = weigher::weigh(demand, capacity, setup, unit, holding, plan, ends);
+    let w = weigher::weigh(demand, capacity, setup, unit, holding, store, plan, ends);
     codes::weighed(w, answer)
 }
 
@@ -160,6 +180,7 @@ pub extern "C" fn yakkurem_compare(
     setup: &[u32],
     unit: &[u32],
     holding: &[u32],
+    store: &[u16],
     opening: u16,
     closing: u16,
     first: &[u16],
@@ -167,11 +188,21 @@ pub extern "C" fn yakkurem_compare(
     difference: &mut [i64; 1],
 ) -> u64
     ensures { λ r. ⌜
-        Shows (Compares (dayBefore demand capacity setup unit holding (endsWith opening closing)) (now (first .entry)) (now (second .entry)))
+        Shows (Compares (dayBefore demand capacity setup unit holding store (endsWith opening closing)) (now (first .entry)) (now (second .entry)))
         comparedFigures difference r ⌝ }
 {
     let ends = Ends { opening, closing };
-    let c = weigher::compare(demand, capacity, setup, unit, holding, first, second, ends);
+    let c = weigher::compare(
+        demand,
+        capacity,
+        setup,
+        unit,
+        holding,
+        store,
+        first,
+        second,
+        ends,
+    );
     codes::compared(c, difference)
 }
 
@@ -184,11 +215,12 @@ pub extern "C" fn yakkurem_read(
     setup: &mut [u32],
     unit: &mut [u32],
     holding: &mut [u32],
+    store: &mut [u16],
     day: &mut [u64; 3],
 ) -> u64
-    ensures { λ r. ⌜ ReadShows file demand capacity setup unit holding day r ⌝ }
+    ensures { λ r. ⌜ ReadShows file demand capacity setup unit holding store day r ⌝ }
 {
-    let a = dayfile_reader::read(file, demand, capacity, setup, unit, holding);
+    let a = dayfile_reader::read(file, demand, capacity, setup, unit, holding, store);
     codes::read(a, day)
 }
 
@@ -217,14 +249,15 @@ pub extern "C" fn yakkurem_write(
     setup: &[u32],
     unit: &[u32],
     holding: &[u32],
+    store: &[u16],
     opening: u16,
     closing: u16,
     out: &mut [u8],
     count: &mut [u64; 1],
 ) -> u64
-    ensures { λ r. ⌜ WriteShows demand capacity setup unit holding (endsWith opening closing) out count r ⌝ }
+    ensures { λ r. ⌜ WriteShows demand capacity setup unit holding store (endsWith opening closing) out count r ⌝ }
 {
     let ends = Ends { opening, closing };
-    let a = dayfile_writer::write(demand, capacity, setup, unit, holding, out, ends);
+    let a = dayfile_writer::write(demand, capacity, setup, unit, holding, store, out, ends);
     codes::written(a, count)
 }

@@ -10,7 +10,7 @@ use Rattle.day.specs.declared.Answer.the-variants.{Refused, Planned}
 use Rattle.day.specs.Sums.{at, sum-ext}
 use Rattle.day.specs.Day.{Day, periods}
 use Rattle.day.specs.Plan.{setupAt}
-use Rattle.day.specs.Refusals.{first, unequal, binding, paidSetup}
+use Rattle.day.specs.Refusals.{first, unequal, binding, paidSetup, lowStore}
 use Rattle.day.specs.Tests.{gives-is}
 use Rattle.day.specs.Figures.{first-value, second-value}
 use Rattle.day.specs.Outcome.{Memory, sizesOf, Path, Roomy, dayRefusal, roomy-refusal, Counts, Runs}
@@ -59,14 +59,15 @@ paths-agree P Q d m m′ r after q after′ room room′ kind kind′ a b =
 
 module _ (d : Day) (m m′ : Memory) (r : Answer) (after : Memory) (q : Answer) (after′ : Memory)
     (room′ : Roomy full d (sizesOf m′)) (b : Runs full d m′ q after′) where
-  -- Demand 3: where capacities can't bind, the uncapped path accepts exactly when the full path does, with the same plan, cost and setups.
-  pub uncapped-agrees : Roomy uncapped d (sizesOf m) → binding d ≡ none → Runs uncapped d m r after → Agree d r after q after′
-  uncapped-agrees room kind a = paths-agree uncapped full d m m′ r after q after′ room room′ (rw kind refl) refl a b
+  -- Of a day whose stores can't bind (document 02, 2.5).
+  -- Demand 3: where capacities can't either, the uncapped path accepts exactly when the full path does, with the same plan, cost and setups.
+  pub uncapped-agrees : Roomy uncapped d (sizesOf m) → binding d ≡ none → lowStore d ≡ none → Runs uncapped d m r after → Agree d r after q after′
+  uncapped-agrees room kind loose a = paths-agree uncapped full d m m′ r after q after′ room room′ (rw (kind, loose) refl) refl a b
 
   -- Demand 3: and so does the equal path where capacities are equal.
-  pub equal-agrees : Roomy equal d (sizesOf m) → unequal d ≡ none → Runs equal d m r after → Agree d r after q after′
-  equal-agrees room kind a = paths-agree equal full d m m′ r after q after′ room room′ (rw kind refl) refl a b
+  pub equal-agrees : Roomy equal d (sizesOf m) → unequal d ≡ none → lowStore d ≡ none → Runs equal d m r after → Agree d r after q after′
+  equal-agrees room kind loose a = paths-agree equal full d m m′ r after q after′ room room′ (rw (kind, loose) refl) refl a b
 
   -- Demand 3, by document 02, 2.3: and so does the free path where setups cost nothing.
-  pub free-agrees : Roomy free d (sizesOf m) → paidSetup d ≡ none → Runs free d m r after → Agree d r after q after′
-  free-agrees room kind a = paths-agree free full d m m′ r after q after′ room room′ (rw kind refl) refl a b
+  pub free-agrees : Roomy free d (sizesOf m) → paidSetup d ≡ none → lowStore d ≡ none → Runs free d m r after → Agree d r after q after′
+  free-agrees room kind loose a = paths-agree free full d m m′ r after q after′ room room′ (rw (kind, loose) refl) refl a b

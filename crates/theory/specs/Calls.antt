@@ -18,20 +18,21 @@ use Rattle.day.specs.Sums.{at, sumTo, sum-grows}
 use Rattle.day.specs.Day.{Day, periods, total, netTo, net-before, net-end}
 use Rattle.day.specs.Plan.{Feasible, Run, PartLoaded, cost}
 use Rattle.day.specs.InTurn.{ServedTo}
-use Rattle.day.specs.Refusals.{first, dayTests, shortage, unequal, paidSetup}
-use Rattle.day.specs.Tests.{gives-is, first-passed, first-one}
+use Rattle.day.specs.Refusals.{first, dayTests, shortage, FirstShort, unequal, paidSetup, lowStore}
+use Rattle.day.specs.Tests.{gives-is, first-passed, first-one, first-two}
 use Rattle.day.specs.Figures.{first-value}
 use Rattle.day.specs.Outcome.{Memory, sizesOf, Path, Roomy, refusal, roomy-refusal, Runs}
 use Rattle.day.specs.Paths.{full, equal, free}
-use Rattle.checks.specs.Passed.{FirstShort, DayLimits, day-passes, equal-passed, free-passed, admitted}
+use Rattle.checks.specs.Passed.{DayLimits, day-passes, equal-passed, free-passed, Admitted, admitted}
 use Rattle.theory.specs.Model.{Model, OptimalTo}
 use Rattle.theory.specs.Order.{LastSmaller, smaller-means}
 use Rattle.theory.specs.Cut.{feasible-less}
 use Rattle.theory.specs.Exchange.{Regeneration, interval-one, last-run}
 use Rattle.theory.specs.FreeSetups.{Free}
 use Rattle.theory.specs.Problem.{modelOf, model-rising, model-unlimited}
-use Rattle.theory.specs.Net.{problemOf, Fits, limits-fit, floor-is}
-use Rattle.theory.specs.Base.{same-plan}
+use Rattle.theory.specs.Net.{problemOf, limits-fit, floor-is}
+use Rattle.theory.specs.Store.{Loose, limits-loose}
+use Rattle.theory.specs.Base.{loose-plan}
 use Rattle.theory.specs.InTurn.{in-turn-optimal, in-turn-serves}
 use Rattle.theory.specs.Demands.{plan-unique, shortage-iff, shortage-names}
 
@@ -45,15 +46,15 @@ module _ (P : Path) (d : Day) (m : Memory) (limits : DayLimits d) (room : Roomy 
   only-shortage : refusal P d (sizesOf m) ≡ shortage d
   only-shortage = roomy-refusal P d (sizesOf m) room kind ∙ (first-passed (dayTests d) (shortage d ∷ []) (day-passes d limits) ∙ first-one (shortage d))
 
-  -- Demand 2: the answer is a plan exactly if some amounts keep conditions (2) to (4).
+  -- Demand 2: the answer is a plan exactly if some amounts keep the conditions.
   pub planned-iff : (r : Answer) (after : Memory) → Runs P d m r after → IsPlan r ↔ ((x : ℕ → ℕ) × Feasible d x)
   planned-iff (Refused q) after runs =
       (λ none. absurd none, λ w. Option·none-ne-some q (sym (shortage-iff d (limits-fit limits) .1 w) ∙ (sym only-shortage ∙ gives-is (runs .0))))
   planned-iff (Planned t) after runs = (λ _. (at (after .slots), runs .1 .plan .feasible), λ _. tt)
 
-  -- Demand 2: otherwise it is refusal 7 with the first period by whose end more must have been made than the summed capacity.
+  -- Demand 2: otherwise it is refusal 7 with the first period for which no amounts up to it keep the conditions through it.
   pub refused-first : (q : Refusal) (after : Memory) → Runs P d m (Refused q) after → FirstShort d q
-  refused-first q after runs = shortage-names d q (sym only-shortage ∙ gives-is (runs .0))
+  refused-first q after runs = shortage-names d (limits-fit limits) q (sym only-shortage ∙ gives-is (runs .0))
 
 -- Demand 3, in its words, of amounts x and what they are said to cost: every other plan that keeps the rules costs at least as much,
 -- and one that costs the same has the larger amount in the last period where the two differ.
@@ -97,15 +98,15 @@ module _ (d : Day) (m : Memory) (t : Totals) (after : Memory) (runs : Runs equal
   inside : b ≤ n
   inside = run .inside
 
-  fits : Fits d
-  fits = limits-fit (admitted equal d (sizesOf m) (runs .0) .day)
+  loose : Loose d
+  loose = let ok = admitted equal d (sizesOf m) (runs .0) in limits-loose (unequal d) (ok .day) (ok .own)
 
   floor-here : (i : ℕ) → i ≤ n → M .floor i ≡ netTo d i
-  floor-here = floor-is d (fits .nonempty)
+  floor-here = floor-is d (loose .fits .nonempty)
 
   best : OptimalTo M n (M .floor n) x
   best =
-      subst (λ (X : ℕ). OptimalTo M n X x) (sym (floor-here n (omega arith) ∙ net-end d)) (same-plan d fits x .0 (runs .1 .plan))
+      subst (λ (X : ℕ). OptimalTo M n X x) (sym (floor-here n (omega arith) ∙ net-end d)) (loose-plan d loose x .0 (runs .1 .plan))
 
   -- the run's last moment at which nothing was made ahead: the model's interval up to the run's end begins there
   last : (c : ℕ) × Regeneration M x c b
@@ -137,27 +138,28 @@ module _ (d : Day) (m : Memory) (t : Totals) (after : Memory) (runs : Runs equal
   equal-run-others k ak kb h =
       let here : k < n = omega arith in
       let kind = admitted equal d (sizesOf m) (runs .0) .own in
-      let c = equal-passed d (sym (first-one (unequal d)) ∙ kind) k here in
+      let c = equal-passed d (first-two (unequal d) (lowStore d) kind .0) k here in
       ⊎-elim inl
       (λ (some : 0 < x k).
       ⊎-elim (λ (e : x k ≡ at (d .capacity) k). inr (e ∙ c)) (λ (room : x k < at (d .capacity) k). absurd (h (some, room)))
       (eq-or-lt-of-le (runs .1 .plan .feasible .within k here)))
       (eq-zero-or-pos (x k))
 
--- Document 02, 2.3: an accepted day of the free path has no setup cost,
-free-unpaid : (d : Day) (m : Memory) (t : Totals) (after : Memory) → Runs free d m (Planned t) after → Free (modelOf (problemOf d)) (periods d)
-free-unpaid d m t after runs = free-passed d (sym (first-one (paidSetup d)) ∙ admitted free d (sizesOf m) (runs .0) .own)
+-- Document 02, 2.3: an accepted day of the free path has no setup cost, and stores that can't bind;
+module _ (d : Day) (m : Memory) (t : Totals) (after : Memory) (runs : Runs free d m (Planned t) after) where
+  ok : Admitted free d (sizesOf m)
+  ok = admitted free d (sizesOf m) (runs .0)
 
--- the document's rule, watt-hour by watt-hour, comes to its end on it,
-pub free-in-turn-ends : (d : Day) (m : Memory) (t : Totals) (after : Memory) → Runs free d m (Planned t) after
-    → (x : ℕ → ℕ) × ServedTo d (total d) x
-free-in-turn-ends d m t after runs =
-    let ok = admitted free d (sizesOf m) (runs .0) in
-    in-turn-serves d (limits-fit (ok .day)) (free-unpaid d m t after runs) (at (after .slots)) (runs .1 .plan .feasible)
+  unpaid : Free (modelOf (problemOf d)) (periods d)
+  unpaid = free-passed d (first-two (paidSetup d) (lowStore d) (ok .own) .0)
 
--- and makes the answer's plan, though the path serves several watt-hours at once.
-pub free-in-turn : (d : Day) (m : Memory) (t : Totals) (after : Memory) → Runs free d m (Planned t) after
-    → (x : ℕ → ℕ) → ServedTo d (total d) x → (k : ℕ) → k < periods d → at (after .slots) k ≡ x k
-free-in-turn d m t after runs x served =
-    let ok = admitted free d (sizesOf m) (runs .0) in
-    plan-unique d (at (after .slots)) x (runs .1 .plan) (in-turn-optimal d (limits-fit (ok .day)) (free-unpaid d m t after runs) x served)
+  open-day : Loose d
+  open-day = limits-loose (paidSetup d) (ok .day) (ok .own)
+
+  -- the document's rule, watt-hour by watt-hour, comes to its end on it,
+  pub free-in-turn-ends : (x : ℕ → ℕ) × ServedTo d (total d) x
+  free-in-turn-ends = in-turn-serves d open-day unpaid (at (after .slots)) (runs .1 .plan .feasible)
+
+  -- and makes the answer's plan, though the path serves several watt-hours at once.
+  pub free-in-turn : (x : ℕ → ℕ) → ServedTo d (total d) x → (k : ℕ) → k < periods d → at (after .slots) k ≡ x k
+  free-in-turn x served = plan-unique d (at (after .slots)) x (runs .1 .plan) (in-turn-optimal d open-day unpaid x served)

@@ -26,7 +26,8 @@ use Rattle.theory.specs.Greedy.{source, Source, Sources, source-right}
 use Rattle.theory.specs.FreeSetups.{Free, key, key-order, Progress, Due, progress-start, progress-turn, no-plan, done-optimal}
 use Rattle.theory.specs.Problem.{modelOf, model-rising, model-unlimited}
 use Rattle.theory.specs.Net.{rateOf, problemOf, Fits, rate-is, net-zero, floor-is}
-use Rattle.theory.specs.Base.{feasible-model, same-plan}
+use Rattle.theory.specs.Store.{Loose}
+use Rattle.theory.specs.Base.{loose-feasible, loose-plan}
 
 -- a less b is z
 abbrev Less : (a b : ℕ) → ℤ → Type 0
@@ -104,8 +105,11 @@ module _ (d : Day) where
       go (yes q) old = old q
       go (no q) old = (i, record { inside = l; past = omega arith; owed = h })
 
-  -- Of a day that tests 1 and 14 let pass, without setup cost.
-  module _ (fits : Fits d) (free : Free M n) where
+  -- Of a day that tests 1, 14 and 16 let pass, without setup cost.
+  module _ (loose : Loose d) (free : Free M n) where
+    fits : Fits d
+    fits = loose .fits
+
     floor-here : (i : ℕ) → i ≤ n → M .floor i ≡ netTo d i
     floor-here = floor-is d (fits .nonempty)
 
@@ -139,7 +143,7 @@ module _ (d : Day) where
     -- Once all are served, it is the plan.
     pub in-turn-optimal : (y : ℕ → ℕ) → ServedTo d (total d) y → Optimal d y
     in-turn-optimal y served =
-        same-plan d fits y .1
+        loose-plan d loose y .1
         (subst (λ (T : ℕ). OptimalTo M n T y) floor-total
         (done-optimal M (model-rising (problemOf d)) (model-unlimited (problemOf d)) n free y
         (subst (λ (T : ℕ). Progress M n T y) (sym floor-total) (progress (total d) y served))))
@@ -147,7 +151,7 @@ module _ (d : Day) where
     -- Where there is a plan, the rule finds a period for every watt-hour.
     module _ (z : ℕ → ℕ) (f : Feasible d z) where
       best : (w : ℕ → ℕ) × OptimalTo M n (M .floor n) w
-      best = optimal-exists M n (M .floor n) z (subst (λ (T : ℕ). FeasibleTo M n T z) (sym floor-total) (feasible-model d fits z f))
+      best = optimal-exists M n (M .floor n) z (subst (λ (T : ℕ). FeasibleTo M n T z) (sym floor-total) (loose-feasible d loose z .0 f))
 
       one-more : (t i : ℕ) (x : ℕ → ℕ) → NeededIn d t i → ServedTo d t x
           → (o : Option ℕ) → Sources (key M n) (M .capacity) x (suc i) o → (y : ℕ → ℕ) × ServedTo d (suc t) y

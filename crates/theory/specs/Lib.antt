@@ -29,10 +29,11 @@ pub mod Greedy
 pub mod FreeSetups
 pub mod Batches
 pub mod Counted
--- What the loops run on; the days of documents 01 and 02 as such problems; the rule of 2.3 on them; demands 2 and 3; agreement of paths; the
--- demands of the calls.
+-- What the loops run on; the days of documents 01 and 02 as such problems, and their store limits; the rule of 2.3 on them; demands 2 and 3;
+-- agreement of paths; the demands of the calls.
 pub mod Problem
 pub mod Net
+pub mod Store
 pub mod Base
 pub mod InTurn
 pub mod Demands

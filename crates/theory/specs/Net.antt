@@ -5,7 +5,6 @@
 -- Assumes nothing.
 use mathlib.Core.Path.{_≡_, sym, ap, ap₂, _∙_}
 use mathlib.Core.List.{List, []}
-use mathlib.Core.Logic.{_↔_}
 use Prim.Native.Nat.{ℕ, zero, suc, _+_, _-_, _≤_, _<_}
 use native.Mathlib.Decide.{decLt}
 use native.Mathlib.Omega.{arith}
@@ -43,7 +42,7 @@ problemOf d = problemBy (netNeeds d) (ratesOf (d .holding)) d
 
 -- the two tables as they are filled in: a day's demands, upkeep and ends decide them
 pub record FilledFrom (demand holding : List ℕ) (ends : Ends) (net rate : List ℕ) : Type 0 where
-  pub needs : net ≡ netNeeds (dayOf demand [] [] [] [] ends)
+  pub needs : net ≡ netNeeds (dayOf demand [] [] [] [] [] ends)
   pub rates : rate ≡ ratesOf holding
 
 abbrev pub NetTables : Day → (net rates : List ℕ) → Type 0
@@ -65,7 +64,7 @@ abbrev pub HalfRates : List ℕ → Type 0
 HalfRates holding = (k : ℕ) → at holding k ≤ maxHalfRate
 
 -- of a day's demands and ends alone, as the function has it that fills the net needs
-limits-net : {d : Day} → DayLimits d → NetFits (dayOf (d .demand) [] [] [] [] (endsOf d))
+limits-net : {d : Day} → DayLimits d → NetFits (dayOf (d .demand) [] [] [] [] [] (endsOf d))
 limits-net g = record { nonempty = g .limits .nonempty; few = g .limits .few; small = g .small }
 
 pub limits-fit : {d : Day} → DayLimits d → Fits d
@@ -135,12 +134,9 @@ module _ (d : Day) where
     pub total-is : Problem.total (problemOf d) ≡ total d
     total-is = ap (Problem.demandTo (problemOf d)) periods-is ∙ floor-is n (omega arith) ∙ net-end d
 
-    -- no period is short just where none of the problem is
-    pub supplied-iff : ((k : ℕ) → k < n → netTo d (suc k) ≤ capacityTo d (suc k)) ↔ Supplied (problemOf d)
-    supplied-iff = (
-      λ s k l. let h : k < n = omega (arith, periods-is) in omega (arith, floor-is (suc k) h, s k h),
-      λ s k l. omega (arith, floor-is (suc k) l, s k (omega (arith, periods-is))),
-    )
+    -- where C is nowhere below what must have been made, it is nowhere below the problem's needs
+    pub net-supplied : ((k : ℕ) → k < n → netTo d (suc k) ≤ capacityTo d (suc k)) → Supplied (problemOf d)
+    net-supplied s k l = let h : k < n = omega (arith, periods-is) in omega (arith, floor-is (suc k) h, s k h)
 
     net-limit : (top : ℕ) → required d ≤ top → (k : ℕ) → k < n → at (netNeeds d) k ≤ top
     net-limit top h k l = omega (arith, at-listOf (netNeed d) n k l, net-below (suc k) l)
@@ -156,11 +152,17 @@ module _ (d : Day) where
   pub limits-fill : DayLimits d
       → let front : List ℕ = take (n - 0) (replicate maxPeriods 0) in
       (length front ≡ length (d .demand))
-      × ((length front ≡ length (d .holding)) × (NetFits (dayOf (d .demand) [] [] [] [] (endsOf d)) × HalfRates (d .holding)))
+      × ((length front ≡ length (d .holding)) × (NetFits (dayOf (d .demand) [] [] [] [] [] (endsOf d)) × HalfRates (d .holding)))
   limits-fill g =
       let l = g .limits in
       let size = length-take-le (n - 0) (replicate {A = ℕ} maxPeriods 0) (omega (arith, l .few, length-replicate {A = ℕ} maxPeriods 0)) in
       (omega (arith, size), (omega (arith, size, l .lengths .holding), (limits-net g, limits-half g)))
+
+  -- and what filling the ceilings asks
+  pub limits-ceilings : DayLimits d
+      → (length (take (n - 0) (replicate {A = ℕ} maxPeriods 0)) ≡ length (d .demand))
+      × ((length (d .store) ≡ length (d .demand)) × (NetFits (dayOf (d .demand) [] [] [] [] [] (endsOf d)) × (d .opening ≤ required d)))
+  limits-ceilings g = (limits-fill g .0, (g .limits .lengths .store, (limits-net g, g .used)))
 
   pub bounded : DayLimits d → Bounded (problemOf d)
   bounded g =

@@ -1,8 +1,7 @@
 -- What the loops of the paths run on: five tables, one entry a period. Only a path's entry knows the day that they were made from.
--- Main definitions: `Problem`, `modelOf`, `Bounded`, `Supplied`. Assumes nothing.
+-- Main definitions: `Problem`, `modelOf`, `modelWithin`, `Bounded`, `Supplied`. Assumes nothing.
 use mathlib.Core.Path.{_≡_, refl}
 use mathlib.Core.List.{List}
-use mathlib.Core.Logic.{_↔_}
 use Prim.Native.Nat.{ℕ, zero, suc, _≤_, _<_, min}
 use native.Mathlib.Decide.{decLt}
 use native.Mathlib.Omega.{arith}
@@ -39,16 +38,28 @@ capacityTo p i = sumTo (at (p .capacity)) i
 abbrev pub total : Problem → ℕ
 total p = demandTo p (periods p)
 
--- the model: N is the floor, and no ceiling binds
-abbrev pub modelOf : Problem → Model
-modelOf p = record {
+-- the model under ceilings: N is the floor
+abbrev pub modelUnder : Problem → (ℕ → ℕ) → Model
+modelUnder p U = record {
   floor = demandTo p;
-  ceiling = λ _. total p;
+  ceiling = U;
   capacity = at (p .capacity);
   setup = at (p .setup);
   unit = at (p .unit);
   holding = at (p .holding);
 }
+
+-- the model in which no ceiling binds
+abbrev pub modelOf : Problem → Model
+modelOf p = modelUnder p (λ _. total p)
+
+-- the ceilings that a table holds: its entry k is for what has been made after k + 1 periods
+abbrev pub ceilingIn : List ℕ → ℕ → ℕ
+ceilingIn l zero = 0
+ceilingIn l (suc k) = at l k
+
+abbrev pub modelWithin : Problem → List ℕ → Model
+modelWithin p ceilings = modelUnder p (ceilingIn ceilings)
 
 -- what the loops rely on so that no index and no sum is out of range
 pub record Bounded (p : Problem) : Type 0 where
@@ -79,20 +90,17 @@ sum-whole l (suc i) = go (sum-whole l i) (decLt i (length l))
     go rec (no h) = omega (arith, List·getD-eq-default l 0 {n = i} (omega arith))
 
 module _ (p : Problem) where
-  pub model-rising : Rising (modelOf p)
+  pub model-rising : {U : ℕ → ℕ} → Rising (modelUnder p U)
   model-rising = record { nought = refl; rises = λ k. omega arith }
 
   pub model-unlimited : Unlimited (modelOf p)
   model-unlimited i j = sum-whole (p .demand) i
 
   -- the totals that can be reached after i periods end with the smaller of C and N over all periods
-  pub high-is : (i : ℕ) → high (modelOf p) i ≡ min (capacityTo p i) (total p)
+  high-is : (i : ℕ) → high (modelOf p) i ≡ min (capacityTo p i) (total p)
   high-is = high-open (modelOf p) (total p) (λ _. refl)
 
-  -- the model is covered just where no period is short
-  pub covered-iff : Covered (modelOf p) (periods p) ↔ Supplied p
-  covered-iff = (λ c k l. omega (arith, c (suc k) l, high-is (suc k)), λ s j l. up s j l)
-    where
-      up : Supplied p → (j : ℕ) → j ≤ periods p → demandTo p j ≤ high (modelOf p) j
-      up s zero l = omega arith
-      up s (suc j) l = omega (arith, s j l, high-is (suc j), sum-grows (at (p .demand)) (suc j) (periods p) l)
+  -- where no period is short, N can be reached in every one
+  pub supplied-covered : Supplied p → Covered (modelOf p) (periods p)
+  supplied-covered s zero l = omega arith
+  supplied-covered s (suc j) l = omega (arith, s j l, high-is (suc j), sum-grows (at (p .demand)) (suc j) (periods p) l)

@@ -1,5 +1,5 @@
 -- The totals that can be reached form an interval, and the row step of recursion (5) runs over it alone, with no mark for "unreachable".
--- Main statements: `interval`, `feasible-covered`, `row-step`. Assumes nothing.
+-- Main statements: `interval`, `row-step`. Assumes nothing.
 use mathlib.Core.Path.{_≡_, refl, sym, ap, _∙_}
 use mathlib.Core.List.{[]}
 use Prim.Native.Nat.{ℕ, zero, suc, _+_, _-_, _*_, _≤_, _<_, min}
@@ -32,7 +32,7 @@ pub record Range (M : Model) (k X v : ℕ) : Type 0 where
   pub rest : v + M .floor k ≤ X
 
 module _ (M : Model) (rising : Rising M) where
-  pub feasible-high : (i X : ℕ) (x : ℕ → ℕ) → FeasibleTo M i X x → (j : ℕ) → j ≤ i → sumTo x j ≤ high M j
+  feasible-high : (i X : ℕ) (x : ℕ → ℕ) → FeasibleTo M i X x → (j : ℕ) → j ≤ i → sumTo x j ≤ high M j
   feasible-high i X x r zero h = omega arith
   feasible-high i X x r (suc j) h = omega (arith, feasible-high i X x r j (omega arith), r .within j h, r .under j h)
 
@@ -61,9 +61,6 @@ module _ (M : Model) (rising : Rising M) where
       (omega arith) (omega arith) (omega arith) in
       let t : Y + (X - Y) ≡ X = omega arith in
       (join k (r .0) (λ _. X - Y), rw t at q)
-
-  pub feasible-covered : (i X : ℕ) (x : ℕ → ℕ) → FeasibleTo M i X x → Covered M i
-  feasible-covered i X x r j h = omega (arith, floor-below M rising i X x r j h, feasible-high i X x r j h)
 
   -- there is an amount to try, and the amounts to try are those between two bounds
   pub range-some : (k X : ℕ) → M .floor k ≤ high M k → M .floor (suc k) ≤ X → X ≤ high M (suc k) → Range M k X (X - high M k)

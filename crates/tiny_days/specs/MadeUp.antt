@@ -1,12 +1,14 @@
 -- What a made-up day is: its numbers are draws of the generator in document 02, 2.7.
 -- Main definition: `madeUp`. Assumes nothing.
 use mathlib.Core.Path.{_≡_}
-use mathlib.Core.List.{[], _∷_}
+use mathlib.Core.List.{List, [], _∷_}
 use Prim.Native.Nat.{ℕ, _+_, _*_, _/_, _%_, _^_, _≤_}
 use lib.ListN.{length}
 use Rattle.day.specs.declared.Ends.{Ends}
 use Rattle.tiny_days.specs.declared.Capacities.{Capacities}
 use Rattle.tiny_days.specs.declared.Capacities.the-variants.{Any, Equal, Unbound}
+use Rattle.tiny_days.specs.declared.Stores.{Stores}
+use Rattle.tiny_days.specs.declared.Stores.the-variants.{Unlimited, Low, Ample}
 use Rattle.tiny_days.specs.declared.Drawn.{Drawn}
 use Rattle.tiny_days.specs.declared.Tiny.{Tiny}
 
@@ -22,6 +24,12 @@ abbrev pub capacityOf : Capacities → (drawn common : ℕ) → ℕ
 capacityOf Any drawn common = drawn
 capacityOf Equal drawn common = common
 capacityOf Unbound drawn common = 10
+
+-- the store limit: 65,535, which limits nothing, the one drawn, or 10, which R + Z of a tiny day does not exceed
+abbrev pub storeOf : Stores → (drawn : ℕ) → ℕ
+storeOf Unlimited drawn = 65535
+storeOf Low drawn = drawn
+storeOf Ample drawn = 10
 
 -- one period: five draws, for demand, capacity, setup, unit and holding cost in this order
 unfoldable pub drawnOf : ℕ → Capacities → ℕ → Drawn
@@ -44,9 +52,19 @@ drawnOf seed capacities common =
 abbrev pub endsFrom : (seed most : ℕ) → Ends
 endsFrom seed most = let a = nextOf seed in record { opening = upperOf a % (most + 1); closing = upperOf (nextOf a) % (most + 1) }
 
--- four periods as tables, of which the first n cells count, with the day's ends; the next day's seed is the one after the periods
-abbrev pub tablesOf : ℕ → (a b c d : Drawn) → Ends → Tiny
-tablesOf n a b c d ends =
+-- the store limits: a draw each
+unfoldable pub storesFrom : ℕ → Stores → List ℕ
+storesFrom seed stores =
+    let a = nextOf seed in
+    let b = nextOf a in
+    let c = nextOf b in
+    let d = nextOf c in
+    storeOf stores (upperOf a % 6) ∷ storeOf stores (upperOf b % 6) ∷ storeOf stores (upperOf c % 6) ∷ storeOf stores (upperOf d % 6) ∷ []
+
+-- four periods as tables, of which the first n cells count, with the store limits and the day's ends; the next day's seed is the one after the
+-- periods
+abbrev pub tablesOf : ℕ → (a b c d : Drawn) → List ℕ → Ends → Tiny
+tablesOf n a b c d store ends =
     record {
       seed = d .seed;
       n = n;
@@ -55,12 +73,13 @@ tablesOf n a b c d ends =
       setup = a .setup ∷ b .setup ∷ c .setup ∷ d .setup ∷ [];
       unit = a .unit ∷ b .unit ∷ c .unit ∷ d .unit ∷ [];
       holding = a .holding ∷ b .holding ∷ c .holding ∷ d .holding ∷ [];
+      store = store;
       ends = ends;
     }
 
--- a made-up day: a draw for the number of periods, one for the common capacity, then the periods, then the ends
-unfoldable pub madeUp : ℕ → Capacities → ℕ → Tiny
-madeUp seed capacities most =
+-- a made-up day: a draw for the number of periods, one for the common capacity, then the periods, then the ends, then the store limits
+unfoldable pub madeUp : ℕ → Capacities → Stores → ℕ → Tiny
+madeUp seed capacities stores most =
     let first = nextOf seed in
     let second = nextOf first in
     let common = upperOf second % 5 in
@@ -68,14 +87,15 @@ madeUp seed capacities most =
     let b = drawnOf (a .seed) capacities common in
     let c = drawnOf (b .seed) capacities common in
     let d = drawnOf (c .seed) capacities common in
-    tablesOf (1 + upperOf first % 4) a b c d (endsFrom (d .seed) most)
+    tablesOf (1 + upperOf first % 4) a b c d (storesFrom (nextOf (nextOf (d .seed))) stores) (endsFrom (d .seed) most)
 
 -- the day that the seed gives; each of its tables has a cell for every period
-pub record MadeUp (seed : ℕ) (capacities : Capacities) (most : ℕ) (r : Tiny) : Type 0 where
-  pub is : r ≡ madeUp seed capacities most
+pub record MadeUp (seed : ℕ) (capacities : Capacities) (stores : Stores) (most : ℕ) (r : Tiny) : Type 0 where
+  pub is : r ≡ madeUp seed capacities stores most
   pub few : r .n ≤ 4
   pub demand : r .n ≤ length (r .demand)
   pub capacity : r .n ≤ length (r .capacity)
   pub setup : r .n ≤ length (r .setup)
   pub unit : r .n ≤ length (r .unit)
   pub holding : r .n ≤ length (r .holding)
+  pub store : r .n ≤ length (r .store)

@@ -1,7 +1,7 @@
 //! For the trials of the paths: made-up tiny days. A tiny day has one to four periods, in which it makes at most 10 in all.
 ghost use mathlib.Core.Path.{_≡_};
 ghost use Prim.Native.Nat.{_+_, _%_};
-ghost use Rattle.tiny_days.specs.MadeUp.{nextOf, upperOf, capacityOf, drawnOf, endsFrom, MadeUp};
+ghost use Rattle.tiny_days.specs.MadeUp.{nextOf, upperOf, capacityOf, storeOf, drawnOf, endsFrom, storesFrom, MadeUp};
 use day::Ends;
 
 // One draw of the generator in document 02, 2.7: the next seed. The number drawn is its upper half.
@@ -32,6 +32,24 @@ fn capacity_of(capacities: Capacities, drawn: u16, common: u16) -> u16
         Capacities::Any => drawn,
         Capacities::Equal => common,
         Capacities::Unbound => 10,
+    }
+}
+
+// Which store limits a made-up day has: none, low ones, of which many bind, or such as no path refuses.
+pub enum Stores {
+    Unlimited,
+    Low,
+    Ample,
+}
+
+// The store limit of one period, from the number drawn for it.
+fn store_of(stores: Stores, drawn: u16) -> u16
+    ensures { λ r. ⌜ r ≡ storeOf stores drawn ⌝ }
+{
+    match stores {
+        Stores::Unlimited => 65535,
+        Stores::Low => drawn,
+        Stores::Ample => 10,
     }
 }
 
@@ -82,8 +100,24 @@ fn draw_ends(seed: u32, most: u16) -> Ends
     }
 }
 
-// A made-up day: the first n cells of its tables, and its ends; and the seed for the next one. The ends are drawn after the periods, and
-// the next day's seed is the one before these two draws: so the same seed gives the same tables, whatever the ends are.
+// The store limits of a made-up day.
+fn draw_stores(seed: u32, stores: Stores) -> [u16; 4]
+    ensures { λ r. ⌜ r ≡ storesFrom seed stores ⌝ }
+{
+    let a = next(seed);
+    let b = next(a);
+    let c = next(b);
+    let d = next(c);
+    [
+        store_of(stores, upper(a) % 6),
+        store_of(stores, upper(b) % 6),
+        store_of(stores, upper(c) % 6),
+        store_of(stores, upper(d) % 6),
+    ]
+}
+
+// A made-up day: the first n cells of its tables, and its ends; and the seed for the next one. The ends are drawn after the periods, then
+// the store limits, and the next day's seed is the one before these draws: so the same seed gives the same days but for ends and stores.
 pub struct Tiny {
     pub seed: u32,
     pub n: usize,
@@ -92,12 +126,13 @@ pub struct Tiny {
     pub setup: [u32; 4],
     pub unit: [u32; 4],
     pub holding: [u32; 4],
+    pub store: [u16; 4],
     pub ends: Ends,
 }
 
 // The day of a seed, with ends of at most so much. Its demand is at most 8, so with ends of at most 2 it is tiny.
-pub fn make_up(seed: u32, capacities: Capacities, most: u16) -> Tiny
-    ensures { λ r. ⌜ MadeUp seed capacities most r ⌝ }
+pub fn make_up(seed: u32, capacities: Capacities, stores: Stores, most: u16) -> Tiny
+    ensures { λ r. ⌜ MadeUp seed capacities stores most r ⌝ }
 {
     let first = next(seed);
     let second = next(first);
@@ -107,6 +142,7 @@ pub fn make_up(seed: u32, capacities: Capacities, most: u16) -> Tiny
     let c = draw(b.seed, capacities, common);
     let d = draw(c.seed, capacities, common);
     let ends = draw_ends(d.seed, most);
+    let store = draw_stores(next(next(d.seed)), stores);
     Tiny {
         seed: d.seed,
         n: 1 + (upper(first) % 4) as usize,
@@ -115,6 +151,7 @@ pub fn make_up(seed: u32, capacities: Capacities, most: u16) -> Tiny
         setup: [a.setup, b.setup, c.setup, d.setup],
         unit: [a.unit, b.unit, c.unit, d.unit],
         holding: [a.holding, b.holding, c.holding, d.holding],
+        store,
         ends,
     }
 }

@@ -89,22 +89,38 @@ fn bytes(s: &[u8], out: &mut [u8]) -> usize
 // The mark, in an output slice.
 const FILL: u8 = 119;
 
-// Whether the day is written to the very bytes of the file.
-fn written_alike(
+// 0 where the day is written to the very bytes of the file, else 15.
+fn written(
     file: &[u8],
     demand: &[u16],
     capacity: &[u16],
     setup: &[u32],
     unit: &[u32],
     holding: &[u32],
+    store: &[u16],
     ends: Ends,
-) -> bool {
-    let mut out = [0u8; 1640];
-    match dayfile_writer::write(demand, capacity, setup, unit, holding, &mut out, ends) {
-        WriteAnswer::Refused(_) => false,
+) -> usize
+    ensures { λ r. ⌜ r < 16 ⌝ }
+{
+    let mut out = [0u8; 1832];
+    match dayfile_writer::write(
+        demand,
+        capacity,
+        setup,
+        unit,
+        holding,
+        store,
+        &mut out,
+        ends,
+    ) {
+        WriteAnswer::Refused(_) => 15,
         WriteAnswer::Bytes(m) => {
-            let end = text::least(m, 1640);
-            check::same(&out[0..end], file)
+            let end = text::least(m, 1832);
+            if check::same(&out[0..end], file) {
+                0
+            } else {
+                15
+            }
         }
     }
 }
@@ -119,6 +135,7 @@ fn fare(file: &[u8]) -> usize
     let mut setup = [119u32; 2];
     let mut unit = [119u32; 2];
     let mut holding = [119u32; 2];
+    let mut store = [MARK; 2];
     match dayfile_reader::read(
         file,
         &mut demand,
@@ -126,6 +143,7 @@ fn fare(file: &[u8]) -> usize
         &mut setup,
         &mut unit,
         &mut holding,
+        &mut store,
     ) {
         ReadAnswer::Refused(r) => {
             if cells::amounts_left(&demand, 0, false) {
@@ -133,12 +151,16 @@ fn fare(file: &[u8]) -> usize
             }
             15
         }
-        ReadAnswer::Periods(_, ends) => {
-            if written_alike(file, &demand, &capacity, &setup, &unit, &holding, ends) {
-                return 0;
-            }
-            15
-        }
+        ReadAnswer::Periods(_, ends) => written(
+            file,
+            &demand,
+            &capacity,
+            &setup,
+            &unit,
+            &holding,
+            &store,
+            ends,
+        ),
     }
 }
 
@@ -175,6 +197,11 @@ fn change(file: &mut [u8], counts: &mut [u64; 16])
     }
 }
 
+fn stores(store: [u16; 98], n: usize) {
+    let end = text::least(n, 98);
+    print::stores(&store[0..end]);
+}
+
 // The reader, with so many cells in each table.
 fn read(file: &[u8], room: usize) {
     let mut demand = [MARK; 98];
@@ -182,6 +209,7 @@ fn read(file: &[u8], room: usize) {
     let mut setup = [119u32; 98];
     let mut unit = [119u32; 98];
     let mut holding = [119u32; 98];
+    let mut store = [MARK; 98];
     let k = text::least(room, 98);
     match dayfile_reader::read(
         file,
@@ -190,21 +218,27 @@ fn read(file: &[u8], room: usize) {
         &mut setup[0..k],
         &mut unit[0..k],
         &mut holding[0..k],
+        &mut store[0..k],
     ) {
         ReadAnswer::Refused(r) => print::refusal(r),
         ReadAnswer::Periods(n, ends) => {
             print::number(b" periods ", n as u64);
             print::ends(ends);
+            stores(store, n);
         }
     }
 }
 
-// How long the part is that a lookup hands out, with the demand in it, and what its companion says.
+// How long the part is that a lookup hands out, with the demand and the store limit in it, and what its companion says.
 fn look(file: &[u8], period: usize) {
     let body = dayfile::lookup::body(file, period);
     print::number(b" bytes ", body.len() as u64);
     if 1 < body.len() {
         print::number(b" need ", cells::wide_8(body[1]));
+    }
+    if 17 < body.len() {
+        let high = cells::wide_8(body[16]);
+        print::number(b" store ", 256 * high + cells::wide_8(body[17]));
     }
     if let Check::Refused(r) = dayfile::lookup::check(file, period) {
         print::refusal(r);
@@ -231,7 +265,7 @@ fn trial(line: &[u8], file: &mut [u8]) {
 
 // A trial of the file in field 1.
 pub fn file(line: &[u8]) {
-    let mut file = [0u8; 1700];
+    let mut file = [0u8; 1900];
     let n = bytes(text::field(line, 1), &mut file);
     print::text(text::name(line));
     trial(line, &mut file[0..n]);
@@ -245,10 +279,11 @@ fn write_into(
     setup: &[u32],
     unit: &[u32],
     holding: &[u32],
+    store: &[u16],
     out: &mut [u8],
     ends: Ends,
 ) {
-    match dayfile_writer::write(demand, capacity, setup, unit, holding, out, ends) {
+    match dayfile_writer::write(demand, capacity, setup, unit, holding, store, out, ends) {
         WriteAnswer::Refused(r) => {
             print::refusal(r);
             print::unless(cells::bytes_left(out, 0, false));
@@ -262,19 +297,26 @@ fn write_into(
     }
 }
 
-// With so many bytes of room.
+// The room for a file: as much as field 6 says, or, where the line has only a day, five bytes more than the longest file.
+fn room_of(line: &[u8]) -> usize {
+    if check::same(text::kind(line), b"write") {
+        return text::size(text::number_in(line, 6));
+    }
+    1837
+}
+
 pub fn write(
     line: &[u8],
-    room: usize,
     demand: &[u16],
     capacity: &[u16],
     setup: &[u32],
     unit: &[u32],
     holding: &[u32],
+    store: &[u16],
     ends: Ends,
 ) {
-    let mut out = [FILL; 1645];
-    let end = text::least(room, 1645);
+    let mut out = [FILL; 1837];
+    let end = text::least(room_of(line), 1837);
     print::text(text::name(line));
     print::text(b" file");
     write_into(
@@ -283,6 +325,7 @@ pub fn write(
         setup,
         unit,
         holding,
+        store,
         &mut out[0..end],
         ends,
     );

@@ -91,6 +91,7 @@ fn plan(
     setup: &[u32],
     unit: &[u32],
     holding: &[u32],
+    store: &[u16],
     costs: &mut [u64],
     choices: &mut [u16],
     slots: &mut [u16],
@@ -103,6 +104,7 @@ fn plan(
             setup,
             unit,
             holding,
+            store,
             costs,
             choices,
             slots,
@@ -114,6 +116,7 @@ fn plan(
             setup,
             unit,
             holding,
+            store,
             costs,
             choices,
             slots,
@@ -125,12 +128,23 @@ fn plan(
             setup,
             unit,
             holding,
+            store,
             costs,
             choices,
             slots,
             ends,
         ),
-        Path::Free => free::plan(demand, capacity, setup, unit, holding, costs, slots, ends),
+        Path::Free => free::plan(
+            demand,
+            capacity,
+            setup,
+            unit,
+            holding,
+            store,
+            costs,
+            slots,
+            ends,
+        ),
     }
 }
 
@@ -192,6 +206,7 @@ pub fn run(
     setup: &[u32],
     unit: &[u32],
     holding: &[u32],
+    store: &[u16],
     costs: &mut [u64],
     choices: &mut [u16],
     slots: &mut [u16],
@@ -204,6 +219,7 @@ pub fn run(
         setup,
         unit,
         holding,
+        store,
         costs,
         choices,
         slots,
@@ -230,6 +246,7 @@ fn within(
     setup: &[u32],
     unit: &[u32],
     holding: &[u32],
+    store: &[u16],
     costs: usize,
     choices: usize,
     slots: usize,
@@ -249,6 +266,7 @@ fn within(
         setup,
         unit,
         holding,
+        store,
         &mut cost_area[0..a],
         &mut choice_area[0..b],
         &mut slot_area[0..c],
@@ -265,6 +283,7 @@ fn roomy(
     setup: &[u32],
     unit: &[u32],
     holding: &[u32],
+    store: &[u16],
     ends: Ends,
 ) {
     let need = needed(path, demand, ends);
@@ -277,11 +296,22 @@ fn roomy(
         setup,
         unit,
         holding,
+        store,
         need.costs + 2,
         need.choices + 2,
         slots,
         ends,
     );
+}
+
+// The four paths, by number.
+pub fn path_of(k: usize) -> Path {
+    match k {
+        0 => Path::Full,
+        1 => Path::Uncapped,
+        2 => Path::Equal,
+        _ => Path::Free,
+    }
 }
 
 pub fn all(
@@ -291,48 +321,24 @@ pub fn all(
     setup: &[u32],
     unit: &[u32],
     holding: &[u32],
+    store: &[u16],
     ends: Ends,
 ) {
-    roomy(
-        Path::Full,
-        line,
-        demand,
-        capacity,
-        setup,
-        unit,
-        holding,
-        ends,
-    );
-    roomy(
-        Path::Uncapped,
-        line,
-        demand,
-        capacity,
-        setup,
-        unit,
-        holding,
-        ends,
-    );
-    roomy(
-        Path::Equal,
-        line,
-        demand,
-        capacity,
-        setup,
-        unit,
-        holding,
-        ends,
-    );
-    roomy(
-        Path::Free,
-        line,
-        demand,
-        capacity,
-        setup,
-        unit,
-        holding,
-        ends,
-    );
+    let mut k = 0;
+    while k < 4 {
+        roomy(
+            path_of(k),
+            line,
+            demand,
+            capacity,
+            setup,
+            unit,
+            holding,
+            store,
+            ends,
+        );
+        k += 1;
+    }
 }
 
 // One path in as many cost cells, choice cells and slots as fields 6, 7 and 8 say.
@@ -343,6 +349,7 @@ pub fn lent(
     setup: &[u32],
     unit: &[u32],
     holding: &[u32],
+    store: &[u16],
     ends: Ends,
 ) {
     within(
@@ -353,6 +360,7 @@ pub fn lent(
         setup,
         unit,
         holding,
+        store,
         text::size(text::number_in(line, 6)),
         text::size(text::number_in(line, 7)),
         text::size(text::number_in(line, 8)),

@@ -50,9 +50,10 @@ fn weigh(
     setup: &[u32],
     unit: &[u32],
     holding: &[u32],
+    store: &[u16],
     ends: Ends,
 ) {
-    match weigher::weigh(demand, capacity, setup, unit, holding, plan, ends) {
+    match weigher::weigh(demand, capacity, setup, unit, holding, store, plan, ends) {
         Weighed::Refused(r) => print::refusal(r),
         Weighed::Judged(v) => print_verdict(v),
     }
@@ -66,9 +67,20 @@ fn compare(
     setup: &[u32],
     unit: &[u32],
     holding: &[u32],
+    store: &[u16],
     ends: Ends,
 ) {
-    match weigher::compare(demand, capacity, setup, unit, holding, plan, other, ends) {
+    match weigher::compare(
+        demand,
+        capacity,
+        setup,
+        unit,
+        holding,
+        store,
+        plan,
+        other,
+        ends,
+    ) {
         Compared::Refused(r) => print::refusal(r),
         Compared::Broken(rule, period) => broken(rule, period),
         Compared::Difference(d) => print_difference(d),
@@ -83,24 +95,27 @@ pub fn plans(
     setup: &[u32],
     unit: &[u32],
     holding: &[u32],
+    store: &[u16],
     ends: Ends,
 ) {
     let mut plan = [0u16; 128];
     let mut other = [0u16; 128];
-    let n = text::amounts(text::field(line, 6), &mut plan);
-    let m = text::amounts(text::field(line, 7), &mut other);
+    let n = text::amounts(text::field(line, 6), 1, &mut plan);
+    let m = text::amounts(text::field(line, 7), 1, &mut other);
+    let first = &plan[0..n];
     print::text(text::name(line));
     if check::same(text::kind(line), b"weigh") {
-        weigh(&plan[0..n], demand, capacity, setup, unit, holding, ends);
+        weigh(first, demand, capacity, setup, unit, holding, store, ends);
     } else {
         compare(
-            &plan[0..n],
+            first,
             &other[0..m],
             demand,
             capacity,
             setup,
             unit,
             holding,
+            store,
             ends,
         );
     }
@@ -127,6 +142,7 @@ pub fn searched(
     setup: &[u32],
     unit: &[u32],
     holding: &[u32],
+    store: &[u16],
     ends: Ends,
 ) {
     if 4 < demand.len() || 10 < cells::total(demand, ends) {
@@ -135,7 +151,7 @@ pub fn searched(
     print::text(text::name(line));
     print::text(b" search");
     print_best(
-        plain::search(demand, capacity, setup, unit, holding, ends),
+        plain::search(demand, capacity, setup, unit, holding, store, ends),
         demand.len(),
     );
     print::end();

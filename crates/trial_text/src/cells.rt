@@ -14,7 +14,9 @@ fn spoilt(v: u64, first: bool, cleared: bool) -> bool {
     v != 119
 }
 
-pub fn wide_8(v: u8) -> u64 {
+pub fn wide_8(v: u8) -> u64
+    ensures { λ r. ⌜ r ≤ 255 ⌝ }
+{
     v as u64
 }
 

@@ -41,6 +41,26 @@ pub fn amounts(plan: &[u16]) {
     }
 }
 
+// Whether one of the store limits limits anything.
+fn limited(store: &[u16]) -> bool {
+    let mut k = 0;
+    while k < store.len() {
+        if store[k] < 65535 {
+            return true;
+        }
+        k += 1;
+    }
+    false
+}
+
+// The store limits of a day that has any.
+pub fn stores(store: &[u16]) {
+    if limited(store) {
+        text(b" stores");
+        amounts(store);
+    }
+}
+
 // Says so where a call did not leave lent cells as it must.
 pub fn unless(kept: bool) {
     if !kept {

@@ -186,45 +186,7 @@ pub fn low(v: u32) -> u16 {
     (v % 65536) as u16
 }
 
-// The numbers of a field into a table; how many they are.
-pub fn amounts(s: &[u8], table: &mut [u16]) -> usize
-    ensures { λ r. ⌜ (r ≤ length (now (table .entry))) × (length (now (table .exit)) ≡ length (now (table .entry))) ⌝ }
-{
-    let mut r = next(s, start());
-    let mut k = 0;
-    while k < table.len() {
-        if !r.found {
-            return k;
-        }
-        table[k] = low(r.value);
-        r = next(s, r);
-        k += 1;
-    }
-    k
-}
-
-// The row of a line: what stands before its '|'.
-pub fn row(line: &[u8]) -> &[u8] {
-    let to = find(line, 0, b'|', true);
-    &line[0..to]
-}
-
-// The ends of a day: the two numbers after the line's '|'; both 0 where it has none.
-pub fn ends(line: &[u8]) -> Ends {
-    let mut both = [0u16; 2];
-    let to = line.len();
-    let bar = find(line, 0, b'|', true);
-    if bar < to {
-        let from = bar + 1;
-        amounts(&line[from..to], &mut both);
-    }
-    Ends {
-        opening: both[0],
-        closing: both[1],
-    }
-}
-
-// A number that stands alone stands for all n periods.
+// A number that stands alone, as often as n says.
 fn for_all(s: &[u8], r: Reading, n: usize) -> Reading {
     let more = next(s, r);
     if more.found || !r.found {
@@ -241,6 +203,23 @@ fn for_all(s: &[u8], r: Reading, n: usize) -> Reading {
     }
 }
 
+// The numbers of a field into a table; how many they are. One that stands alone stands for n.
+pub fn amounts(s: &[u8], n: usize, table: &mut [u16]) -> usize
+    ensures { λ r. ⌜ (r ≤ length (now (table .entry))) × (length (now (table .exit)) ≡ length (now (table .entry))) ⌝ }
+{
+    let mut r = for_all(s, next(s, start()), n);
+    let mut k = 0;
+    while k < table.len() {
+        if !r.found {
+            return k;
+        }
+        table[k] = low(r.value);
+        r = next(s, r);
+        k += 1;
+    }
+    k
+}
+
 // Likewise into a table of wider numbers.
 pub fn rates(s: &[u8], n: usize, table: &mut [u32]) -> usize
     ensures { λ r. ⌜ (r ≤ length (now (table .entry))) × (length (now (table .exit)) ≡ length (now (table .entry))) ⌝ }
@@ -254,6 +233,50 @@ pub fn rates(s: &[u8], n: usize, table: &mut [u32]) -> usize
         table[k] = r.value;
         r = next(s, r);
         k += 1;
+    }
+    k
+}
+
+// What stands before the first such byte of a line.
+fn before(line: &[u8], byte: u8) -> &[u8] {
+    let to = find(line, 0, byte, true);
+    &line[0..to]
+}
+
+// What stands after it; nothing where the line has none.
+fn after(line: &[u8], byte: u8) -> &[u8] {
+    let to = line.len();
+    let at = find(line, 0, byte, true);
+    if at == to {
+        return &line[to..to];
+    }
+    let from = at + 1;
+    &line[from..to]
+}
+
+// The row of a line: what stands before its '|'.
+pub fn row(line: &[u8]) -> &[u8] {
+    before(line, b'|')
+}
+
+// The ends of a day: the two numbers after the line's '|'; both 0 where it has none.
+pub fn ends(line: &[u8]) -> Ends {
+    let mut both = [0u16; 2];
+    amounts(before(after(line, b'|'), b'/'), 1, &mut both);
+    Ends {
+        opening: both[0],
+        closing: both[1],
+    }
+}
+
+// The store limits of a day of n periods: the numbers after the '/' there into a table, of which one that stands alone stands for all;
+// how many they are. Where there are none the table stays as it is, and they are n.
+pub fn stores(line: &[u8], n: usize, table: &mut [u16]) -> usize
+    ensures { λ r. ⌜ (r ≤ length (now (table .entry))) × (length (now (table .exit)) ≡ length (now (table .entry))) ⌝ }
+{
+    let k = amounts(after(after(line, b'|'), b'/'), n, table);
+    if k == 0 {
+        return least(n, table.len());
     }
     k
 }

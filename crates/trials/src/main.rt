@@ -14,25 +14,26 @@ fn day(
     setup: &[u32],
     unit: &[u32],
     holding: &[u32],
+    store: &[u16],
     ends: Ends,
 ) {
     let kind = text::kind(line);
     if check::same(kind, b"day") {
-        paths::all(line, demand, capacity, setup, unit, holding, ends);
-        trial_plans::searched(line, demand, capacity, setup, unit, holding, ends);
-        return trial_files::write(line, 1645, demand, capacity, setup, unit, holding, ends);
+        paths::all(line, demand, capacity, setup, unit, holding, store, ends);
+        trial_plans::searched(line, demand, capacity, setup, unit, holding, store, ends);
+        return trial_files::write(line, demand, capacity, setup, unit, holding, store, ends);
     }
     if check::same(kind, b"weigh") || check::same(kind, b"compare") {
-        return trial_plans::plans(line, demand, capacity, setup, unit, holding, ends);
+        return trial_plans::plans(line, demand, capacity, setup, unit, holding, store, ends);
     }
     if check::same(kind, b"write") {
-        let room = text::size(text::number_in(line, 6));
-        return trial_files::write(line, room, demand, capacity, setup, unit, holding, ends);
+        return trial_files::write(line, demand, capacity, setup, unit, holding, store, ends);
     }
-    paths::lent(line, demand, capacity, setup, unit, holding, ends);
+    paths::lent(line, demand, capacity, setup, unit, holding, store, ends);
 }
 
-// A line that begins with a day's five tables: demands; capacities; setup, unit and holding costs. After a '|' it has the day's ends.
+// A line that begins with five of a day's tables: demands; capacities; setup, unit and holding costs. After a '|' it has the day's ends and,
+// after a '/' there, the sixth: store limits.
 fn tables(line: &[u8]) {
     let row = text::row(line);
     let mut demand = [0u16; 128];
@@ -40,11 +41,13 @@ fn tables(line: &[u8]) {
     let mut setup = [0u32; 128];
     let mut unit = [0u32; 128];
     let mut holding = [0u32; 128];
-    let n = text::amounts(text::field(row, 1), &mut demand);
-    let c = text::amounts(text::field(row, 2), &mut capacity);
+    let mut store = [65535u16; 128];
+    let n = text::amounts(text::field(row, 1), 1, &mut demand);
+    let c = text::amounts(text::field(row, 2), 1, &mut capacity);
     let b = text::rates(text::field(row, 3), n, &mut setup);
     let p = text::rates(text::field(row, 4), n, &mut unit);
     let h = text::rates(text::field(row, 5), n, &mut holding);
+    let s = text::stores(line, n, &mut store);
     day(
         row,
         &demand[0..n],
@@ -52,6 +55,7 @@ fn tables(line: &[u8]) {
         &setup[0..b],
         &unit[0..p],
         &holding[0..h],
+        &store[0..s],
         text::ends(line),
     );
 }

@@ -11,7 +11,8 @@ use Rattle.day.specs.Sums.{at}
 use Rattle.day.specs.Day.{Day, maxCapacity}
 use Rattle.day.specs.Day as Day
 use Rattle.day.specs.Plan.{Optimal}
-use Rattle.day.specs.Tests.{first-one}
+use Rattle.day.specs.Refusals.{binding, lowStore}
+use Rattle.day.specs.Tests.{first-two}
 use Rattle.day.specs.Outcome.{Memory, memoryOf, sizesOf, Cleared, Accepted}
 use Rattle.day.specs.Paths.{uncapped}
 use Rattle.checks.specs.Passed.{Admitted, binding-passed}
@@ -20,8 +21,9 @@ use Rattle.weigher.specs.Walk.{FeasiblePlan, path-plan}
 use Rattle.theory.specs.Cut.{optimal-ext}
 use Rattle.theory.specs.Model.{Model}
 use Rattle.theory.specs.Problem.{Problem, Bounded, periods, total, modelOf, model-rising, model-unlimited}
-use Rattle.theory.specs.Net.{netNeeds, ratesOf, NetTables, problemOf, limits-fit, periods-is, floor-is, total-is, bounded}
-use Rattle.theory.specs.Base.{optimal-iff}
+use Rattle.theory.specs.Net.{netNeeds, ratesOf, NetTables, problemOf, periods-is, floor-is, total-is, bounded}
+use Rattle.theory.specs.Store.{Loose, limits-loose}
+use Rattle.theory.specs.Base.{loose-optimal}
 use Rattle.theory.specs.Recursion.{leads-optimal}
 use Rattle.theory.specs.Stages.{Solution}
 use Rattle.theory.specs.Uncapped.{Uncapped}
@@ -66,7 +68,11 @@ module _ (d : Day) (m : Memory) (ok : Admitted uncapped d (sizesOf m)) where
   room k h =
       let pos = ok .day .limits .nonempty in
       let inside : k < Day.periods d = omega (arith, periods-is d) in
-      omega (arith, binding-passed d (rw first-one at (ok .own)) k inside, floor-is d pos k (omega arith), total-is d pos)
+      omega (arith, binding-passed d (first-two (binding d) (lowStore d) (ok .own) .0) k inside, floor-is d pos k (omega arith), total-is d pos)
+
+  -- nor can a store bind
+  loose : Loose d
+  loose = limits-loose (binding d) (ok .day) (ok .own)
 
   row : Row M n (wagnerWhitin M n)
   row = wagnerWhitin-right M (model-rising p) (model-unlimited p) n room n (omega arith)
@@ -113,7 +119,7 @@ module _ (d : Day) (m : Memory) (ok : Admitted uncapped d (sizesOf m)) where
 
       slots-optimal : Optimal d (at (after .slots))
       slots-optimal =
-          optimal-iff d (limits-fit (ok .day)) (at (after .slots)) .1
+          loose-optimal d loose (at (after .slots)) .1
           (optimal-ext M n (total p) (at plan) (at (after .slots)) same (leads-optimal M n (total p) (wagnerWhitin M n) row))
 
       size : length (after .slots) ≡ length (m .slots)

@@ -1,4 +1,4 @@
-//! The uncapped path: Wagner and Whitin (report, section 3), for days whose capacities can't bind.
+//! The uncapped path: Wagner and Whitin (report, section 3), for days whose capacities and stores can't bind.
 //! It tests, takes the net needs and the rates, finds the cost and the last lot of every row, reads the plan back, clears its areas, and
 //! weighs the plan.
 ghost use Rattle.day.specs.Day.{dayOf};
@@ -46,16 +46,17 @@ fn work(
     setup: &[u32],
     unit: &[u32],
     holding: &[u32],
+    store: &[u16],
     costs: &mut [u64],
     choices: &mut [u16],
     slots: &mut [u16],
     ends: Ends,
 ) -> Totals
     requires { ⌜ Admitted uncapped
-        (dayOf (now demand) (now capacity) (now setup) (now unit) (now holding) ends)
+        (dayOf (now demand) (now capacity) (now setup) (now unit) (now holding) (now store) ends)
         (sizesOf (memoryOf (now costs) (now choices) (now slots))) ⌝ }
     ensures { λ r. ⌜ Accepted uncapped
-        (dayBefore demand capacity setup unit holding ends)
+        (dayBefore demand capacity setup unit holding store ends)
         r
         (memoryBefore costs choices slots)
         (memoryAfter costs choices slots) ⌝ }
@@ -69,23 +70,24 @@ fn work(
     solve(net, setup, unit, rates, costs, choices, slots);
     areas::clear_wide(costs, n + 1);
     areas::clear_narrow(choices, n + 1);
-    weigher::totals(demand, capacity, setup, unit, holding, slots, ends)
+    weigher::totals(demand, capacity, setup, unit, holding, store, slots, ends)
 }
 
-// The plan of a day whose capacities can't bind, into the first n slots.
+// The plan of a day whose capacities and stores can't bind, into the first n slots.
 pub fn plan(
     demand: &[u16],
     capacity: &[u16],
     setup: &[u32],
     unit: &[u32],
     holding: &[u32],
+    store: &[u16],
     costs: &mut [u64],
     choices: &mut [u16],
     slots: &mut [u16],
     ends: Ends,
 ) -> Answer
     ensures { λ r. ⌜ Runs uncapped
-        (dayBefore demand capacity setup unit holding ends)
+        (dayBefore demand capacity setup unit holding store ends)
         (memoryBefore costs choices slots)
         r
         (memoryAfter costs choices slots) ⌝ }
@@ -97,6 +99,7 @@ pub fn plan(
         setup,
         unit,
         holding,
+        store,
         costs.len(),
         choices.len(),
         slots.len(),
@@ -110,6 +113,7 @@ pub fn plan(
         setup,
         unit,
         holding,
+        store,
         costs,
         choices,
         slots,

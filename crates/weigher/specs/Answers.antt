@@ -1,4 +1,4 @@
--- What the weigher's two calls answer (document 01, "The weigher"; document 02, 2.1), and the number of each rule.
+-- What the weigher's two calls answer (document 01, "The weigher"; document 02, 2.1, 2.5), and the number of each rule.
 -- Main definitions: `Weighs`, `Compares`, the contracts of the calls; `weighedFigures`, `comparedFigures`; `ruleNumber`.
 -- Main statements: `weighs-is`, `compares-is`, `compares`. Assumes nothing.
 use mathlib.Core.Path.{_≡_, refl, sym, ap, ap₂, subst, _∙_}
@@ -14,7 +14,7 @@ use Rattle.day.specs.Refusals.{Gives, first, dayTests, badSlots}
 use Rattle.day.specs.Tests.{gives-is, is-gives}
 use Rattle.day.specs.Figures.{Figures, acceptedWith, refusedWith}
 use Rattle.weigher.specs.declared.Rule.{Rule}
-use Rattle.weigher.specs.declared.Rule.the-variants.{AboveCapacity, Short, Over}
+use Rattle.weigher.specs.declared.Rule.the-variants.{AboveCapacity, Short, AboveStore, Over}
 use Rattle.weigher.specs.declared.Verdict.{Verdict}
 use Rattle.weigher.specs.declared.Verdict.the-variants.{Holds, Broken}
 use Rattle.weigher.specs.declared.Weighed.{Weighed}
@@ -51,6 +51,7 @@ compareOf (Judged v) (Judged w) = betweenOf v w
 abbrev pub ruleNumber : Rule → ℕ
 ruleNumber AboveCapacity = 101
 ruleNumber Short = 102
+ruleNumber AboveStore = 104
 ruleNumber Over = 103
 
 abbrev pub brokenWith : {A : Type 0} → Rule → ℕ → Figures A
@@ -89,11 +90,12 @@ Compares d plan other =
 
 -- the number fixes a rule
 abbrev ruleWith : ℕ → Rule
-ruleWith number = getD (AboveCapacity ∷ Short ∷ []) (number - 101) Over
+ruleWith number = getD (AboveCapacity ∷ Short ∷ Over ∷ []) (number - 101) AboveStore
 
 rule-back : (r : Rule) → ruleWith (ruleNumber r) ≡ r
 rule-back AboveCapacity = refl
 rule-back Short = refl
+rule-back AboveStore = refl
 rule-back Over = refl
 
 -- the figures fix a verdict

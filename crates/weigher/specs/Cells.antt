@@ -12,11 +12,11 @@ use Rattle.day.specs.declared.Refusal.the-variants.{FewSlots}
 use Rattle.day.specs.Sums.{at, sum-ext}
 use Rattle.day.specs.Day.{Day, periods}
 use Rattle.day.specs.Plan.{setupAt}
-use Rattle.day.specs.Search.{sums-alike, feasible-alike, cost-alike}
+use Rattle.day.specs.Search.{sums-alike, kept-alike, cost-alike}
 use Rattle.day.specs.Refusals.{refuse, first, dayTests}
 use Rattle.day.specs.Figures.{acceptedWith}
 use Rattle.weigher.specs.declared.Rule.{Rule}
-use Rattle.weigher.specs.declared.Rule.the-variants.{AboveCapacity, Short, Over}
+use Rattle.weigher.specs.declared.Rule.the-variants.{AboveCapacity, Short, AboveStore, Over}
 use Rattle.weigher.specs.declared.Verdict.{Verdict}
 use Rattle.weigher.specs.declared.Verdict.the-variants.{Holds, Broken}
 use Rattle.weigher.specs.Verdict.{verdictOf}
@@ -29,19 +29,27 @@ module _ (d : Day) (x y : ℕ → ℕ) (same : (k : ℕ) → k < periods d → x
   keeps-alike k l h =
       let s = sums-alike d x y same (suc k) l in
       let e = same k l in
-      record { within = omega (arith, h .within); served = omega (arith, h .served); ends = λ q. omega (arith, h .ends q) }
+      record {
+        within = omega (arith, h .within);
+        served = omega (arith, h .served);
+        stored = omega (arith, h .stored);
+        ends = λ q. omega (arith, h .ends q);
+      }
 
   breaks-alike : (r : Rule) (k : ℕ) → k < periods d → Breaks d x r k → Breaks d y r k
   breaks-alike AboveCapacity k l b = omega (arith, same k l)
   breaks-alike Short k l b = omega (arith, same k l, sums-alike d x y same (suc k) l)
-  breaks-alike Over k l b = (omega (arith, same k l), (b .1 .0, omega (arith, sums-alike d x y same (suc k) l)))
+  breaks-alike AboveStore k l b = omega (arith, same k l, sums-alike d x y same (suc k) l)
+  breaks-alike Over k l b =
+      let s = sums-alike d x y same (suc k) l in
+      (omega (arith, same k l), (omega (arith, b .1 .0), (b .1 .1 .0, omega (arith, b .1 .1 .1))))
 
   verdict-alike : 1 ≤ periods d → verdictOf d x ≡ verdictOf d y
   verdict-alike nonempty = verdict-only d y (verdictOf d x) (go (verdictOf d x) (verdict-right d x nonempty))
     where
       go : (v : Verdict) → Says d x v → Says d y v
       go (Holds t) (f, c) = (
-        feasible-alike d x y same f,
+        kept-alike d (periods d) x y same f,
         c ∙ ap₂ (λ (a b : ℕ). acceptedWith (a ∷ b ∷ [])) (cost-alike d x y same) (sum-ext _ _ (periods d) (λ k l. ap setupAt (same k l))),
       )
       go (Broken r zero) s = s

@@ -1,4 +1,5 @@
--- What a verdict says of a plan, by the report's conditions (2) to (4), and that the weigher's verdict is the only right one.
+-- What a verdict says of a plan, by the report's conditions (2) to (4) and the store limit (document 02, 2.5), and that the weigher's verdict
+-- is the only right one.
 -- Main statements: `verdict-right`, `verdict-only`; of a plan that holds `holds-feasible`, `feasible-holds`. Assumes nothing.
 use mathlib.Core.Path.{_≡_, refl, sym, ap}
 use mathlib.Core.Bool.{Bool, true, false}
@@ -12,27 +13,32 @@ use Rattle.day.specs.declared.Totals.{Totals}
 use Rattle.day.specs.Sums.{at, sumTo}
 use Rattle.day.specs.Find.{Found, find, find-here, none-found, nothing-found, some-found}
 use Rattle.day.specs.Day.{Day, periods, dueOf, dueTo, due-least, demandTo}
-use Rattle.day.specs.Plan.{Feasible}
+use Rattle.day.specs.Plan.{inventory, Feasible}
 use Rattle.day.specs.Refusals.{first}
 use Rattle.day.specs.Figures.{first-value, second-value}
 use Rattle.day.specs.Outcome.{Counts}
 use Rattle.weigher.specs.declared.Rule.{Rule}
-use Rattle.weigher.specs.declared.Rule.the-variants.{AboveCapacity, Short, Over}
+use Rattle.weigher.specs.declared.Rule.the-variants.{AboveCapacity, Short, AboveStore, Over}
 use Rattle.weigher.specs.declared.Verdict.{Verdict}
 use Rattle.weigher.specs.declared.Verdict.the-variants.{Holds, Broken}
-use Rattle.weigher.specs.Verdict.{aboveAt, shortAt, breaks, ruleAt, totalsOf, verdictAt, verdictOf}
+use Rattle.weigher.specs.Verdict.{aboveAt, shortAt, aboveStoreAt, breaks, ruleAt, totalsOf, verdictAt, verdictOf}
 
--- period k + 1 keeps (4), (2), and, where it is the last, (3)
+-- period k + 1 keeps (4), (2), the store limit, and, where it is the last, (3)
 pub record Keeps (d : Day) (x : ℕ → ℕ) (k : ℕ) : Type 0 where
   pub within : x k ≤ at (d .capacity) k
   pub served : dueTo d (suc k) ≤ d .opening + sumTo x (suc k)
+  pub stored : inventory d x (suc k) ≤ at (d .store) k
   pub ends : suc k ≡ periods d → d .opening + sumTo x (suc k) ≤ dueTo d (suc k)
 
 -- period k + 1 breaks a rule, and none that goes before it in one period
 abbrev pub Breaks : Day → (ℕ → ℕ) → Rule → ℕ → Type 0
 Breaks d x AboveCapacity k = at (d .capacity) k < x k
 Breaks d x Short k = (x k ≤ at (d .capacity) k) × (d .opening + sumTo x (suc k) < dueTo d (suc k))
-Breaks d x Over k = (x k ≤ at (d .capacity) k) × ((suc k ≡ periods d) × (dueTo d (suc k) < d .opening + sumTo x (suc k)))
+Breaks d x AboveStore k =
+    (x k ≤ at (d .capacity) k) × ((dueTo d (suc k) ≤ d .opening + sumTo x (suc k)) × (at (d .store) k < inventory d x (suc k)))
+Breaks d x Over k =
+    (x k ≤ at (d .capacity) k)
+    × ((inventory d x (suc k) ≤ at (d .store) k) × ((suc k ≡ periods d) × (dueTo d (suc k) < d .opening + sumTo x (suc k))))
 
 -- the first period that breaks any is k + 1, and it breaks r
 pub record FirstBroken (d : Day) (x : ℕ → ℕ) (r : Rule) (k : ℕ) : Type 0 where
@@ -63,19 +69,29 @@ data Tested (d : Day) (x : ℕ → ℕ) (k : ℕ) : Type 0 where
   broken : (r : Rule) → Breaks d x r k → breaks d x k ≡ true → ruleAt d x k ≡ r → Tested d x k
 
 tested : (d : Day) (x : ℕ → ℕ) (k : ℕ) → Tested d x k
-tested d x k = go (aboveAt d x k) (shortAt d x k) (eqb (suc k) (periods d)) (ltb (dueTo d (suc k)) (d .opening + sumTo x (suc k))) refl refl refl refl
+tested d x k =
+    go
+    (aboveAt d x k) (shortAt d x k) (aboveStoreAt d x k) (eqb (suc k) (periods d)) (ltb (dueTo d (suc k)) (d .opening + sumTo x (suc k)))
+    refl refl refl refl refl
   where
-    go : (a b c e : Bool)
-        → aboveAt d x k ≡ a → shortAt d x k ≡ b → eqb (suc k) (periods d) ≡ c → ltb (dueTo d (suc k)) (d .opening + sumTo x (suc k)) ≡ e
+    go : (a b f c e : Bool)
+        → aboveAt d x k ≡ a → shortAt d x k ≡ b → aboveStoreAt d x k ≡ f → eqb (suc k) (periods d) ≡ c
+        → ltb (dueTo d (suc k)) (d .opening + sumTo x (suc k)) ≡ e
         → Tested d x k
-    go true b c e p q r s = broken AboveCapacity (ltb-true _ _ p) (rw p refl) (rw p refl)
-    go false true c e p q r s = broken Short (ltb-false _ _ p, ltb-true _ _ q) (rw (p, q) refl) (rw (p, q) refl)
-    go false false true true p q r s =
-        broken Over (ltb-false _ _ p, (eqb-true _ _ r, ltb-true _ _ s)) (rw (p, q, s, r) refl) (rw (p, q) refl)
-    go false false true false p q r s =
-        keeps (record { within = ltb-false _ _ p; served = ltb-false _ _ q; ends = λ _. ltb-false _ _ s }) (rw (p, q, s, r) refl)
-    go false false false e p q r s =
-        keeps (record { within = ltb-false _ _ p; served = ltb-false _ _ q; ends = λ l. absurd (eqb-false _ _ r l) }) (rw (p, q, r) refl)
+    go true b f c e p q t r s = broken AboveCapacity (ltb-true _ _ p) (rw p refl) (rw p refl)
+    go false true f c e p q t r s = broken Short (ltb-false _ _ p, ltb-true _ _ q) (rw (p, q) refl) (rw (p, q) refl)
+    go false false true c e p q t r s =
+        broken AboveStore (ltb-false _ _ p, (ltb-false _ _ q, ltb-true _ _ t)) (rw (p, q, t) refl) (rw (p, q, t) refl)
+    go false false false true true p q t r s =
+        broken Over (ltb-false _ _ p, (ltb-false _ _ t, (eqb-true _ _ r, ltb-true _ _ s))) (rw (p, q, t, s, r) refl) (rw (p, q, t) refl)
+    go false false false true false p q t r s =
+        keeps
+        (record { within = ltb-false _ _ p; served = ltb-false _ _ q; stored = ltb-false _ _ t; ends = λ _. ltb-false _ _ s })
+        (rw (p, q, t, s, r) refl)
+    go false false false false e p q t r s =
+        keeps
+        (record { within = ltb-false _ _ p; served = ltb-false _ _ q; stored = ltb-false _ _ t; ends = λ l. absurd (eqb-false _ _ r l) })
+        (rw (p, q, t, r) refl)
 
 module _ (d : Day) (x : ℕ → ℕ) where
   pub passed-keeps : (k : ℕ) → breaks d x k ≡ false → Keeps d x k
@@ -91,7 +107,8 @@ module _ (d : Day) (x : ℕ → ℕ) where
       apart : (r : Rule) → Breaks d x r k → ⊥
       apart AboveCapacity b = omega (arith, h .within)
       apart Short b = omega (arith, h .served)
-      apart Over b = omega (arith, h .ends (b .1 .0))
+      apart AboveStore b = omega (arith, h .stored)
+      apart Over b = omega (arith, h .ends (b .1 .1 .0))
 
       go : Tested d x k → breaks d x k ≡ false
       go (keeps h f) = f
@@ -100,17 +117,22 @@ module _ (d : Day) (x : ℕ → ℕ) where
   breaks-rule : (r : Rule) (k : ℕ) → Breaks d x r k → (breaks d x k ≡ true) × (ruleAt d x k ≡ r)
   breaks-rule AboveCapacity k b = (simp (lt-ltb _ _ b), simp (lt-ltb _ _ b))
   breaks-rule Short k b = (simp (le-ltb _ _ (b .0), lt-ltb _ _ (b .1)), simp (le-ltb _ _ (b .0), lt-ltb _ _ (b .1)))
+  breaks-rule AboveStore k b =
+      let s : shortAt d x k ≡ false = le-ltb _ _ (b .1 .0) in
+      (simp (le-ltb _ _ (b .0), s, lt-ltb _ _ (b .1 .1)), simp (le-ltb _ _ (b .0), s, lt-ltb _ _ (b .1 .1)))
   breaks-rule Over k b =
-      let s : shortAt d x k ≡ false = le-ltb _ _ (le-of-lt (b .1 .1)) in
-      (rw (le-ltb _ _ (b .0), s, lt-ltb _ _ (b .1 .1), eq-eqb _ _ (b .1 .0)) refl, simp (le-ltb _ _ (b .0), s))
+      let s : shortAt d x k ≡ false = le-ltb _ _ (le-of-lt (b .1 .1 .1)) in
+      let f : aboveStoreAt d x k ≡ false = le-ltb _ _ (b .1 .0) in
+      (rw (le-ltb _ _ (b .0), s, f, lt-ltb _ _ (b .1 .1 .1), eq-eqb _ _ (b .1 .1 .0)) refl, simp (le-ltb _ _ (b .0), s, f))
 
   -- a plan that keeps every period keeps the conditions, and the other way round
   all-feasible : 1 ≤ periods d → ((k : ℕ) → k < periods d → Keeps d x k) → Feasible d x
   all-feasible nonempty h =
       record {
         served = λ k l. le-trans (due-least (eqb (suc k) (periods d)) _ _) (h k l .served);
-        ends = go (periods d) refl nonempty;
+        ends = λ _. go (periods d) refl nonempty;
         within = λ k l. h k l .within;
+        stored = λ k l. h k l .stored;
       }
     where
       go : (n : ℕ) → periods d ≡ n → 1 ≤ n → d .opening + sumTo x n ≡ demandTo d n + d .closing
@@ -122,11 +144,12 @@ module _ (d : Day) (x : ℕ → ℕ) where
       record {
         within = f .within k l;
         served = due-met d k (f .served k l) (λ e. omega (arith, ended e));
+        stored = f .stored k l;
         ends = λ e. omega (arith, due-last d k e, ended e);
       }
     where
       ended : suc k ≡ periods d → d .opening + sumTo x (suc k) ≡ demandTo d (suc k) + d .closing
-      ended e = omega (arith, ap (sumTo x) e, ap (demandTo d) e, f .ends)
+      ended e = omega (arith, ap (sumTo x) e, ap (demandTo d) e, f .ends refl)
 
   -- after periods that break no rule the charge is not below 0
   pub kept-served : (i : ℕ) → ((k : ℕ) → k < i → Keeps d x k) → demandTo d i ≤ d .opening + sumTo x i
@@ -159,7 +182,7 @@ module _ (d : Day) (x : ℕ → ℕ) where
   verdict-only (Broken r zero) s = absurd s
   verdict-only (Broken r (suc k)) s = let b = broken-found r k (periods d) s (s .inside) in rw (b .0, b .1) refl
 
-  -- it is "holds" exactly if the plan keeps (2) to (4), with sum (1) and the count of amounts above 0
+  -- it is "holds" exactly if the plan keeps (2) to (4) and the store limit, with sum (1) and the count of amounts above 0
   pub holds-feasible : 1 ≤ periods d → (t : Totals) → verdictOf d x ≡ Holds t → Feasible d x × Counts d x t
   holds-feasible nonempty t e = rw e at (verdict-right nonempty)
 

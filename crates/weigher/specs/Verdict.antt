@@ -1,4 +1,4 @@
--- The weigher's verdict on a plan, in the report's terms (document 01, "The weigher"; document 02, 2.1; report, section 2).
+-- The weigher's verdict on a plan, in the report's terms (document 01, "The weigher"; document 02, 2.1, 2.5; report, section 2).
 -- A plan is a function from periods to amounts, as in the crate day's Plan. Index k is period k + 1.
 -- Main definition: `verdictOf`. Assumes nothing.
 use mathlib.Core.Bool.{Bool, true, false, _&&_, _||_}
@@ -9,9 +9,9 @@ use Rattle.day.specs.declared.Totals.{Totals}
 use Rattle.day.specs.Sums.{at, sumTo}
 use Rattle.day.specs.Find.{find}
 use Rattle.day.specs.Day.{Day, periods, dueTo}
-use Rattle.day.specs.Plan.{cost, setups}
+use Rattle.day.specs.Plan.{inventory, cost, setups}
 use Rattle.weigher.specs.declared.Rule.{Rule}
-use Rattle.weigher.specs.declared.Rule.the-variants.{AboveCapacity, Short, Over}
+use Rattle.weigher.specs.declared.Rule.the-variants.{AboveCapacity, Short, AboveStore, Over}
 use Rattle.weigher.specs.declared.Verdict.{Verdict}
 use Rattle.weigher.specs.declared.Verdict.the-variants.{Holds, Broken}
 
@@ -23,22 +23,27 @@ aboveAt d x k = ltb (at (d .capacity) k) (x k)
 abbrev pub shortAt : Day → (ℕ → ℕ) → ℕ → Bool
 shortAt d x k = ltb (d .opening + sumTo x (suc k)) (dueTo d (suc k))
 
+-- it is above the period's store limit; A, before period 1, has none
+abbrev pub aboveStoreAt : Day → (ℕ → ℕ) → ℕ → Bool
+aboveStoreAt d x k = ltb (at (d .store) k) (inventory d x (suc k))
+
 -- it is above Z in period n
 abbrev pub overAt : Day → (ℕ → ℕ) → ℕ → Bool
 overAt d x k = eqb (suc k) (periods d) && ltb (dueTo d (suc k)) (d .opening + sumTo x (suc k))
 
 -- a period breaks some rule
 abbrev pub breaks : Day → (ℕ → ℕ) → ℕ → Bool
-breaks d x k = aboveAt d x k || shortAt d x k || overAt d x k
+breaks d x k = aboveAt d x k || shortAt d x k || aboveStoreAt d x k || overAt d x k
 
--- which one: above capacity goes before the other two
-abbrev pub ruleOf : (above short : Bool) → Rule
-ruleOf true b = AboveCapacity
-ruleOf false true = Short
-ruleOf false false = Over
+-- which one, in their order: above capacity, short, above store, over
+abbrev pub ruleOf : (above short aboveStore : Bool) → Rule
+ruleOf true b c = AboveCapacity
+ruleOf false true c = Short
+ruleOf false false true = AboveStore
+ruleOf false false false = Over
 
 abbrev pub ruleAt : Day → (ℕ → ℕ) → ℕ → Rule
-ruleAt d x k = ruleOf (aboveAt d x k) (shortAt d x k)
+ruleAt d x k = ruleOf (aboveAt d x k) (shortAt d x k) (aboveStoreAt d x k)
 
 -- the cost, sum (1), and the setups
 abbrev pub totalsOf : Day → (ℕ → ℕ) → Totals

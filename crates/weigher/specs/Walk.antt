@@ -51,8 +51,9 @@ rulingOf p x last s closing =
     let due = dueOf last (t .demanded) closing in
     let above = ltb (p .capacity) x in
     let short = ltb (t .supplied) due in
+    let aboveStore = ltb (p .store) (t .supplied - t .demanded) in
     let over = last && ltb due (t .supplied) in
-    rulingOn (above || short || over) (ruleOf above short) t
+    rulingOn (above || short || aboveStore || over) (ruleOf above short aboveStore) t
 
 -- the entries of period k + 1
 abbrev pub entriesAt : Day → ℕ → Entries
@@ -62,6 +63,7 @@ entriesAt d k = record {
   setup = at (d .setup) k;
   unit = at (d .unit) k;
   holding = at (d .holding) k;
+  store = at (d .store) k;
 }
 
 -- from the sums before a period, its entries give what the report says of it

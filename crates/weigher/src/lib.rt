@@ -1,5 +1,5 @@
-//! Weighs a given plan of a day: whether it keeps the report's conditions, what it costs, how two plans compare.
-//! (Document 01, "The weigher"; document 02, 2.1, 2.2, 2.4.) What the answers mean is in specs/.
+//! Weighs a given plan of a day: whether it keeps the conditions, what it costs, how two plans compare.
+//! (Document 01, "The weigher"; document 02, 2.1, 2.2, 2.4, 2.5.) What the answers mean is in specs/.
 ghost use mathlib.Core.Path.{_≡_};
 ghost use Prim.Native.Nat.{_^_, _<_};
 ghost use lib.IntN.{pos, _-ℤ_};
@@ -21,6 +21,8 @@ pub enum Rule {
     AboveCapacity,
     // The inventory would be below 0, or is below the closing one after the last period.
     Short,
+    // The inventory left after a period is above its store limit (document 02, 2.5).
+    AboveStore,
     // The inventory after the last period is above the closing one (document 01: charge over at the end).
     Over,
 }
@@ -51,6 +53,7 @@ impl Rule {
         match self {
             Rule::AboveCapacity => 101,
             Rule::Short => 102,
+            Rule::AboveStore => 104,
             Rule::Over => 103,
         }
     }
@@ -63,6 +66,7 @@ struct Entries {
     setup: u32,
     unit: u32,
     holding: u32,
+    store: u16,
 }
 
 // The sums through the periods judged so far. What was made is counted on top of the opening inventory: A + X, so that the
@@ -88,18 +92,26 @@ fn judge(p: Entries, amount: u16, last: bool, s: Sums, closing: u16) -> Ruling
     let supplied = s.supplied + (amount as u64);
     let demanded = s.demanded + (p.demand as u64);
     let due = checks::due(demanded, closing, last);
-    if p.capacity < amount {
+    let above_capacity = p.capacity < amount;
+    let short = supplied < due;
+    if above_capacity {
         return Ruling::Broke(Rule::AboveCapacity);
     }
-    if supplied < due {
+    if short {
         return Ruling::Broke(Rule::Short);
     }
-    if last && due < supplied {
+    // Neither is below 0: no period so far is short.
+    let before = s.supplied - s.demanded;
+    let left = supplied - demanded;
+    let above_store = (p.store as u64) < left;
+    let over = last && due < supplied;
+    if above_store {
+        return Ruling::Broke(Rule::AboveStore);
+    }
+    if over {
         return Ruling::Broke(Rule::Over);
     }
     let making = terms::making_cost(p.setup, p.unit, amount as u64);
-    let before = s.supplied - s.demanded;
-    let left = supplied - demanded;
     let upkeep = terms::holding_cost(p.holding, before + left);
     let cost = s.cost + making + upkeep;
     let setups = s.setups + terms::setup_of(amount);
@@ -118,13 +130,14 @@ fn advance(
     setup: &[u32],
     unit: &[u32],
     holding: &[u32],
+    store: &[u16],
     plan: &[u16],
     i: usize,
     s: Sums,
     ends: Ends,
 ) -> Ruling
-    requires { ⌜ NextPeriod (dayOf (now demand) (now capacity) (now setup) (now unit) (now holding) ends) (now plan) i s ⌝ }
-    ensures { λ r. ⌜ r ≡ rulingAt (dayBefore demand capacity setup unit holding ends) (at (now (plan .entry))) i ⌝ }
+    requires { ⌜ NextPeriod (dayOf (now demand) (now capacity) (now setup) (now unit) (now holding) (now store) ends) (now plan) i s ⌝ }
+    ensures { λ r. ⌜ r ≡ rulingAt (dayBefore demand capacity setup unit holding store ends) (at (now (plan .entry))) i ⌝ }
 {
     let p = Entries {
         demand: demand[i],
@@ -132,6 +145,7 @@ fn advance(
         setup: setup[i],
         unit: unit[i],
         holding: holding[i],
+        store: store[i],
     };
     judge(p, plan[i], i + 1 == demand.len(), s, ends.closing)
 }
@@ -142,9 +156,9 @@ fn advance(
 //     Σ for i = 1, .., n                    the loop, period i at index i - 1; by `judge`, from the sums before it, s:
 //         A + X_i                           supplied = s.supplied + amount
 //         R_i                               demanded = s.demanded + p.demand
-//         p_i(x_i)                          making = making_cost(p.setup, p.unit, amount)
 //         I_(i−1) = A + X_(i−1) − R_(i−1)   before = s.supplied - s.demanded
 //         I_i = A + X_i − R_i               left = supplied - demanded
+//         p_i(x_i)                          making = making_cost(p.setup, p.unit, amount)
 //         h_i × (I_(i−1) + I_i)             upkeep = holding_cost(p.holding, before + left)
 //         the sum through period i          cost = s.cost + making + upkeep
 fn walk(
@@ -153,11 +167,12 @@ fn walk(
     setup: &[u32],
     unit: &[u32],
     holding: &[u32],
+    store: &[u16],
     plan: &[u16],
     ends: Ends,
 ) -> Verdict
-    requires { ⌜ Weighable (dayOf (now demand) (now capacity) (now setup) (now unit) (now holding) ends) (now plan) ⌝ }
-    ensures { λ r. ⌜ r ≡ walkOf (dayBefore demand capacity setup unit holding ends) (at (now (plan .entry))) ⌝ }
+    requires { ⌜ Weighable (dayOf (now demand) (now capacity) (now setup) (now unit) (now holding) (now store) ends) (now plan) ⌝ }
+    ensures { λ r. ⌜ r ≡ walkOf (dayBefore demand capacity setup unit holding store ends) (at (now (plan .entry))) ⌝ }
 {
     let mut s = Sums {
         cost: 0,
@@ -167,7 +182,18 @@ fn walk(
     };
     let mut i = 0;
     while i < demand.len() {
-        match advance(demand, capacity, setup, unit, holding, plan, i, s, ends) {
+        match advance(
+            demand,
+            capacity,
+            setup,
+            unit,
+            holding,
+            store,
+            plan,
+            i,
+            s,
+            ends,
+        ) {
             Ruling::Broke(rule) => {
                 return Verdict::Broken(rule, (i + 1) as u16);
             }
@@ -190,13 +216,14 @@ pub fn totals(
     setup: &[u32],
     unit: &[u32],
     holding: &[u32],
+    store: &[u16],
     plan: &[u16],
     ends: Ends,
 ) -> Totals
-    requires { ⌜ FeasiblePlan (dayOf (now demand) (now capacity) (now setup) (now unit) (now holding) ends) (now plan) ⌝ }
-    ensures { λ r. ⌜ r ≡ totalsOf (dayBefore demand capacity setup unit holding ends) (at (now (plan .entry))) ⌝ }
+    requires { ⌜ FeasiblePlan (dayOf (now demand) (now capacity) (now setup) (now unit) (now holding) (now store) ends) (now plan) ⌝ }
+    ensures { λ r. ⌜ r ≡ totalsOf (dayBefore demand capacity setup unit holding store ends) (at (now (plan .entry))) ⌝ }
 {
-    match walk(demand, capacity, setup, unit, holding, plan, ends) {
+    match walk(demand, capacity, setup, unit, holding, store, plan, ends) {
         Verdict::Holds(t) => t,
         Verdict::Broken(_, _) => Totals { cost: 0, setups: 0 },
     }
@@ -209,18 +236,19 @@ pub fn weigh(
     setup: &[u32],
     unit: &[u32],
     holding: &[u32],
+    store: &[u16],
     plan: &[u16],
     ends: Ends,
 ) -> Weighed
-    ensures { λ r. ⌜ Weighs (dayBefore demand capacity setup unit holding ends) (now (plan .entry)) r ⌝ }
+    ensures { λ r. ⌜ Weighs (dayBefore demand capacity setup unit holding store ends) (now (plan .entry)) r ⌝ }
 {
-    if let Check::Refused(r) = checks::day(demand, capacity, setup, unit, holding, ends) {
+    if let Check::Refused(r) = checks::day(demand, capacity, setup, unit, holding, store, ends) {
         return Weighed::Refused(r);
     }
     if plan.len() < demand.len() {
         return Weighed::Refused(Refusal::FewSlots);
     }
-    Weighed::Judged(walk(demand, capacity, setup, unit, holding, plan, ends))
+    Weighed::Judged(walk(demand, capacity, setup, unit, holding, store, plan, ends))
 }
 
 // One cost less another.
@@ -258,13 +286,14 @@ pub fn compare(
     setup: &[u32],
     unit: &[u32],
     holding: &[u32],
+    store: &[u16],
     plan: &[u16],
     other: &[u16],
     ends: Ends,
 ) -> Compared
-    ensures { λ r. ⌜ Compares (dayBefore demand capacity setup unit holding ends) (now (plan .entry)) (now (other .entry)) r ⌝ }
+    ensures { λ r. ⌜ Compares (dayBefore demand capacity setup unit holding store ends) (now (plan .entry)) (now (other .entry)) r ⌝ }
 {
-    let first = weigh(demand, capacity, setup, unit, holding, plan, ends);
-    let second = weigh(demand, capacity, setup, unit, holding, other, ends);
+    let first = weigh(demand, capacity, setup, unit, holding, store, plan, ends);
+    let second = weigh(demand, capacity, setup, unit, holding, store, other, ends);
     comparison(first, second)
 }

@@ -2,8 +2,8 @@
 //! tells of an input or an output that fails.
 //!
 //!     programs [SEED]
-use outside::input::{self, Call, Ends, Size};
-use outside::plain::{self, Day, Path};
+use outside::input::{self, Call, Size, With};
+use outside::plain::{self, Day, Path, NO_LIMIT};
 use outside::random::Random;
 use std::fs::{self, File};
 use std::io::Write;
@@ -15,7 +15,7 @@ use std::time::Duration;
 const SEED: u64 = 1979;
 
 /// The papers': the longest file that the program reads, and the cells of its areas.
-const LONGEST: usize = 1640;
+const LONGEST: usize = 1832;
 const COSTS: usize = 1000;
 const CHOICES: usize = 24_000;
 
@@ -42,7 +42,7 @@ fn printed(file: &[u8]) -> String {
     text
 }
 
-/// A day of n periods that needs `total` in all, as evenly as can be, with uneven costs.
+/// A day of n periods that needs `total` in all, as evenly as can be, with uneven costs and no store limits.
 fn day(n: usize, total: usize) -> Day {
     let cost = |factor: usize, high: usize| (0..n).map(|i| (1 + factor * i % high) as u32).collect();
     Day {
@@ -51,6 +51,7 @@ fn day(n: usize, total: usize) -> Day {
         setup: cost(7, 50),
         unit: cost(3, 5),
         holding: cost(5, 4),
+        store: vec![NO_LIMIT; n],
         opening: 0,
         closing: 0,
     }
@@ -65,25 +66,28 @@ fn with(mut file: Vec<u8>, more: &[u8]) -> Vec<u8> {
 }
 
 fn m4() -> Day {
-    let (demand, capacity) = (vec![2, 3], vec![5; 2]);
-    Day { demand, capacity, setup: vec![10; 2], unit: vec![1; 2], holding: vec![1; 2], opening: 0, closing: 0 }
+    let (demand, capacity, store) = (vec![2, 3], vec![5; 2], vec![NO_LIMIT; 2]);
+    Day { demand, capacity, setup: vec![10; 2], unit: vec![1; 2], holding: vec![1; 2], store, opening: 0, closing: 0 }
 }
 
-/// Files of days without charge at their ends.
+/// Files of days without charge at their ends and without store limits.
 fn files() -> Vec<Case> {
-    let longest = plain::file_of(&day(96, 200));
-    assert_eq!(longest.len(), LONGEST - 5);
     let of = |n, total| plain::file_of(&day(n, total));
-    let m3 = Day { demand: vec![2], capacity: vec![1], setup: vec![5], unit: vec![2], holding: vec![9], opening: 0, closing: 0 };
+    let longest = of(96, 200);
+    assert_eq!(longest.len(), 1635);
+    let (demand, capacity, store) = (vec![2], vec![1], vec![NO_LIMIT]);
+    let m3 = Day { demand, capacity, setup: vec![5], unit: vec![2], holding: vec![9], store, opening: 0, closing: 0 };
     vec![
         ("M3", plain::file_of(&m3), Some("refused 7 period 1\n")),
         ("M4", plain::file_of(&m4()), Some("periods 2 cost 21 starts 1\n1 made 5 left 3\n2 made 0 left 0\n")),
         ("an empty file", vec![], Some("refused 11 period 0\n")),
         ("1,635 bytes", longest.clone(), None),
         ("1,636 bytes", with(longest.clone(), &[0]), Some("refused 12 period 0\n")),
-        ("1,641 bytes that begin with an unknown kind", vec![7; LONGEST + 1], Some("refused 12 period 0\n")),
-        ("1,640 bytes of an unknown kind", vec![7; LONGEST], Some("refused 10 period 0\n")),
-        ("97 periods", of(97, 200), Some("refused 12 period 0\n")),
+        ("1,833 bytes that begin with an unknown kind", vec![7; LONGEST + 1], Some("refused 12 period 0\n")),
+        ("1,832 bytes of an unknown kind", vec![7; LONGEST], Some("refused 10 period 0\n")),
+        ("97 periods", of(97, 200), Some("refused 1 period 0\n")),
+        ("107 periods, 1,822 bytes", of(107, 200), Some("refused 1 period 0\n")),
+        ("108 periods, 1,839 bytes", of(108, 200), Some("refused 12 period 0\n")),
         ("one file after another", with(longest.clone(), &longest), Some("refused 12 period 0\n")),
         ("no periods", vec![2, 0, 0], Some("refused 1 period 0\n")),
         ("96 periods, all choice cells", of(96, 249), None),
@@ -102,7 +106,7 @@ fn files() -> Vec<Case> {
 fn files_with_ends() -> Vec<Case> {
     let ends = |day: Day, opening, closing| plain::file_of(&Day { opening, closing, ..day });
     let longest = ends(day(96, 200), 20, 30);
-    assert_eq!(longest.len(), LONGEST);
+    assert_eq!(longest.len(), 1640);
     let m4_with = |opening, closing| ends(m4(), opening, closing);
     // what is left has four digits in every period but the last, and what is made three in some
     let mut full = Day { demand: vec![0; 96], capacity: vec![249; 96], ..day(96, 0) };
@@ -128,8 +132,7 @@ fn files_with_ends() -> Vec<Case> {
         ("ends and no periods", vec![3, 0, 1, 0, 0, 2, 0, 0], Some("refused 1 period 0\n")),
         ("1,640 bytes", longest.clone(), None),
         ("1,641 bytes", with(longest.clone(), &[0]), Some("refused 12 period 0\n")),
-        ("1,641 bytes, the first of them a second record of ends cut short", with(vec![3], &longest), Some("refused 12 period 0\n")),
-        ("97 periods with ends", ends(day(97, 200), 1, 1), Some("refused 12 period 0\n")),
+        ("97 periods with ends", ends(day(97, 200), 1, 1), Some("refused 1 period 0\n")),
         ("96 periods with ends, all choice cells", ends(day(96, 300), 60, 9), None),
         ("96 periods with ends, one unit too much to hand on", ends(day(96, 300), 60, 10), Some("refused 5 period 0\n")),
         ("2 periods with ends, all cost cells", ends(day(2, 1000), 502, 1), None),
@@ -139,19 +142,61 @@ fn files_with_ends() -> Vec<Case> {
     ]
 }
 
+/// The tie that request 2.2 adds.
+fn tie() -> Day {
+    let (demand, capacity, store) = (vec![2; 2], vec![4; 2], vec![NO_LIMIT; 2]);
+    Day { demand, capacity, setup: vec![8; 2], unit: vec![1; 2], holding: vec![2; 2], store, opening: 0, closing: 0 }
+}
+
 /// Files of days whose upkeep decides: the tie of request 2.2, and upkeep around its limit.
 fn files_with_holding() -> Vec<Case> {
     let m4_with = |first, second| plain::file_of(&Day { holding: vec![first, second], ..m4() });
-    let (demand, capacity) = (vec![2; 2], vec![4; 2]);
-    let tie = Day { demand, capacity, setup: vec![8; 2], unit: vec![1; 2], holding: vec![2; 2], opening: 0, closing: 0 };
-    let (demand, capacity) = (vec![0], vec![0]);
-    let kept = Day { demand, capacity, setup: vec![0], unit: vec![0], holding: vec![500_000], opening: 4096, closing: 4096 };
+    let tie = plain::file_of(&tie());
+    let (demand, capacity, store) = (vec![0], vec![0], vec![NO_LIMIT]);
+    let kept = Day { demand, capacity, setup: vec![0], unit: vec![0], holding: vec![500_000], store, opening: 4096, closing: 4096 };
     vec![
-        ("the tie row", plain::file_of(&tie), Some("periods 2 cost 20 starts 1\n1 made 4 left 2\n2 made 0 left 0\n")),
+        ("the tie row", tie, Some("periods 2 cost 20 starts 1\n1 made 4 left 2\n2 made 0 left 0\n")),
         ("M4, upkeep at its limit", m4_with(500_000, 500_000), Some("periods 2 cost 25 starts 2\n1 made 2 left 0\n2 made 3 left 0\n")),
         ("M4, upkeep above its limit", m4_with(500_000, 500_001), Some("refused 3 period 2\n")),
         ("M4, upkeep at the limit before 2.2", m4_with(1_000_000, 0), Some("refused 3 period 1\n")),
         ("the most charge at the highest upkeep", plain::file_of(&kept), Some("periods 1 cost 4096000000 starts 0\n1 made 0 left 4096\n")),
+    ]
+}
+
+/// Files of days with store limits, or with a record of one where it must not be.
+fn files_with_stores() -> Vec<Case> {
+    let stores = |day: Day, store: &[u16]| plain::file_of(&Day { store: store.to_vec(), ..day });
+    let m4_with = |first, second| stores(m4(), &[first, second]);
+    let ends = |opening, closing| Day { opening, closing, ..m4() };
+    let limited = |n, limit| Day { store: vec![limit; n], opening: 20, closing: 30, ..day(n, 200) };
+    let longest = plain::file_of(&limited(96, 200));
+    assert_eq!(longest.len(), LONGEST);
+    // kind 4 with the limit that it must not have
+    let mut no_limit = m4_with(3, 3);
+    no_limit[17..19].copy_from_slice(&NO_LIMIT.to_be_bytes());
+    vec![
+        ("M4, room for its plan", m4_with(3, 0), Some("periods 2 cost 21 starts 1\n1 made 5 left 3\n2 made 0 left 0\n")),
+        ("M4, a unit less", m4_with(2, 0), Some("periods 2 cost 25 starts 2\n1 made 2 left 0\n2 made 3 left 0\n")),
+        ("M4, room for nothing", m4_with(0, 0), Some("periods 2 cost 25 starts 2\n1 made 2 left 0\n2 made 3 left 0\n")),
+        (
+            "the tie without room for its plan",
+            stores(tie(), &[1, 0]),
+            Some("periods 2 cost 20 starts 2\n1 made 2 left 0\n2 made 2 left 0\n"),
+        ),
+        ("M4 with too much charge", stores(ends(6, 1), &[3, 9]), Some("refused 7 period 1\n")),
+        ("M4 with just as much", stores(ends(6, 1), &[4, 1]), Some("periods 2 cost 15 starts 0\n1 made 0 left 4\n2 made 0 left 1\n")),
+        ("M4 with too much to hand on", stores(ends(1, 2), &[9, 1]), Some("refused 7 period 2\n")),
+        ("M4 with too much, and more than it asks for", stores(ends(7, 1), &[0, 0]), Some("refused 14 period 0\n")),
+        ("M4, the highest limit", m4_with(NO_LIMIT - 1, 9), Some("periods 2 cost 21 starts 1\n1 made 5 left 3\n2 made 0 left 0\n")),
+        ("M4 with no limit in kind 4", no_limit.clone(), Some("refused 12 period 0\n")),
+        ("no limit in kind 4, then an unknown kind", with(no_limit[..19].to_vec(), &[7]), Some("refused 12 period 0\n")),
+        ("no limit in kind 4, cut short", no_limit[..18].to_vec(), Some("refused 11 period 0\n")),
+        ("a limit cut short", m4_with(3, 3)[..18].to_vec(), Some("refused 11 period 0\n")),
+        ("1,832 bytes", longest.clone(), None),
+        ("1,832 bytes, room for too little", plain::file_of(&limited(96, 17)), Some("refused 7 period 1\n")),
+        ("1,833 bytes", with(longest.clone(), &[0]), Some("refused 12 period 0\n")),
+        ("1,833 bytes, the first of an unknown kind", with(vec![7], &longest), Some("refused 12 period 0\n")),
+        ("97 periods with limits, 1,851 bytes", plain::file_of(&limited(97, 200)), Some("refused 12 period 0\n")),
     ]
 }
 
@@ -236,23 +281,23 @@ fn main() {
     };
     let root = PathBuf::from(env!("CARGO_MANIFEST_DIR")).parent().unwrap().to_path_buf();
     let mut runs = Runs { root, count: 0 };
-    for (what, file, line) in [files(), files_with_ends(), files_with_holding()].concat() {
+    for (what, file, line) in [files(), files_with_ends(), files_with_holding(), files_with_stores()].concat() {
         if let Some(line) = line {
             assert_eq!(printed(&file), line, "{what}");
         }
         runs.on_file(what, &file);
     }
     let mut random = Random::new(seed);
-    for (ends, times) in [(Ends::Zero, 60), (Ends::Any, 40)] {
+    for (with, times) in [(With::NOTHING, 60), (With::ENDS, 40), (With::BOTH, 40)] {
         for _ in 0..times {
             let size = random.pick(&[Size::Tiny, Size::Middle, Size::Long]);
-            let file = input::valid(&mut random, Call::Read, size, ends).file;
+            let file = input::valid(&mut random, Call::Read, size, with).file;
             runs.on_file("a made-up file", &file);
-            let file = input::changed(&mut random, Call::Read, size, ends).file;
+            let file = input::changed(&mut random, Call::Read, size, with).file;
             runs.on_file("a changed file", &file);
         }
     }
-    let longest = plain::file_of(&Day { closing: 1, opening: 1, ..day(96, 249) });
+    let longest = plain::file_of(&Day { closing: 1, opening: 1, store: vec![200; 96], ..day(96, 249) });
     for piece in [1, 16, 100, 1000] {
         runs.in_pieces(&longest, piece);
     }

@@ -1,4 +1,4 @@
-//! Plans a day of 96 quarter hours and draws it as an SVG: need and amounts made above, charge left below.
+//! Plans a day of 96 quarter hours and draws it as an SVG: need and amounts made above, charge left and its limit below.
 //!
 //!     cargo run --offline --release --package yakkurem --example draw > docs/day.svg
 use yakkurem::{full, Day, Memory};
@@ -15,6 +15,17 @@ fn demand(i: usize) -> u16 {
 fn unit(i: usize) -> u32 {
     let from_noon = (i as f64 / 4.0 - 13.0).abs();
     (100.0 + 4.0 * from_noon).round() as u32
+}
+
+const NO_LIMIT: u16 = 65_535;
+
+/// In the cold of the night the battery takes less.
+fn store(i: usize) -> u16 {
+    if (24..84).contains(&i) {
+        NO_LIMIT
+    } else {
+        24
+    }
 }
 
 /// A panel of the picture: where its axis stands, how tall it is, and the amount that fills it.
@@ -60,6 +71,14 @@ impl Panel {
             self.bottom - y
         );
     }
+
+    /// A line over the whole period, where there is a limit.
+    fn limit(&self, period: usize, limit: u16, colour: &str) {
+        if limit < NO_LIMIT {
+            let (from, to, y) = (x(period), x(period + 1), self.y(limit as f64));
+            println!("<line x1='{from:.1}' x2='{to:.1}' y1='{y:.1}' y2='{y:.1}' stroke='{colour}' stroke-width='2'/>");
+        }
+    }
 }
 
 fn legend(at: f64, colour: &str, name: &str) {
@@ -69,10 +88,12 @@ fn legend(at: f64, colour: &str, name: &str) {
 fn main() {
     let demand: Vec<u16> = (0..PERIODS).map(demand).collect();
     let unit: Vec<u32> = (0..PERIODS).map(unit).collect();
+    let store: Vec<u16> = (0..PERIODS).map(store).collect();
     let (capacity, setup, holding) = (vec![60; PERIODS], vec![5000; PERIODS], vec![3; PERIODS]);
     let total: usize = demand.iter().map(|&need| need as usize).sum();
     let (mut costs, mut choices, mut amounts) = (vec![0; 2 * (total + 1)], vec![0; PERIODS * (total + 1)], vec![0; PERIODS]);
-    let day = Day { demand: &demand, capacity: &capacity, setup: &setup, unit: &unit, holding: &holding, opening: 0, closing: 0 };
+    let (opening, closing) = (0, 0);
+    let day = Day { demand: &demand, capacity: &capacity, setup: &setup, unit: &unit, holding: &holding, store: &store, opening, closing };
     let memory = Memory { costs: &mut costs, choices: &mut choices, slots: &mut amounts };
     let planned = full(day, memory).expect("a day with a plan");
 
@@ -90,9 +111,10 @@ fn main() {
         "<text x='{LEFT}' y='26' font-size='17'>A planned day: {total} Wh in 96 periods, {} µl of fuel, {} starts</text>",
         planned.cost, planned.setups
     );
-    legend(600.0, "#b9c6d6", "need");
-    legend(680.0, "#d9772b", "amount made");
-    legend(812.0, "#4f8f6b", "charge left");
+    legend(496.0, "#b9c6d6", "need");
+    legend(576.0, "#d9772b", "amount made");
+    legend(708.0, "#4f8f6b", "charge left");
+    legend(824.0, "#a03050", "store limit");
     let (above, below) = (Panel { bottom: 300.0, height: 200.0, most: 60.0 }, Panel { bottom: 500.0, height: 140.0, most: most as f64 });
     above.grid(10, "Wh in a period (capacity 60)");
     below.grid(20, "Wh left at a period's end");
@@ -100,6 +122,7 @@ fn main() {
         above.bar(i, demand[i], 1.0, "#b9c6d6");
         above.bar(i, amounts[i], 0.6, "#d9772b");
         below.bar(i, charge[i] as u16, 1.0, "#4f8f6b");
+        below.limit(i, store[i], "#a03050");
     }
     for hour in (0..=24).step_by(3) {
         println!("<text x='{:.1}' y='522' text-anchor='middle'>{hour}:00</text>", x(4 * hour));

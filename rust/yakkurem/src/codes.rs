@@ -2,13 +2,13 @@
 //! The library reads and writes only inside these, keeps no pointer, and asks nothing of its caller: so every call is safe.
 use crate::{Day, Memory, TablesMut};
 
-/// Declares calls that begin with a day: need, capacity, start, unit and upkeep, each with its length; opening, closing.
+/// Declares calls that begin with a day: need, capacity, start, unit, upkeep and store, each with its length; opening, closing.
 macro_rules! calls_of_a_day {
     ($(fn $call:ident($($more:ty),*);)*) => {
         extern "C" {
             $(fn $call(
                 _: *const u16, _: usize, _: *const u16, _: usize, _: *const u32, _: usize, _: *const u32, _: usize, _: *const u32, _: usize,
-                _: u16, _: u16, $(_: $more),*
+                _: *const u16, _: usize, _: u16, _: u16, $(_: $more),*
             ) -> u64;)*
         }
     };
@@ -17,11 +17,11 @@ macro_rules! calls_of_a_day {
 /// Calls one of them.
 macro_rules! call_with_day {
     ($call:ident, $day:ident, $($more:expr),*) => {{
-        let Day { demand, capacity, setup, unit, holding, opening, closing } = $day;
+        let Day { demand, capacity, setup, unit, holding, store, opening, closing } = $day;
         unsafe {
             $call(
                 demand.as_ptr(), demand.len(), capacity.as_ptr(), capacity.len(), setup.as_ptr(), setup.len(), unit.as_ptr(), unit.len(),
-                holding.as_ptr(), holding.len(), opening, closing, $($more),*
+                holding.as_ptr(), holding.len(), store.as_ptr(), store.len(), opening, closing, $($more),*
             )
         }
     }};
@@ -52,7 +52,7 @@ extern "C" {
     fn yakkurem_read(
         file: *const u8, _: usize,
         need: *mut u16, _: usize, capacity: *mut u16, _: usize, start: *mut u32, _: usize, unit: *mut u32, _: usize, upkeep: *mut u32, _: usize,
-        day: *mut u64,
+        store: *mut u16, _: usize, day: *mut u64,
     ) -> u64;
     fn yakkurem_lookup(file: *const u8, _: usize, period: usize, part: *mut u64) -> u64;
 }
@@ -83,11 +83,11 @@ pub fn compare(day: Day, first: &[u16], second: &[u16], difference: &mut [i64; 1
 
 #[rustfmt::skip]
 pub fn read(file: &[u8], tables: TablesMut, day: &mut [u64; 3]) -> u64 {
-    let TablesMut { demand, capacity, setup, unit, holding } = tables;
+    let TablesMut { demand, capacity, setup, unit, holding, store } = tables;
     unsafe {
         yakkurem_read(
             file.as_ptr(), file.len(), demand.as_mut_ptr(), demand.len(), capacity.as_mut_ptr(), capacity.len(), setup.as_mut_ptr(), setup.len(),
-            unit.as_mut_ptr(), unit.len(), holding.as_mut_ptr(), holding.len(), day.as_mut_ptr(),
+            unit.as_mut_ptr(), unit.len(), holding.as_mut_ptr(), holding.len(), store.as_mut_ptr(), store.len(), day.as_mut_ptr(),
         )
     }
 }

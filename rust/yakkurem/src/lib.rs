@@ -1,6 +1,6 @@
 //! Safe calls of the proved planner. The meaning of each is in include/yakkurem.h; this crate turns codes into results.
 //!
-//! Names are lot sizing's. Document 01's: demand is need, setup is start cost, holding is upkeep, setups are starts.
+//! Names are lot sizing's. The documents': demand is need, setup is start cost, holding is upkeep, setups are starts.
 pub mod codes;
 
 /// A day: one entry a period in each table, the charge at its beginning, and the charge that it is to hand on.
@@ -12,6 +12,8 @@ pub struct Day<'a> {
     pub unit: &'a [u32],
     /// per half period: on the charge before the period, and on the charge left
     pub holding: &'a [u32],
+    /// the most charge that may be left after a period; 65,535 where the battery sets no limit
+    pub store: &'a [u16],
     pub opening: u16,
     pub closing: u16,
 }
@@ -23,6 +25,7 @@ pub struct TablesMut<'a> {
     pub setup: &'a mut [u32],
     pub unit: &'a mut [u32],
     pub holding: &'a mut [u32],
+    pub store: &'a mut [u16],
 }
 
 /// What a reader gives beside the tables: how many of their cells it filled, and the charge at both ends of the day.
@@ -59,6 +62,7 @@ pub struct Refusal {
 pub enum Rule {
     AboveCapacity,
     Short,
+    AboveStore,
     Over,
 }
 
@@ -76,6 +80,7 @@ pub fn fault(code: u64) -> Fault {
         101 => Fault::Broken(Rule::AboveCapacity, period),
         102 => Fault::Broken(Rule::Short, period),
         103 => Fault::Broken(Rule::Over, period),
+        104 => Fault::Broken(Rule::AboveStore, period),
         _ => Fault::Refused(Refusal { number, period }),
     }
 }

@@ -13,8 +13,8 @@ use Rattle.checks.proofs.day.Tie as tie
 -- the tables, from the place after the first call
 abbrev tables : tie.After-tables → Day
 tables c =
-    let a = c .before .before .before .before .before .before .args in
-    dayOf (a .demand .now) (a .capacity .now) (a .setup .now) (a .unit .now) (a .holding .now) (a .ends)
+    let a = c .before .before .before .before .before .before .before .args in
+    dayOf (a .demand .now) (a .capacity .now) (a .setup .now) (a .unit .now) (a .holding .now) (a .store .now) (a .ends)
 
 -- the tests of the tables passed
 tested : (c : tie.After-enum-told) → first (tableTests (tables (c .before .before))) ≡ none

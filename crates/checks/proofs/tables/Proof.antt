@@ -12,8 +12,8 @@ use Rattle.checks.proofs.tables.Tie as tie
 -- the tables, from the place after the first call
 abbrev tables : tie.After-count → Day
 tables c =
-    let a = c .before .before .before .before .before .before .args in
-    tablesOf (a .demand .now) (a .capacity .now) (a .setup .now) (a .unit .now) (a .holding .now)
+    let a = c .before .before .before .before .before .before .before .args in
+    tablesOf (a .demand .now) (a .capacity .now) (a .setup .now) (a .unit .now) (a .holding .now) (a .store .now)
 
 -- the first test passed, and the second
 counted : (c : tie.After-enum-told) → badCount (periods (tables (c .before .before))) ≡ none

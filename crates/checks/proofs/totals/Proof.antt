@@ -12,7 +12,7 @@ use Rattle.checks.proofs.totals.Tie as tie
 
 -- the needs and the ends
 abbrev given : tie.After-required → Day
-given c = let a = c .before .before .args in dayOf (a .demand .now) [] [] [] [] (a .ends)
+given c = let a = c .before .before .args in dayOf (a .demand .now) [] [] [] [] [] (a .ends)
 
 returns : tie.Need-returns
 returns c = simp (lt-ltb maxTotal (required (given (c .before))) (omega (arith, c .before .required .ensures .is, c .if1 .taken)))

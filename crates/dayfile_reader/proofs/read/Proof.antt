@@ -14,7 +14,7 @@ use Rattle.dayfile_reader.proofs.read.Statement.{statement}
 use Rattle.dayfile_reader.proofs.read.Tie as tie
 
 abbrev start : tie.After-periods → tie.Start
-start c = c .before .before .before .before .before .before .before
+start c = c .before .before .before .before .before .before .before .before
 
 abbrev file : tie.After-tests → List ℕ
 file c = now (start (c .before .before) .args .file)
@@ -23,7 +23,7 @@ file c = now (start (c .before .before) .args .file)
 abbrev lent : tie.After-tests → Day
 lent c =
     let a = start (c .before .before) .args in
-    tablesOf (now (a .demand)) (now (a .capacity)) (now (a .setup)) (now (a .unit)) (now (a .holding))
+    tablesOf (now (a .demand)) (now (a .capacity)) (now (a .setup)) (now (a .unit)) (now (a .holding)) (now (a .store))
 
 tested : (c : tie.After-tests) → c .tests .result ≡ checked (badRead (file c) (shortest (lent c)))
 tested c = rw (c .before .shortest .ensures) at (c .tests .ensures)
@@ -32,12 +32,12 @@ admitted : (c : tie.After-enum-told) → badRead (file (c .before .before)) (sho
 admitted c = passed _ (tested (c .before .before)) (c .enum-told .given .1)
 
 -- the tests passed before the tables were lent on
-abbrev at-tests : tie.After-fill-arg5 → tie.After-enum-told
-at-tests c = c .before .before .before .before .before
+abbrev at-tests : tie.After-fill-arg6 → tie.After-enum-told
+at-tests c = c .before .before .before .before .before .before
 
 -- and after the call that fills them they come back one by one
-abbrev at-setup : tie.After-slice-known10 → tie.After-setup
-at-setup c = c .before .before .before .before .before
+abbrev at-setup : tie.After-slice-known12 → tie.After-setup
+at-setup c = c .before .before .before .before .before .before .before
 
 abbrev at-fill : tie.After-setup → tie.After-fill
 at-fill c = c .before .before .before .before .before
@@ -64,4 +64,5 @@ read-spec =
     tie.close
     (tie.spec
     (λ c κs. search needs) (λ c κs. search needs) (λ c κs. search needs) (λ c. search needs) returns (λ c. search needs)
-    fill-requires (λ c κs. search needs) (λ c. search needs) (λ c. search needs) (λ c. search needs) (λ c. search needs) (λ c. search needs) returns-2)
+    fill-requires (λ c κs. search needs) (λ c. search needs) (λ c. search needs) (λ c. search needs) (λ c. search needs) (λ c. search needs)
+    (λ c. search needs) returns-2)

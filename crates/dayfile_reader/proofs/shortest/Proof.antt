@@ -1,4 +1,4 @@
--- `dayfile_reader::shortest` meets its contract: what the four calls give, put together. Assumes nothing.
+-- `dayfile_reader::shortest` meets its contract: what the five calls give, put together. Assumes nothing.
 use borrow.Author.Needs.{needs}
 use Rattle.dayfile_reader.proofs.shortest.Statement.{statement}
 use Rattle.dayfile_reader.proofs.shortest.Tie as tie
@@ -7,4 +7,7 @@ returns : tie.Need-returns
 returns c = cc
 
 pub shortest-spec : {M : Type 1} → statement M
-shortest-spec = tie.close (tie.spec (λ c κs. search needs) (λ c κs. search needs) (λ c κs. search needs) (λ c κs. search needs) returns)
+shortest-spec =
+    tie.close
+    (tie.spec
+    (λ c κs. search needs) (λ c κs. search needs) (λ c κs. search needs) (λ c κs. search needs) (λ c κs. search needs) returns)

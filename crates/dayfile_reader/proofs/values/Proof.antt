@@ -17,19 +17,19 @@ use Rattle.dayfile_reader.proofs.values.Tie as tie
 
 -- where the call began, the tables were filled, the first part was taken
 abbrev start : tie.After-fill → tie.Start
-start c = c .before .before .before .before .before .before .before
+start c = c .before .before .before .before .before .before .before .before
 
 abbrev at-fill : tie.After-demand3 → tie.After-fill
-at-fill c = c .before .before .before .before .before .before
+at-fill c = c .before .before .before .before .before .before .before
 
-abbrev at-parts : tie.After-values-arg5 → tie.After-demand3
-at-parts c = c .before .before .before .before .before .before .before .before .before
+abbrev at-parts : tie.After-values-arg6 → tie.After-demand3
+at-parts c = c .before .before .before .before .before .before .before .before .before .before .before
 
 -- the tables as they were filled
 abbrev tables : tie.After-fill → Day
 tables c =
     let l = c .fill .last .1 .1 in
-    tablesOf (l .0) (l .1 .0) (l .1 .1 .0) (l .1 .1 .1 .0) (l .1 .1 .1 .1 .0)
+    tablesOf (l .0) (l .1 .0) (l .1 .1 .0) (l .1 .1 .1 .0) (l .1 .1 .1 .1 .0) (l .1 .1 .1 .1 .1 .0)
 
 abbrev file : tie.After-fill → List ℕ
 file c = now (start c .args .file)
@@ -38,7 +38,7 @@ file c = now (start c .args .file)
 front : (c : tie.After-fill) → firstOf (start c .args .n - 0) (tables c) (endsOf (dayIn (file c))) ≡ dayIn (file c)
 front c =
     let zeros : List ℕ = replicate 96 0 in
-    let before = tablesOf zeros zeros zeros zeros zeros in
+    let before = tablesOf zeros zeros zeros zeros zeros zeros in
     day-in-front (file c) (start c .args .n - 0) _ before (tables c) (omega (arith, start c .pre .0)) refl (c .fill .ensures)
 
 values-requires : tie.Need-values-requires
@@ -46,7 +46,10 @@ values-requires c κs =
     let p = at-fill (at-parts c) in
     let w = subst Readable (sym (front p)) (day-readable (file p) (rw (start p .pre .0) at (start p .pre .1))) in
     let l = w .lengths in
-    record { few = w .few; lengths = record { capacity = l .capacity; setup = l .setup; unit = l .unit; holding = l .holding } }
+    record {
+      few = w .few;
+      lengths = record { capacity = l .capacity; setup = l .setup; unit = l .unit; holding = l .holding; store = l .store };
+    }
 
 returns : tie.Need-returns
 returns c = c .values .ensures ∙ ap (λ (d : Day). checked (badValue d)) (front (at-fill (at-parts (c .before))))
@@ -55,7 +58,7 @@ pub values-spec : {M : Type 1} → statement M
 values-spec =
     tie.close
     (tie.spec
-    (λ c. search needs) (λ c. search needs) (λ c. search needs) (λ c. search needs) (λ c. search needs) (λ c κs. search needs)
+    (λ c. search needs) (λ c. search needs) (λ c. search needs) (λ c. search needs) (λ c. search needs) (λ c. search needs) (λ c κs. search needs)
     (λ c. search needs) (λ c. search needs) (λ c. search needs) (λ c. search needs) (λ c. search needs) (λ c. search needs)
     (λ c. search needs) (λ c. search needs) (λ c. search needs) (λ c. search needs) (λ c. search needs) (λ c. search needs)
-    (λ c. search needs) (λ c. search needs) (λ c. search needs) values-requires returns)
+    (λ c. search needs) (λ c. search needs) (λ c. search needs) (λ c. search needs) (λ c. search needs) (λ c. search needs) values-requires returns)

@@ -7,8 +7,8 @@ use Rattle.dayplan.specs.Input.{InputOf}
 use Rattle.dayplan.proofs.main.Statement.{statement}
 use Rattle.dayplan.proofs.main.Tie as tie
 
-few : (c : tie.After-n) → c .n .given .0 .0 ≤ 1641
-few c = subst (InputOf 1641) (c .n .given .1) (c .before .before .before .read-input .ensures)
+few : (c : tie.After-n) → c .n .given .0 .0 ≤ 1833
+few c = subst (InputOf 1833) (c .n .given .1) (c .before .before .before .read-input .ensures)
 
 pub main-spec : {M : Type 1} → statement M
 main-spec =

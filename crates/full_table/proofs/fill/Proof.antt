@@ -11,19 +11,19 @@ use Rattle.full_table.proofs.fill.Statement.{statement}
 use Rattle.full_table.proofs.fill.Tie as tie
 
 abbrev Inv-loop : tie.InvT-loop
-Inv-loop demand capacity setup unit holding costs₀ choices₀ total width from₀ to₀ base₀ low₀ high₀ i₀ i-end costs choices from to base low high i =
+Inv-loop demand capacity setup unit holding ceilings costs₀ choices₀ total width from₀ to₀ base₀ low₀ high₀ i₀ i-end costs choices from to base low high i =
     (i-end ≡ length demand)
     × (length costs ≡ length costs₀)
     × (length choices ≡ length choices₀)
-    × TableFilling (problemWith demand capacity setup unit holding) total costs choices from to base low high i
+    × TableFilling (problemWith demand capacity setup unit holding) ceilings total costs choices from to base low high i
 
 abbrev μ-loop : tie.MeasureT-loop
-μ-loop demand capacity setup unit holding costs₀ choices₀ total width from₀ to₀ base₀ low₀ high₀ i₀ i-end costs choices from to base low high i =
+μ-loop demand capacity setup unit holding ceilings costs₀ choices₀ total width from₀ to₀ base₀ low₀ high₀ i₀ i-end costs choices from to base low high i =
     i-end - i
 
 -- the entry, from the loop's head
 abbrev start : tie.At-loop Inv-loop μ-loop → tie.Start Inv-loop μ-loop
-start c = c .before .before .before .before .before .before .before .before
+start c = c .before .before .before .before .before .before .before .before .before
 
 -- where a turn begins, from where it ends
 abbrev turn : tie.After-slice-known4 Inv-loop μ-loop → tie.In-loop Inv-loop μ-loop
@@ -34,7 +34,7 @@ inside : (c : tie.In-loop Inv-loop μ-loop) → c .before .loop .i < length (sta
 inside c = rw (c .before .loop .inv .0) at (c .loop-test .taken)
 
 loop-holds : tie.Need-loop-holds Inv-loop μ-loop
-loop-holds c = (refl, refl, refl, filling-none (c .before .before .before .before .before .before .before .pre))
+loop-holds c = (refl, refl, refl, filling-none (c .before .before .before .before .before .before .before .before .pre))
 
 stage-at-requires : tie.Need-stage-at-requires Inv-loop μ-loop
 stage-at-requires c κs = filling-staged (start (c .before) .pre) (c .before .loop .inv .3) (inside c)

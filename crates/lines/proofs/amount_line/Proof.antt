@@ -19,7 +19,7 @@ returns c =
     let q = c .before .before in
     let p = q .before .before .before .before .before .before in
     let a = start p .args in
-    amount-put (dayOf (a .demand .now) [] [] [] [] (a .ends)) (at (a .plan .now)) (a .i) _ (p .inventory .ensures) (q .three .ensures)
+    amount-put (dayOf (a .demand .now) [] [] [] [] [] (a .ends)) (at (a .plan .now)) (a .i) _ (p .inventory .ensures) (q .three .ensures)
 
 pub amount-line-spec : {M : Type 1} → statement M
 amount-line-spec =

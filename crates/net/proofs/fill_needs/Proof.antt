@@ -7,7 +7,7 @@ use native.Mathlib.Numerals.{add-one}
 use native.Mathlib.Omega.{arith}
 use lib.ListN.{length, set, length-set}
 use lib.Seq.{getD-set-same, getD-set-other}
-use Rattle.day.specs.Sums.{at, below, listOf-at}
+use Rattle.day.specs.Sums.{Term, at, term-more, below, listOf-at}
 use Rattle.day.specs.Day.{Day, dayOf, periods, demandTo, netTo, maxPeriods, maxCapacity}
 use Rattle.theory.specs.Net.{netNeed, NetFits, net-zero, net-rises, net-below}
 use Rattle.net.proofs.fill_needs.Statement.{statement}
@@ -16,8 +16,7 @@ use Rattle.net.proofs.fill_needs.Tie as tie
 -- i periods are filled in
 record Filling (d : Day) (net : List ℕ) (demanded made i : ℕ) : Type 0 where
   inside : i ≤ periods d
-  sum : demanded ≡ demandTo d i
-  low : demanded ≤ maxCapacity * i
+  sum : Term (demandTo d i) (maxCapacity * i) demanded
   is : made ≡ netTo d i
   size : length net ≡ periods d
   each : (k : ℕ) → k < i → at net k ≡ netNeed d k
@@ -25,21 +24,19 @@ record Filling (d : Day) (net : List ℕ) (demanded made i : ℕ) : Type 0 where
 filling-none : (d : Day) (net : List ℕ) → NetFits d → length net ≡ periods d → Filling d net 0 0 0
 filling-none d net fits size = record {
   inside = omega arith;
-  sum = refl;
-  low = omega arith;
+  sum = record { is = refl; low = omega arith };
   is = omega (arith, net-zero d (fits .nonempty));
   size = size;
   each = λ k l. absurd (omega arith);
 }
 
 -- a turn
-filling-more : (d : Day) (net : List ℕ) {demanded made i v next : ℕ} → Filling d net demanded made i → i < periods d
-    → v ≡ at (d .demand) i → v ≤ maxCapacity → next ≡ netTo d (suc i)
-    → Filling d (set net i (next - made)) (demanded + v) next (suc i)
-filling-more d net {demanded} {made} {i} {v} {next} w l e low is = record {
+filling-more : (d : Day) (net : List ℕ) {demanded made i next : ℕ} → Filling d net demanded made i → i < periods d
+    → at (d .demand) i ≤ maxCapacity → next ≡ netTo d (suc i)
+    → Filling d (set net i (next - made)) (demanded + at (d .demand) i) next (suc i)
+filling-more d net {demanded} {made} {i} {next} w l low is = record {
   inside = l;
-  sum = omega (arith, w .sum);
-  low = omega (arith, w .low);
+  sum = rw add-one at (term-more (at (d .demand)) maxCapacity i (w .sum) low);
   is = is;
   size = length-set net i (next - made) ∙ w .size;
   each = below (λ (k : ℕ). at (set net i (next - made)) k ≡ netNeed d k) i
@@ -48,14 +45,14 @@ filling-more d net {demanded} {made} {i} {v} {next} w l e low is = record {
 }
 
 abbrev Inv-loop : tie.InvT-loop
-Inv-loop demand net₀ ends demanded₀ made₀ i₀ net demanded made i = Filling (dayOf demand [] [] [] [] ends) net demanded made i
+Inv-loop demand net₀ ends demanded₀ made₀ i₀ net demanded made i = Filling (dayOf demand [] [] [] [] [] ends) net demanded made i
 
 abbrev μ-loop : tie.MeasureT-loop
 μ-loop demand net₀ ends demanded₀ made₀ i₀ net demanded made i = length demand - i
 
 -- the day at the loop
 abbrev given : tie.At-loop Inv-loop μ-loop → Day
-given c = let a = c .before .before .before .args in dayOf (a .demand .now) [] [] [] [] (a .ends)
+given c = let a = c .before .before .before .args in dayOf (a .demand .now) [] [] [] [] [] (a .ends)
 
 abbrev at-loop : tie.After-net-to Inv-loop μ-loop → tie.At-loop Inv-loop μ-loop
 at-loop c = c .before .before .before
@@ -64,7 +61,7 @@ at-loop c = c .before .before .before
 answered : (c : tie.After-net-to Inv-loop μ-loop) → let p = at-loop c in c .net-to .result ≡ netTo (given p) (suc (p .loop .i))
 answered c =
     let p = at-loop c in
-    let sum : p .loop .demanded + at (given p .demand) (p .loop .i) ≡ demandTo (given p) (suc (p .loop .i)) = omega (arith, p .loop .inv .sum) in
+    let sum : p .loop .demanded + at (given p .demand) (p .loop .i) ≡ demandTo (given p) (suc (p .loop .i)) = omega (arith, p .loop .inv .sum .is) in
     rw (add-one, sum) at (c .net-to .ensures)
 
 -- R of the periods passed, and the need at hand, are low
@@ -72,7 +69,7 @@ summed : (c : tie.After-shared-slice-known2 Inv-loop μ-loop)
     → let p = c .before .before in p .loop .demanded + at (given p .demand) (p .loop .i) ≤ maxPeriods * maxCapacity
 summed c =
     let p = c .before .before in
-    omega (arith, c .shared-slice-known2 .given (p .loop .i), p .loop .inv .low, c .before .loop-test .taken, p .before .before .before .pre .1 .few)
+    omega (arith, c .shared-slice-known2 .given (p .loop .i), p .loop .inv .sum .low, c .before .loop-test .taken, p .before .before .before .pre .1 .few)
 
 cast-demanded : tie.Need-cast-demanded Inv-loop μ-loop
 cast-demanded c = omega (arith, c .shared-slice-known2 .given (c .before .before .loop .i))
@@ -98,7 +95,7 @@ loop-again : tie.Need-loop-again Inv-loop μ-loop
 loop-again c =
     let p = at-loop c in
     rw add-one
-    (filling-more (given p) (p .loop .net) (p .loop .inv) (c .before .before .loop-test .taken) refl
+    (filling-more (given p) (p .loop .net) (p .loop .inv) (c .before .before .loop-test .taken)
     (omega (arith, c .before .shared-slice-known2 .given (p .loop .i))) (answered c))
 
 returns : tie.Need-returns Inv-loop μ-loop

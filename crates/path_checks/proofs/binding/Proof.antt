@@ -3,23 +3,21 @@
 use mathlib.Core.Path.{_≡_, refl}
 use mathlib.Core.List.{[]}
 use Prim.Native.Nat.{_≤_, _*_, _-_}
-use native.Mathlib.Numerals.{add-one}
 use native.Mathlib.Omega.{arith}
 use lib.ListN.{length}
 use borrow.Author.Tests.{lt-ltb, le-ltb}
 use Rattle.day.specs.declared.Refusal.the-variants.{BindingCapacity}
-use Rattle.day.specs.Sums.{at}
+use Rattle.day.specs.Sums.{Term, at, sumTo, term-more}
 use Rattle.day.specs.Day.{Day, dayOf, total, demandTo, maxCapacity}
 use Rattle.day.specs.Refusals.{binds}
-use Rattle.checks.specs.Search.{Searched, searched-next, searched-all, refused-here}
+use Rattle.checks.specs.Search.{Searched, searched-next, refused-here, passed-all}
 use Rattle.path_checks.proofs.binding.Statement.{statement}
 use Rattle.path_checks.proofs.binding.Tie as tie
 
 abbrev Inv-loop : tie.InvT-loop
 Inv-loop demand capacity ends total demanded₀ i₀ demanded i =
-    Searched (binds (dayOf demand capacity [] [] [] ends)) (length demand) i
-    × (demanded ≡ demandTo (dayOf demand capacity [] [] [] ends) i)
-    × (demanded ≤ maxCapacity * i)
+    Searched (binds (dayOf demand capacity [] [] [] [] ends)) (length demand) i
+    × Term (sumTo (at demand) i) (maxCapacity * i) demanded
 
 abbrev μ-loop : tie.MeasureT-loop
 μ-loop demand capacity ends total demanded₀ i₀ demanded i = length demand - i
@@ -28,7 +26,7 @@ abbrev μ-loop : tie.MeasureT-loop
 abbrev given : tie.At-loop Inv-loop μ-loop → Day
 given c =
     let a = c .before .before .before .before .args in
-    dayOf (a .demand .now) (a .capacity .now) [] [] [] (a .ends)
+    dayOf (a .demand .now) (a .capacity .now) [] [] [] [] (a .ends)
 
 -- what remains to be made from the period on
 remains : (c : tie.After-beyond2 Inv-loop μ-loop)
@@ -36,10 +34,10 @@ remains : (c : tie.After-beyond2 Inv-loop μ-loop)
     c .beyond2 .result ≡ total (given p) - (demandTo (given p) (p .loop .i) - given p .opening)
 remains c =
     let p = c .before .before .before .before in
-    omega (arith, c .beyond2 .ensures, c .before .beyond .ensures, p .before .total .ensures .is, p .loop .inv .1)
+    omega (arith, c .beyond2 .ensures, c .before .beyond .ensures, p .before .total .ensures .is, p .loop .inv .1 .is)
 
 loop-holds : tie.Need-loop-holds Inv-loop μ-loop
-loop-holds c = (record { inside = omega arith; nothing = refl }, refl, omega arith)
+loop-holds c = (record { inside = omega arith; nothing = refl }, record { is = refl; low = omega arith })
 
 cast-if1 : tie.Need-cast-if1 Inv-loop μ-loop
 cast-if1 c = omega (arith, c .shared-slice-known3 .given (c .before .before .before .before .before .loop .i))
@@ -66,12 +64,11 @@ loop-again c =
     let enough = remains (c .before .before .before) in
     let free = le-ltb (at (d .capacity) i) (total d - (demandTo d i - d .opening)) (omega (arith, enough, c .before .if1 .left)) in (
       searched-next (p .loop .inv .0) free (omega arith),
-      rw add-one (omega arith),
-      omega (arith, c .shared-slice-known4 .given i),
+      term-more (at (d .demand)) maxCapacity i (p .loop .inv .1) (omega (arith, c .shared-slice-known4 .given i)),
     )
 
 returns-2 : tie.Need-returns-2 Inv-loop μ-loop
-returns-2 c = rw (searched-all (c .before .loop .inv .0) (c .loop-test .left)) refl
+returns-2 c = passed-all (c .before .loop .inv .0) BindingCapacity (c .loop-test .left)
 
 pub binding-spec : {M : Type 1} → statement M
 binding-spec =

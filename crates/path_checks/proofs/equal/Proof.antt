@@ -14,7 +14,7 @@ use Rattle.path_checks.proofs.equal.Statement.{statement}
 use Rattle.path_checks.proofs.equal.Tie as tie
 
 abbrev Inv-loop : tie.InvT-loop
-Inv-loop demand capacity i₀ i = Searched (differs (tablesOf demand capacity [] [] [])) (length demand) i
+Inv-loop demand capacity i₀ i = Searched (differs (tablesOf demand capacity [] [] [] [])) (length demand) i
 
 abbrev μ-loop : tie.MeasureT-loop
 μ-loop demand capacity i₀ i = length demand - i

@@ -1,34 +1,37 @@
--- `path_checks::own` meets its contract: each path has its own test, or none. Assumes nothing.
+-- `path_checks::own` meets its contract: each short path has its own test and 16 after it, the full path none. Assumes nothing.
 use mathlib.Core.List.{[]}
 use borrow.Author.Needs.{needs}
 use Rattle.day.specs.Day.{Day, dayOf}
-use Rattle.day.specs.Refusals.{unequal, binding, paidSetup}
-use Rattle.day.specs.Tests.{alone}
+use Rattle.day.specs.Refusals.{unequal, binding, paidSetup, lowStore}
+use Rattle.day.specs.Tests.{in-order}
 use Rattle.path_checks.proofs.own.Statement.{statement}
 use Rattle.path_checks.proofs.own.Tie as tie
 
--- the three tables
+-- the four tables
 abbrev tables : tie.Start → Day
-tables c = dayOf (c .args .demand .now) (c .args .capacity .now) (c .args .setup .now) [] [] (c .args .ends)
+tables c = dayOf (c .args .demand .now) (c .args .capacity .now) (c .args .setup .now) [] [] (c .args .store .now) (c .args .ends)
 
 returns-2 : tie.Need-returns-2
 returns-2 c =
-    let told = c .before in
-    rw (told .enum-told2 .given .1) (alone (binding (tables (told .before .before .before .before .before))) (c .binding .ensures))
+    let told = c .before .before in
+    let d = tables (told .before .before .before .before .before .before) in
+    rw (told .enum-told2 .given .1) (in-order (binding d) (lowStore d) (c .before .binding .ensures) (c .then-store .ensures))
 
 returns-3 : tie.Need-returns-3
 returns-3 c =
-    let told = c .before in
-    rw (told .enum-told3 .given .1) (alone (unequal (tables (told .before .before .before .before .before))) (c .equal .ensures))
+    let told = c .before .before in
+    let d = tables (told .before .before .before .before .before .before) in
+    rw (told .enum-told3 .given .1) (in-order (unequal d) (lowStore d) (c .before .equal .ensures) (c .then-store2 .ensures))
 
 returns-4 : tie.Need-returns-4
 returns-4 c =
-    let told = c .before in
-    rw (told .enum-told4 .given .1) (alone (paidSetup (tables (told .before .before .before .before .before))) (c .paid .ensures))
+    let told = c .before .before in
+    let d = tables (told .before .before .before .before .before .before) in
+    rw (told .enum-told4 .given .1) (in-order (paidSetup d) (lowStore d) (c .before .paid .ensures) (c .then-store3 .ensures))
 
 pub own-spec : {M : Type 1} → statement M
 own-spec =
     tie.close
     (tie.spec
-    (λ c. search needs) (λ c. search needs) (λ c κs. search needs) (λ c. search needs) (λ c κs. search needs) (λ c. search needs)
-    (λ c κs. search needs) (λ c. search needs) returns-2 returns-3 returns-4)
+    (λ c. search needs) (λ c. search needs) (λ c κs. search needs) (λ c κs. search needs) (λ c. search needs) (λ c κs. search needs)
+    (λ c κs. search needs) (λ c. search needs) (λ c κs. search needs) (λ c κs. search needs) (λ c. search needs) returns-2 returns-3 returns-4)

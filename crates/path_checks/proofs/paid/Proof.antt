@@ -9,12 +9,12 @@ use Rattle.day.specs.declared.Refusal.the-variants.{PaidSetup}
 use Rattle.day.specs.Sums.{at}
 use Rattle.day.specs.Day.{tablesOf}
 use Rattle.day.specs.Refusals.{paid}
-use Rattle.checks.specs.Search.{Searched, searched-next, searched-all, refused-here}
+use Rattle.checks.specs.Search.{Searched, searched-next, refused-here, passed-all}
 use Rattle.path_checks.proofs.paid.Statement.{statement}
 use Rattle.path_checks.proofs.paid.Tie as tie
 
 abbrev Inv-loop : tie.InvT-loop
-Inv-loop demand setup i₀ i = Searched (paid (tablesOf demand [] setup [] [])) (length demand) i
+Inv-loop demand setup i₀ i = Searched (paid (tablesOf demand [] setup [] [] [])) (length demand) i
 
 abbrev μ-loop : tie.MeasureT-loop
 μ-loop demand setup i₀ i = length demand - i
@@ -35,7 +35,7 @@ loop-again c =
     searched-next (p .loop .inv) nothing (omega arith)
 
 returns-2 : tie.Need-returns-2 Inv-loop μ-loop
-returns-2 c = rw (searched-all (c .before .loop .inv) (c .loop-test .left)) refl
+returns-2 c = passed-all (c .before .loop .inv) PaidSetup (c .loop-test .left)
 
 pub paid-spec : {M : Type 1} → statement M
 paid-spec =

@@ -16,21 +16,21 @@ use Rattle.path_checks.proofs.path.Statement.{statement}
 use Rattle.path_checks.proofs.path.Tie as tie
 
 -- no path's tests look at unit costs or upkeep
-three-tables : (kind : PathKind) (d : Day) (s : Sizes) {answer : Check}
-    → answer ≡ checked (first (pathTests (pathOf kind) (dayOf (d .demand) (d .capacity) (d .setup) [] [] (endsOf d)) s))
+four-tables : (kind : PathKind) (d : Day) (s : Sizes) {answer : Check}
+    → answer ≡ checked (first (pathTests (pathOf kind) (dayOf (d .demand) (d .capacity) (d .setup) [] [] (d .store) (endsOf d)) s))
     → answer ≡ checked (first (pathTests (pathOf kind) d s))
-three-tables Full d s is = is
-three-tables Uncapped d s is = is
-three-tables Equal d s is = is
-three-tables Free d s is = is
+four-tables Full d s is = is
+four-tables Uncapped d s is = is
+four-tables Equal d s is = is
+four-tables Free d s is = is
 
 abbrev start : tie.After-day → tie.Start
-start c = c .before .before .before .before .before .before
+start c = c .before .before .before .before .before .before .before
 
 abbrev given : tie.After-day → Day
 given c =
     let a = start c .args in
-    dayOf (a .demand .now) (a .capacity .now) (a .setup .now) (a .unit .now) (a .holding .now) (a .ends)
+    dayOf (a .demand .now) (a .capacity .now) (a .setup .now) (a .unit .now) (a .holding .now) (a .store .now) (a .ends)
 
 abbrev lent : tie.After-day → Sizes
 lent c = let a = start c .args in sizes (a .costs) (a .choices) (a .slots)
@@ -47,13 +47,14 @@ returns c =
 room-requires : tie.Need-room-requires
 room-requires c κs =
     let day = day-passed (given (c .before .before)) (tested c) in
-    (day .limits .lengths .capacity, (day .limits .lengths .setup, (day .limits .few, day .used)))
+    let lengths = day .limits .lengths in
+    (lengths .capacity, (lengths .setup, (lengths .store, (day .limits .few, day .used))))
 
 returns-2 : tie.Need-returns-2
 returns-2 c =
     let p = c .before .before .before in
     let kind = start p .args .kind in
-    let is = three-tables kind (given p) (lent p) (c .room .ensures) in
+    let is = four-tables kind (given p) (lent p) (c .room .ensures) in
     group-decides (dayTests (given p)) (pathTests (pathOf kind) (given p) (lent p)) (tested (c .before)) is
 
 pub path-spec : {M : Type 1} → statement M

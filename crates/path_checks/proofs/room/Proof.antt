@@ -24,13 +24,13 @@ memory-is P d s t n is = rw (← t, ← n .costs, ← n .choices) is
 
 -- the tables, from the entry, and the sizes lent
 abbrev tables : tie.Start → Day
-tables c = dayOf (c .args .demand .now) (c .args .capacity .now) (c .args .setup .now) [] [] (c .args .ends)
+tables c = dayOf (c .args .demand .now) (c .args .capacity .now) (c .args .setup .now) [] [] (c .args .store .now) (c .args .ends)
 
 abbrev lent : tie.Start → Sizes
 lent c = sizes (c .args .costs) (c .args .choices) (c .args .slots)
 
 abbrev start : tie.After-memory → tie.Start
-start c = c .before .before .before .before .before .before
+start c = c .before .before .before .before .before .before .before
 
 abbrev path : tie.After-memory → Path
 path c = pathOf (start c .args .kind)

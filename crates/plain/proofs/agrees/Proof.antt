@@ -1,6 +1,6 @@
 -- `plain::agrees` meets its contract: each return by the cases and tests that led there. Assumes nothing.
 use mathlib.Core.Path.{_≡_, sym, _∙_}
-use Prim.Native.Nat.{ℕ}
+use mathlib.Core.Bool.{true≢false}
 use native.Mathlib.Omega.{arith}
 use borrow.Author.Tests.{eqb-true, eqb-false, not-true, not-false}
 use borrow.Author.Needs.{needs}
@@ -20,13 +20,13 @@ returns : tie.Need-returns
 returns c = decides-false (λ s. omega (arith, s .0))
 
 returns-2 : tie.Need-returns-2
-returns-2 c = rw (c .before .before .answer .given .1) (decides-false (λ s. let z : _≡_ {A = ℕ} 0 1 = cc (s .1 .0) in omega arith))
+returns-2 c = rw (c .before .before .answer .given .1) (decides-false (λ s. true≢false (sym (c .if2 .taken) ∙ s .1 .0)))
 
 returns-3 : tie.Need-returns-3
 returns-3 c =
     let at-match = c .before .before .before in
     let f = not-true (at-match .before .before .before .before .before .args .best .found) (c .if3 .taken) in
-    rw (at-match .answer2 .given .1) (decides-false (λ s. let z : _≡_ {A = ℕ} 0 1 = cc (s .1 .found) in omega arith))
+    rw (at-match .answer2 .given .1) (decides-false (λ s. true≢false (sym (s .1 .found) ∙ f)))
 
 returns-4 : tie.Need-returns-4
 returns-4 c = rw (planned (c .before .before .before) .answer2 .given .1) (decides-false (λ s. c .if4 .taken (s .1 .cost)))

@@ -13,11 +13,11 @@ use Rattle.plain.proofs.search.Statement.{statement}
 use Rattle.plain.proofs.search.Tie as tie
 
 abbrev Inv-loop : tie.InvT-loop
-Inv-loop demand capacity setup unit holding ends best₀ count m₀ best m =
-    (m ≤ count) × Chosen (dayOf demand capacity setup unit holding ends) m best
+Inv-loop demand capacity setup unit holding store ends best₀ count m₀ best m =
+    (m ≤ count) × Chosen (dayOf demand capacity setup unit holding store ends) m best
 
 abbrev μ-loop : tie.MeasureT-loop
-μ-loop demand capacity setup unit holding ends best₀ count m₀ best m = count - m
+μ-loop demand capacity setup unit holding store ends best₀ count m₀ best m = count - m
 
 loop-holds : tie.Need-loop-holds Inv-loop μ-loop
 loop-holds c =

@@ -8,14 +8,14 @@ use Rattle.plan_text.proofs.day_text.Tie as tie
 
 -- where the call began
 abbrev start : tie.After-plan → tie.Start
-start c = let areas = c .before .before .before .before in areas .before .before .before .before .before .before
+start c = let areas = c .before .before .before .before in areas .before .before .before .before .before .before .before
 
 -- the day, and what its planning left
 abbrev day : tie.After-plan → Day
-day c = let a = start c .args in dayOf (a .demand .now) (a .capacity .now) (a .setup .now) (a .unit .now) (a .holding .now) (a .ends)
+day c = let a = start c .args in dayOf (a .demand .now) (a .capacity .now) (a .setup .now) (a .unit .now) (a .holding .now) (a .store .now) (a .ends)
 
 abbrev left : tie.After-plan → Memory
-left c = let l = c .plan .last .1 .1 .1 .1 .1 in memoryOf (l .0) (l .1 .0) (l .1 .1 .0)
+left c = let l = c .plan .last .1 .1 .1 .1 .1 .1 in memoryOf (l .0) (l .1 .0) (l .1 .1 .0)
 
 -- where it was planned, before an answer's case
 abbrev at-plan : tie.After-slots2 → tie.After-plan
@@ -28,7 +28,7 @@ plan-lines-requires : tie.Need-plan-lines-requires
 plan-lines-requires c κs =
     let t = at-totals c in
     let p = at-plan (t .before .before) in
-    (planned-has (day p) (left p) (p .plan .result) (t .totals .given .0 .0) (t .totals .given .1) (p .plan .ensures), search needs)
+    (planned-has (day p) (left p) (p .plan .result) (t .totals .given .0 .0) (t .totals .given .1) (p .plan .ensures), start p .pre)
 
 returns : tie.Need-returns
 returns c =

@@ -8,19 +8,19 @@ use Rattle.plan_text.proofs.file_text.Statement.{statement}
 use Rattle.plan_text.proofs.file_text.Tie as tie
 
 -- where the file was read, before the answer's case
-abbrev at-read : tie.After-holding2 → tie.After-read
-at-read c = c .before .before .before .before .before
+abbrev at-read : tie.After-store2 → tie.After-read
+at-read c = c .before .before .before .before .before .before
 
 -- what the reader left in the tables
 abbrev left : tie.After-read → Day
-left c = let l = c .read .last .1 in tablesOf (l .0) (l .1 .0) (l .1 .1 .0) (l .1 .1 .1 .0) (l .1 .1 .1 .1 .0)
+left c = let l = c .read .last .1 in tablesOf (l .0) (l .1 .0) (l .1 .1 .0) (l .1 .1 .1 .0) (l .1 .1 .1 .1 .0) (l .1 .1 .1 .1 .1 .0)
 
 abbrev at-answer : tie.After-demand3 → tie.After-answer
 at-answer c = c .before .before
 
 -- where the first table was cut, before the last was
-abbrev at-demand : tie.After-holding3 → tie.After-demand3
-at-demand c = c .before .before .before .before .before .before .before .before
+abbrev at-demand : tie.After-store3 → tie.After-demand3
+at-demand c = c .before .before .before .before .before .before .before .before .before .before
 
 few : (c : tie.After-demand3) → at-answer c .answer .given .0 .0 ≤ maxPeriods
 few c =
@@ -46,10 +46,11 @@ pub file-text-spec : {M : Type 1} → statement M
 file-text-spec =
     tie.close
     (tie.spec
-    (λ c. search needs) (λ c. search needs) (λ c. search needs) (λ c. search needs) (λ c. search needs) (λ c κs. search needs)
+    (λ c. search needs) (λ c. search needs) (λ c. search needs) (λ c. search needs) (λ c. search needs) (λ c. search needs) (λ c κs. search needs)
     (λ c. search needs) (λ c. search needs) (λ c κs. search needs) (λ c. search needs) returns (λ c. search needs)
     (λ c. search needs) (λ c. omega (arith, few c)) (λ c. search needs) (λ c. search needs)
     (λ c. omega (arith, few (c .before .before))) (λ c. search needs) (λ c. search needs)
     (λ c. omega (arith, few (c .before .before .before .before))) (λ c. search needs) (λ c. search needs)
     (λ c. omega (arith, few (c .before .before .before .before .before .before))) (λ c. search needs) (λ c. search needs)
+    (λ c. omega (arith, few (c .before .before .before .before .before .before .before .before))) (λ c. search needs) (λ c. search needs)
     (λ c. omega (arith, few (at-demand c))) (λ c κs. search needs) (λ c. search needs) returns-2)

@@ -6,12 +6,12 @@ use Prim.Native.Nat.{ℕ, _-_, _≤_}
 use native.Mathlib.Omega.{arith}
 use denote.Ref.{now}
 use borrow.Author.Needs.{needs}
-use Rattle.day.specs.File.{periodKind, recordAt, periodsIn}
+use Rattle.day.specs.File.{recordAt, periodsIn}
 use Rattle.day.specs.Figures.{checks-is}
 use Rattle.day.specs.Tests.{passed, refused}
 use Rattle.dayfile.specs.Answers.{badLookup}
 use Rattle.dayfile.specs.Passed.{lookup-passed}
-use Rattle.dayfile.specs.Layout.{WholeRecord, period-at, whole-body}
+use Rattle.dayfile.specs.Layout.{WholePeriod, period-at, body-whole}
 use Rattle.station.proofs.yakkurem_lookup.Statement.{statement}
 use Rattle.station.proofs.yakkurem_lookup.Tie as tie
 
@@ -28,7 +28,7 @@ asked : (c : tie.After-enum-told) → let p = c .before .before in (1 ≤ period
 asked c = let p = c .before .before in lookup-passed (file p) (period p) (admitted c)
 
 -- the record that is found
-whole : (c : tie.After-enum-told) → let p = c .before .before in WholeRecord periodKind (file p) (recordAt (file p) (period p - 1))
+whole : (c : tie.After-enum-told) → let p = c .before .before in WholePeriod (file p) (recordAt (file p) (period p - 1))
 whole c = let p = c .before .before in period-at (file p) (period p - 1) (omega (arith, asked c))
 
 returns : tie.Need-returns
@@ -49,8 +49,10 @@ body-requires c κs = rw (c .record-at .ensures) (let w = whole (c .before) in (
 
 returns-2 : tie.Need-returns-2
 returns-2 c =
-    let w = whole (c .before .before .before) in
-    rw (admitted (c .before .before .before), c .before .body .ensures .bytes, c .before .before .record-at .ensures, whole-body periodKind _ _ w) refl
+    let told = c .before .before .before in
+    let p = told .before .before in
+    let body = body-whole (file p) (recordAt (file p) (period p - 1)) (whole told .whole) in
+    rw (admitted told, c .before .body .ensures .bytes, c .before .before .record-at .ensures, body) refl
 
 pub yakkurem-lookup-spec : {M : Type 1} → statement M
 yakkurem-lookup-spec =

@@ -16,6 +16,7 @@ returns c =
       setup = omega arith;
       unit = omega arith;
       holding = omega arith;
+      store = omega arith;
     }
 
 pub make-up-spec : {M : Type 1} → statement M
@@ -23,5 +24,5 @@ make-up-spec =
     tie.close
     (tie.spec
     (λ c κs. search needs) (λ c κs. search needs) (λ c κs. search needs) (λ c κs. search needs) (λ c κs. search needs)
-    (λ c κs. search needs) (λ c κs. search needs) (λ c κs. search needs) (λ c κs. search needs) (λ c. search needs)
-    (λ c. search needs) returns)
+    (λ c κs. search needs) (λ c κs. search needs) (λ c κs. search needs) (λ c κs. search needs) (λ c κs. search needs)
+    (λ c κs. search needs) (λ c κs. search needs) (λ c. search needs) (λ c. search needs) returns)

@@ -13,22 +13,22 @@ use Rattle.weigher.proofs.Bounds.{weighed-signed}
 use Rattle.weigher.proofs.compare.Statement.{statement}
 use Rattle.weigher.proofs.compare.Tie as tie
 
-abbrev at-start : tie.After-shared-slice-known7 → tie.Start
-at-start c = c .before .before .before .before .before .before .before
+abbrev at-start : tie.After-shared-slice-known8 → tie.Start
+at-start c = c .before .before .before .before .before .before .before .before
 
-abbrev tables : tie.After-shared-slice-known7 → Day
-tables c = let a = at-start c .args in dayOf (a .demand .now) (a .capacity .now) (a .setup .now) (a .unit .now) (a .holding .now) (a .ends)
+abbrev tables : tie.After-shared-slice-known8 → Day
+tables c = let a = at-start c .args in dayOf (a .demand .now) (a .capacity .now) (a .setup .now) (a .unit .now) (a .holding .now) (a .store .now) (a .ends)
 
-signed : (c : tie.After-shared-slice-known7) (plan : List ℕ) (w : Weighed) → ((k : ℕ) → Fits w16 (at plan k)) → Weighs (tables c) plan w → Signed w
+signed : (c : tie.After-shared-slice-known8) (plan : List ℕ) (w : Weighed) → ((k : ℕ) → Fits w16 (at plan k)) → Weighs (tables c) plan w → Signed w
 signed c plan w amount promised =
     rw (weighs-is (tables c) plan w promised)
     (weighed-signed
     (tables c)
     plan
     (record {
-      setup = c .before .before .before .before .shared-slice-known3 .given;
-      unit = c .before .before .before .shared-slice-known4 .given;
-      holding = c .before .before .shared-slice-known5 .given;
+      setup = c .before .before .before .before .before .shared-slice-known3 .given;
+      unit = c .before .before .before .before .shared-slice-known4 .given;
+      holding = c .before .before .before .shared-slice-known5 .given;
       amount = amount;
     }))
 
@@ -36,8 +36,8 @@ comparison-requires : tie.Need-comparison-requires
 comparison-requires c κs =
     let known = c .before .before in
     let a = at-start known .args in (
-      signed known (a .plan .now) (c .before .weigh .result) (known .before .shared-slice-known6 .given) (c .before .weigh .ensures),
-      signed known (a .other .now) (c .weigh2 .result) (known .shared-slice-known7 .given) (c .weigh2 .ensures),
+      signed known (a .plan .now) (c .before .weigh .result) (known .before .shared-slice-known7 .given) (c .before .weigh .ensures),
+      signed known (a .other .now) (c .weigh2 .result) (known .shared-slice-known8 .given) (c .weigh2 .ensures),
     )
 
 returns : tie.Need-returns

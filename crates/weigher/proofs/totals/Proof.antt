@@ -14,10 +14,10 @@ use Rattle.weigher.proofs.totals.Statement.{statement}
 use Rattle.weigher.proofs.totals.Tie as tie
 
 abbrev at-start : tie.After-walk → tie.Start
-at-start c = c .before .before .before .before .before .before .before
+at-start c = c .before .before .before .before .before .before .before .before
 
 abbrev tables : tie.After-walk → Day
-tables c = let a = at-start c .args in dayOf (a .demand .now) (a .capacity .now) (a .setup .now) (a .unit .now) (a .holding .now) (a .ends)
+tables c = let a = at-start c .args in dayOf (a .demand .now) (a .capacity .now) (a .setup .now) (a .unit .now) (a .holding .now) (a .store .now) (a .ends)
 
 abbrev slots : tie.After-walk → List ℕ
 slots c = at-start c .args .plan .now
@@ -33,5 +33,5 @@ pub totals-spec : {M : Type 1} → statement M
 totals-spec =
     tie.close
     (tie.spec
-    (λ c κs. c .before .before .before .before .before .before .pre .weighable) (λ c. search needs) (λ c. search needs)
+    (λ c κs. c .before .before .before .before .before .before .before .pre .weighable) (λ c. search needs) (λ c. search needs)
     (λ c. cc (holds (c .before .before .before), c .before .t .given .1)) returns-2)

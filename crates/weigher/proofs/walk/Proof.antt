@@ -13,16 +13,16 @@ use Rattle.weigher.proofs.walk.Statement.{statement}
 use Rattle.weigher.proofs.walk.Tie as tie
 
 abbrev Inv-loop : tie.InvT-loop
-Inv-loop demand capacity setup unit holding plan ends s₀ i₀ s i = Walking (dayOf demand capacity setup unit holding ends) (at plan) i s
+Inv-loop demand capacity setup unit holding store plan ends s₀ i₀ s i = Walking (dayOf demand capacity setup unit holding store ends) (at plan) i s
 
 abbrev μ-loop : tie.MeasureT-loop
-μ-loop demand capacity setup unit holding plan ends s₀ i₀ s i = length demand - i
+μ-loop demand capacity setup unit holding store plan ends s₀ i₀ s i = length demand - i
 
 loop-holds : tie.Need-loop-holds Inv-loop μ-loop
 loop-holds c = record { inside = search needs; runs = refl }
 
 abbrev at-start : tie.At-loop Inv-loop μ-loop → tie.Start Inv-loop μ-loop
-at-start c = c .before .before .before .before .before .before .before .before
+at-start c = c .before .before .before .before .before .before .before .before .before
 
 advance-requires : tie.Need-advance-requires Inv-loop μ-loop
 advance-requires c κs =

@@ -19,10 +19,10 @@ use Rattle.weigher.proofs.weigh.Statement.{statement}
 use Rattle.weigher.proofs.weigh.Tie as tie
 
 abbrev at-start : tie.After-day → tie.Start
-at-start c = c .before .before .before .before .before .before .before
+at-start c = c .before .before .before .before .before .before .before .before
 
 abbrev tables : tie.After-day → Day
-tables c = let a = at-start c .args in dayOf (a .demand .now) (a .capacity .now) (a .setup .now) (a .unit .now) (a .holding .now) (a .ends)
+tables c = let a = at-start c .args in dayOf (a .demand .now) (a .capacity .now) (a .setup .now) (a .unit .now) (a .holding .now) (a .store .now) (a .ends)
 
 abbrev slots : tie.After-day → List ℕ
 slots c = at-start c .args .plan .now

@@ -19,10 +19,21 @@ returns-3 c =
 
 returns-4 : tie.Need-returns-4
 returns-4 c =
+    let third = c .before in
+    let second = third .before in
     record {
-      is = simp (ne-eqb _ _ (c .before .before .if1 .left), ne-eqb _ _ (c .before .if2 .left), ne-eqb _ _ (c .if3 .left));
+      is = simp (ne-eqb _ _ (second .before .if1 .left), ne-eqb _ _ (second .if2 .left), ne-eqb _ _ (third .if3 .left), eq-eqb _ _ (c .if4 .taken));
+      low = omega arith;
+    }
+
+returns-5 : tie.Need-returns-5
+returns-5 c =
+    let third = c .before in
+    let second = third .before in
+    record {
+      is = simp (ne-eqb _ _ (second .before .if1 .left), ne-eqb _ _ (second .if2 .left), ne-eqb _ _ (third .if3 .left), ne-eqb _ _ (c .if4 .left));
       low = omega arith;
     }
 
 pub body-length-spec : {M : Type 1} → statement M
-body-length-spec = tie.close (tie.spec returns returns-2 returns-3 returns-4)
+body-length-spec = tie.close (tie.spec returns returns-2 returns-3 returns-4 returns-5)

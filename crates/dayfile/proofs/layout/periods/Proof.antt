@@ -7,8 +7,7 @@ use native.Mathlib.Numerals.{add-one}
 use borrow.Author.Needs.{needs}
 use denote.Ref.{now}
 use lib.ListN.{length}
-use Rattle.day.specs.File.{periodKind}
-use Rattle.dayfile.specs.Layout.{WholeRecord, whole-record, Walked, walked-none, walked-more, walked-end}
+use Rattle.dayfile.specs.Layout.{WholePeriod, whole-period, Walked, walked-none, walked-more, walked-end}
 use Rattle.dayfile.proofs.layout.periods.Statement.{statement}
 use Rattle.dayfile.proofs.layout.periods.Tie as tie
 
@@ -23,8 +22,8 @@ loop-holds c = rw (c .head-end .ensures) (walked-none _)
 
 -- in a turn a whole period stands here
 turn : (c : tie.Then1 Inv-loop μ-loop)
-    → WholeRecord periodKind (now (c .before .before .before .before .before .args .file)) (c .before .before .loop .at)
-turn c = whole-record _ _ _ (sym (c .before .is-period .ensures) ∙ c .if1 .taken)
+    → WholePeriod (now (c .before .before .before .before .before .args .file)) (c .before .before .loop .at)
+turn c = whole-period _ _ (sym (c .before .is-period .ensures) ∙ c .if1 .taken)
 
 next-requires : tie.Need-next-requires Inv-loop μ-loop
 next-requires c κs = omega (arith, turn c .whole)

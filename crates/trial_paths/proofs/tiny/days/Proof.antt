@@ -5,10 +5,10 @@ use Rattle.trial_paths.proofs.tiny.days.Statement.{statement}
 use Rattle.trial_paths.proofs.tiny.days.Tie as tie
 
 abbrev Inv-loop : tie.InvT-loop
-Inv-loop capacities free seed days counts₀ most s₀ i₀ counts s i = i ≤ days
+Inv-loop capacities stores free seed days counts₀ most s₀ i₀ counts s i = i ≤ days
 
 abbrev μ-loop : tie.MeasureT-loop
-μ-loop capacities free seed days counts₀ most s₀ i₀ counts s i = days - i
+μ-loop capacities stores free seed days counts₀ most s₀ i₀ counts s i = days - i
 
 pub days-spec : {M : Type 1} → statement M
 days-spec =
