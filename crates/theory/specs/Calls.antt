@@ -1,33 +1,34 @@
 -- Demands 2 and 3 of the paths themselves, over their contracts.
 -- Main statements: `planned-iff`, `refused-first` (demand 2), `cheapest-first` (demand 3), which stand for the full path as `full-planned-iff`,
--- `full-refused-first`, `full-cheapest-first`; `equal-run-one`, `equal-run-others` (document 01, "Three paths, one plan": runs); `free-in-turn-ends`,
+-- `full-refused-first`, `full-cheapest-first`; `equal-run-loads`, `equal-no-loads` (document 02, 2.6: full-load periods); `free-in-turn-ends`,
 -- `free-in-turn` (document 02, 2.3: the rule). Assumes nothing.
 use mathlib.Core.Path.{_≡_, refl, sym, _∙_, subst}
 use mathlib.Core.List.{[], _∷_}
 use mathlib.Core.Logic.{_⊎_, inl, inr, ⊎-elim, _↔_}
 use mathlib.Core.Option.{none, some, Option·none-ne-some}
-use Prim.Native.Nat.{ℕ, suc, _≤_, _<_}
-use native.Mathlib.Decide.{decLe}
-use native.Mathlib.Nat.{eq-or-lt-of-le, eq-zero-or-pos}
+use Prim.Native.Nat.{ℕ, zero, suc, _≤_, _<_}
 use native.Mathlib.Omega.{arith}
 use Rattle.day.specs.declared.Refusal.{Refusal}
 use Rattle.day.specs.declared.Totals.{Totals}
+use Rattle.day.specs.declared.Loads.{Loads}
 use Rattle.day.specs.declared.Answer.{Answer}
 use Rattle.day.specs.declared.Answer.the-variants.{Refused, Planned}
-use Rattle.day.specs.Sums.{at, sumTo, sum-grows}
+use Rattle.day.specs.declared.EqualAnswer.the-variants as equalAnswer
+use Rattle.day.specs.Sums.{at, sumTo}
 use Rattle.day.specs.Day.{Day, periods, total, netTo, net-before, net-end}
-use Rattle.day.specs.Plan.{Feasible, Run, PartLoaded, cost}
+use Rattle.day.specs.Plan.{Feasible, cost}
 use Rattle.day.specs.InTurn.{ServedTo}
 use Rattle.day.specs.Refusals.{first, dayTests, shortage, FirstShort, unequal, paidSetup, lowStore}
 use Rattle.day.specs.Tests.{gives-is, first-passed, first-one, first-two}
-use Rattle.day.specs.Figures.{first-value}
+use Rattle.day.specs.Figures.{same-values, first-value}
 use Rattle.day.specs.Outcome.{Memory, sizesOf, Path, Roomy, refusal, roomy-refusal, Runs}
 use Rattle.day.specs.Paths.{full, equal, free}
+use Rattle.day.specs.Loads.{Run, RunLoads, fullTo, partTo, idle-none, EqualRuns}
 use Rattle.checks.specs.Passed.{DayLimits, day-passes, equal-passed, free-passed, Admitted, admitted}
 use Rattle.theory.specs.Model.{Model, OptimalTo}
 use Rattle.theory.specs.Order.{LastSmaller, smaller-means}
-use Rattle.theory.specs.Cut.{feasible-less}
-use Rattle.theory.specs.Exchange.{Regeneration, interval-one, last-run}
+use Rattle.theory.specs.Exchange.{Fractional, interval-one}
+use Rattle.theory.specs.FullLoads.{Part, FewParts, few-loads}
 use Rattle.theory.specs.FreeSetups.{Free}
 use Rattle.theory.specs.Problem.{modelOf, model-rising, model-unlimited}
 use Rattle.theory.specs.Net.{problemOf, limits-fit, floor-is}
@@ -83,9 +84,8 @@ pub full-cheapest-first : (d : Day) (m : Memory) (t : Totals) (after : Memory) �
     → CheapestFirst d (at (after .slots)) (t .cost)
 full-cheapest-first = cheapest-first full
 
--- In a run of the equal path's plan at most one period is part-loaded; the others make 0 or c.
-module _ (d : Day) (m : Memory) (t : Totals) (after : Memory) (runs : Runs equal d m (Planned t) after)
-    (a b : ℕ) (run : Run d (at (after .slots)) a b) where
+-- Document 02, 2.6, of the plan and the loads that the equal path answers with.
+module _ (d : Day) (m : Memory) (t : Totals) (l : Loads) (after : Memory) (call : EqualRuns d m (equalAnswer.Planned t l) after) where
   abbrev x : ℕ → ℕ
   x = at (after .slots)
 
@@ -95,55 +95,61 @@ module _ (d : Day) (m : Memory) (t : Totals) (after : Memory) (runs : Runs equal
   abbrev n : ℕ
   n = periods d
 
-  inside : b ≤ n
-  inside = run .inside
+  accepted : Admitted equal d (sizesOf m)
+  accepted = admitted equal d (sizesOf m) (call .runs .0)
+
+  constant : (k : ℕ) → k < n → at (d .capacity) k ≡ at (d .capacity) 0
+  constant = equal-passed d (first-two (unequal d) (lowStore d) (accepted .own) .0)
+
+  within : (k : ℕ) → k < n → x k ≤ at (d .capacity) k
+  within = call .runs .1 .plan .feasible .within
 
   loose : Loose d
-  loose = let ok = admitted equal d (sizesOf m) (runs .0) in limits-loose (unequal d) (ok .day) (ok .own)
+  loose = limits-loose (unequal d) (accepted .day) (accepted .own)
 
   floor-here : (i : ℕ) → i ≤ n → M .floor i ≡ netTo d i
   floor-here = floor-is d (loose .fits .nonempty)
 
   best : OptimalTo M n (M .floor n) x
   best =
-      subst (λ (X : ℕ). OptimalTo M n X x) (sym (floor-here n (omega arith) ∙ net-end d)) (loose-plan d loose x .0 (runs .1 .plan))
+      subst (λ (X : ℕ). OptimalTo M n X x) (sym (floor-here n (omega arith) ∙ net-end d)) (loose-plan d loose x .0 (call .runs .1 .plan))
 
-  -- the run's last moment at which nothing was made ahead: the model's interval up to the run's end begins there
-  last : (c : ℕ) × Regeneration M x c b
-  last =
-      last-run M (model-rising (problemOf d)) (sumTo x b) x b (omega (arith, run .ahead)) (feasible-less M b n (M .floor n) x inside (best .feasible))
+  fraction : (k : ℕ) → k < n → Part (at (d .capacity)) x k → Fractional M n x k
+  fraction k h p = record { inside = h; some = p .0; room = p .1 }
 
-  -- Before it A lasted, and nothing was made in the run.
-  later : (k : ℕ) → a ≤ k → 0 < x k → last .0 ≤ k
-  later k ak makes = go (decLe (last .0) k)
+  -- With a capacity above 0, in each run that makes W exactly W ÷ c rounded down periods make c, and exactly one is part-loaded if the remainder is
+  -- above 0, none if it is 0.
+  pub equal-run-loads : 0 < at (d .capacity) 0 → (a b : ℕ) → Run d x a b → RunLoads (at (d .capacity)) x a b
+  equal-run-loads some a b run = few-loads (at (d .capacity)) x a b few (omega (arith, run .ahead)) .0
     where
-      c : ℕ
-      c = last .0
+      inside : b ≤ n
+      inside = run .inside
 
-      go : Dec (c ≤ k) → c ≤ k
-      go (yes h) = h
-      go (no h) =
-          let ahead = last .1 .ahead in
-          let floor = floor-here c (omega arith) ∙ net-before d c (omega arith) in
-          absurd (omega (arith, last .1 .empty, run .above c (omega arith) ahead, sum-grows x (suc k) c (omega arith)))
+      -- while A lasts the floor is 0, and there is charge once something is made
+      never : (i : ℕ) → a < i → i < b → 0 < sumTo x i → M .floor i < sumTo x i
+      never i u v made = let floor = floor-here i (omega arith) ∙ net-before d i (omega arith) in omega (arith, run .above i u v)
 
-  pub equal-run-one : (i j : ℕ) → a ≤ i → i < b → a ≤ j → j < b → PartLoaded d x i → PartLoaded d x j → i ≡ j
-  equal-run-one i j ai ib aj jb p q =
-      interval-one M (model-rising (problemOf d)) (model-unlimited (problemOf d)) n x best (last .0) b (last .1) i j
-      (later i ai (p .0)) ib (later j aj (q .0)) jb
-      (record { inside = omega arith; some = p .0; room = p .1 })
-      (record { inside = omega arith; some = q .0; room = q .1 })
+      few : FewParts (at (d .capacity)) x a b
+      few =
+          record {
+            some-capacity = some;
+            same = λ k h. constant k (omega arith);
+            within = λ k h. within k (omega arith);
+            one = λ i j ai ij jb p q.
+                interval-one M (model-rising (problemOf d)) (model-unlimited (problemOf d)) n x best a b never i j ai ij jb
+                (fraction i (omega arith) p) (fraction j (omega arith) q);
+          }
 
-  pub equal-run-others : (k : ℕ) → a ≤ k → k < b → ¬ PartLoaded d x k → (x k ≡ 0) ⊎ (x k ≡ at (d .capacity) 0)
-  equal-run-others k ak kb h =
-      let here : k < n = omega arith in
-      let kind = admitted equal d (sizesOf m) (runs .0) .own in
-      let c = equal-passed d (first-two (unequal d) (lowStore d) kind .0) k here in
-      ⊎-elim inl
-      (λ (some : 0 < x k).
-      ⊎-elim (λ (e : x k ≡ at (d .capacity) k). inr (e ∙ c)) (λ (room : x k < at (d .capacity) k). absurd (h (some, room)))
-      (eq-or-lt-of-le (runs .1 .plan .feasible .within k here)))
-      (eq-zero-or-pos (x k))
+  -- With a capacity of 0 both totals are 0.
+  pub equal-no-loads : at (d .capacity) 0 ≡ 0 → (l .full ≡ 0) × (l .part ≡ 0)
+  equal-no-loads nothing = let same = same-values (call .loads) in let none = idle-loads n (omega arith) in (cc, cc)
+    where
+      idle-loads : (i : ℕ) → i ≤ n → (fullTo (at (d .capacity)) x i ≡ 0) × (partTo (at (d .capacity)) x i ≡ 0)
+      idle-loads zero h = (refl, refl)
+      idle-loads (suc i) h =
+          let before = idle-loads i (omega arith) in
+          let idle = idle-none (at (d .capacity) i) (omega (arith, within i h, constant i h, nothing)) in
+          (omega (arith, before .0, idle .0), omega (arith, before .1, idle .1))
 
 -- Document 02, 2.3: an accepted day of the free path has no setup cost, and stores that can't bind;
 module _ (d : Day) (m : Memory) (t : Totals) (after : Memory) (runs : Runs free d m (Planned t) after) where

@@ -20,7 +20,8 @@ pub mod Regeneration
 -- What the uncapped path computes (Wagner and Whitin).
 pub mod Uncapped
 pub mod WagnerWhitin
--- What the equal path computes (Florian and Klein).
+-- How many full loads; what the equal path computes (Florian and Klein).
+pub mod FullLoads
 pub mod FlorianKlein
 pub mod Loads
 -- What the free path computes (the greedy rule), and why.
