@@ -120,7 +120,7 @@ module _ (d : Day) (m : Memory) (t : Totals) (l : Loads) (after : Memory) (call 
   -- With a capacity above 0, in each run that makes W exactly W ÷ c rounded down periods make c, and exactly one is part-loaded if the remainder is
   -- above 0, none if it is 0.
   pub equal-run-loads : 0 < at (d .capacity) 0 → (a b : ℕ) → Run d x a b → RunLoads (at (d .capacity)) x a b
-  equal-run-loads some a b run = few-loads (at (d .capacity)) x a b few (omega (arith, run .ahead)) .0
+  equal-run-loads pos a b run = few-loads (at (d .capacity)) x a b few (omega (arith, run .ahead)) .0
     where
       inside : b ≤ n
       inside = run .inside
@@ -132,7 +132,7 @@ module _ (d : Day) (m : Memory) (t : Totals) (l : Loads) (after : Memory) (call 
       few : FewParts (at (d .capacity)) x a b
       few =
           record {
-            some-capacity = some;
+            some-capacity = pos;
             same = λ k h. constant k (omega arith);
             within = λ k h. within k (omega arith);
             one = λ i j ai ij jb p q.
@@ -148,7 +148,7 @@ module _ (d : Day) (m : Memory) (t : Totals) (l : Loads) (after : Memory) (call 
       idle-loads zero h = (refl, refl)
       idle-loads (suc i) h =
           let before = idle-loads i (omega arith) in
-          let idle = idle-none (at (d .capacity) i) (omega (arith, within i h, constant i h, nothing)) in
+          let idle = idle-none (at (d .capacity) i) {x = x i} (omega (arith, within i h, constant i h, nothing)) in
           (omega (arith, before .0, idle .0), omega (arith, before .1, idle .1))
 
 -- Document 02, 2.3: an accepted day of the free path has no setup cost, and stores that can't bind;

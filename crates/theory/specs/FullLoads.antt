@@ -84,7 +84,7 @@ module _ (c x : ℕ → ℕ) (a b : ℕ) (few : FewParts c x a b) where
         r = s .r;
         sum = omega (arith, s .sum);
         full = omega (arith, s .full, full-yes (omega (arith, few .some-capacity)) z);
-        parts = carried e (s .r) (omega (arith, part-no {c e} {x e} (omega arith))) (λ f. omega (arith, f .1)) (s .parts);
+        parts = carried e (s .r) (omega (arith, part-no {c = c e} {x = x e} (omega arith))) (λ f. omega (arith, f .1)) (s .parts);
       }
 
   shape-part : (e : ℕ) → a ≤ e → e < b → Shape e → Part c x e → Shape (suc e)
@@ -96,7 +96,7 @@ module _ (c x : ℕ → ℕ) (a b : ℕ) (few : FewParts c x a b) where
             q = s .q;
             r = x e;
             sum = omega (arith, s .sum, p .nothing);
-            full = omega (arith, s .full, full-no {c e} {x e} (λ g. omega (arith, f .1)));
+            full = omega (arith, s .full, full-no {c = c e} {x = x e} (λ g. omega (arith, f .1)));
             parts = inr (record {
               k = e;
               from = ae;
