@@ -8,6 +8,5 @@ pub planned-equal-spec : {M : Type 1} → statement M
 planned-equal-spec =
     tie.close
     (tie.spec
-    (λ c. search needs) (λ c κs. search needs) (λ c. search needs) (λ c. search needs) (λ c. search needs)
-    (λ c. rw (c .before .before .a .given .1, c .refused .ensures) refl)
-    (λ c. rw (c .before .before .before .before .a2 .given .1) refl))
+    (λ c. search needs) (λ c κs. search needs) (λ c. search needs)
+    (λ c. rw (c .before .before .a .given .1, c .refused .ensures) refl) (λ c. rw (c .before .before .a2 .given .1) refl))
