@@ -5,7 +5,7 @@ use mathlib.Core.Path.{_≡_, refl}
 use mathlib.Core.Bool.{Bool, true, false, _&&_}
 use mathlib.Core.List.{[], _∷_}
 use mathlib.Core.Logic.{_⊎_, _≢_}
-use Prim.Native.Nat.{ℕ, _-_, _/_, _%_, _≤_, _<_}
+use Prim.Native.Nat.{ℕ, _+_, _-_, _/_, _%_, _≤_, _<_}
 use native.Mathlib.Omega.{arith}
 use lib.Dec.{eqb, ltb}
 use borrow.Author.Tests.{lt-ltb, le-ltb, eq-eqb, ne-eqb}
@@ -94,6 +94,18 @@ pub record RunLoads (c x : ℕ → ℕ) (a b : ℕ) : Type 0 where
   pub full : added (fullTo c x) a b ≡ madeIn x a b / c 0
   pub part : 0 < madeIn x a b % c 0 → added (partTo c x) a b ≡ 1
   pub none : madeIn x a b % c 0 ≡ 0 → added (partTo c x) a b ≡ 0
+
+-- the first b periods as runs, one after another
+pub data Divided (d : Day) (x : ℕ → ℕ) : ℕ → Type 0 where
+  begin : Divided d x 0
+  then : (a b : ℕ) → Divided d x a → Run d x a b → Divided d x b
+
+-- what the statement above gives for them in all: W ÷ c for each, and 1 for each that leaves a remainder
+abbrev pub loadsOf : {d : Day} {x : ℕ → ℕ} {b : ℕ} → Divided d x b → Loads
+loadsOf begin = record { full = 0; part = 0 }
+loadsOf {d} {x} (then a b before run) =
+    let c = at (d .capacity) 0 in
+    record { full = loadsOf before .full + madeIn x a b / c; part = loadsOf before .part + oneIf (ltb 0 (madeIn x a b % c)) }
 
 -- M11's plan, 4 0 3 where capacities are 4: its first run makes 4, one full load, and its second 3, one part load.
 pub m11-loads : let c = at (4 ∷ 4 ∷ 4 ∷ []) in let x = at (4 ∷ 0 ∷ 3 ∷ []) in RunLoads c x 0 2 × RunLoads c x 2 3
