@@ -80,6 +80,10 @@ module _ (d : Day) (m : Memory) (t : Totals) (l : Loads) (after : Memory) (call 
   abbrev x : ℕ → ℕ
   x = at (after .slots)
 
+  -- the capacities, which are all c 0
+  abbrev c : ℕ → ℕ
+  c = at (d .capacity)
+
   abbrev M : Model
   M = modelOf (problemOf d)
 
@@ -89,10 +93,10 @@ module _ (d : Day) (m : Memory) (t : Totals) (l : Loads) (after : Memory) (call 
   accepted : Admitted equal d (sizesOf m)
   accepted = admitted equal d (sizesOf m) (call .runs .0)
 
-  constant : (k : ℕ) → k < n → at (d .capacity) k ≡ at (d .capacity) 0
+  constant : (k : ℕ) → k < n → c k ≡ c 0
   constant = equal-passed d (first-two (unequal d) (lowStore d) (accepted .own) .0)
 
-  within : (k : ℕ) → k < n → x k ≤ at (d .capacity) k
+  within : (k : ℕ) → k < n → x k ≤ c k
   within = call .runs .1 .plan .feasible .within
 
   loose : Loose d
@@ -105,13 +109,20 @@ module _ (d : Day) (m : Memory) (t : Totals) (l : Loads) (after : Memory) (call 
   best =
       subst (λ (X : ℕ). OptimalTo M n X x) (sym (floor-here n (omega arith) ∙ net-end d)) (loose-plan d loose x .0 (call .runs .1 .plan))
 
-  fraction : (k : ℕ) → k < n → Part (at (d .capacity)) x k → Fractional M n x k
+  fraction : (k : ℕ) → k < n → Part c x k → Fractional M n x k
   fraction k h p = record { inside = h; some = p .0; room = p .1 }
+
+  counted : l ≡ loadsTo c x n
+  counted =
+      let same = same-values (call .loads) in
+      let full : l .full ≡ fullTo c x n = cc in
+      let part : l .part ≡ partTo c x n = cc in
+      ap₂ (λ (f p : ℕ). record { full = f; part = p }) full part
 
   -- With a capacity above 0, in each run that makes W exactly W ÷ c rounded down periods make c, and exactly one is part-loaded if the remainder is
   -- above 0, none if it is 0.
-  pub equal-run-loads : 0 < at (d .capacity) 0 → (a b : ℕ) → Run d x a b → RunLoads (at (d .capacity)) x a b
-  equal-run-loads pos a b run = few-loads (at (d .capacity)) x a b few (omega (arith, run .ahead)) .0
+  pub equal-run-loads : 0 < c 0 → (a b : ℕ) → Run d x a b → RunLoads c x a b
+  equal-run-loads pos a b run = few-loads c x a b few (omega (arith, run .ahead)) .0
     where
       inside : b ≤ n
       inside = run .inside
@@ -120,7 +131,7 @@ module _ (d : Day) (m : Memory) (t : Totals) (l : Loads) (after : Memory) (call 
       never : (i : ℕ) → a < i → i < b → 0 < sumTo x i → M .floor i < sumTo x i
       never i u v made = let floor = floor-here i (omega arith) ∙ net-before d i (omega arith) in omega (arith, run .above i u v)
 
-      few : FewParts (at (d .capacity)) x a b
+      few : FewParts c x a b
       few =
           record {
             some-capacity = pos;
@@ -132,42 +143,35 @@ module _ (d : Day) (m : Memory) (t : Totals) (l : Loads) (after : Memory) (call 
           }
 
   -- With a capacity of 0 both totals are 0.
-  pub equal-no-loads : at (d .capacity) 0 ≡ 0 → (l .full ≡ 0) × (l .part ≡ 0)
-  equal-no-loads nothing = let same = same-values (call .loads) in let none = idle-loads n (omega arith) in (cc, cc)
+  pub equal-no-loads : c 0 ≡ 0 → (l .full ≡ 0) × (l .part ≡ 0)
+  equal-no-loads nothing = rw counted (idle-loads n (omega arith))
     where
-      idle-loads : (i : ℕ) → i ≤ n → (fullTo (at (d .capacity)) x i ≡ 0) × (partTo (at (d .capacity)) x i ≡ 0)
+      idle-loads : (i : ℕ) → i ≤ n → (fullTo c x i ≡ 0) × (partTo c x i ≡ 0)
       idle-loads zero h = (refl, refl)
       idle-loads (suc i) h =
           let before = idle-loads i (omega arith) in
-          let idle = idle-none (at (d .capacity) i) {x = x i} (omega (arith, within i h, constant i h, nothing)) in
+          let idle = idle-none (c i) {x = x i} (omega (arith, within i h, constant i h, nothing)) in
           (omega (arith, before .0, idle .0), omega (arith, before .1, idle .1))
 
-  counted : l ≡ loadsTo (at (d .capacity)) x n
-  counted =
-      let same = same-values (call .loads) in
-      let full : l .full ≡ fullTo (at (d .capacity)) x n = cc in
-      let part : l .part ≡ partTo (at (d .capacity)) x n = cc in
-      ap₂ (λ (f p : ℕ). record { full = f; part = p }) full part
-
   -- The answer's totals are the sums over the runs that the day is divided into.
-  pub equal-day-loads : 0 < at (d .capacity) 0 → (v : Divided d x n) → l ≡ loadsOf v
+  pub equal-day-loads : 0 < c 0 → (v : Divided d x n) → l ≡ loadsOf v
   equal-day-loads pos v = counted ∙ summed v
     where
       part-more : (a b : ℕ) → Run d x a b
-          → partTo (at (d .capacity)) x b ≡ partTo (at (d .capacity)) x a + oneIf (ltb 0 (madeIn x a b % at (d .capacity) 0))
+          → partTo c x b ≡ partTo c x a + oneIf (ltb 0 (madeIn x a b % c 0))
       part-more a b run =
           let q = equal-run-loads pos a b run in
-          let grows = sum-grows (λ k. partAt (at (d .capacity) k) (x k)) a b (omega (arith, run .ahead)) in
+          let grows = sum-grows (λ k. partAt (c k) (x k)) a b (omega (arith, run .ahead)) in
           ⊎-elim
-          (λ (z : madeIn x a b % at (d .capacity) 0 ≡ 0). rw z (omega (arith, q .none z, grows)))
-          (λ (some-left : 0 < madeIn x a b % at (d .capacity) 0). rw (lt-ltb 0 _ some-left) (omega (arith, q .part some-left, grows)))
-          (eq-zero-or-pos (madeIn x a b % at (d .capacity) 0))
+          (λ (z : madeIn x a b % c 0 ≡ 0). rw z (omega (arith, q .none z, grows)))
+          (λ (some-left : 0 < madeIn x a b % c 0). rw (lt-ltb 0 _ some-left) (omega (arith, q .part some-left, grows)))
+          (eq-zero-or-pos (madeIn x a b % c 0))
 
-      summed : {b : ℕ} (v : Divided d x b) → loadsTo (at (d .capacity)) x b ≡ loadsOf v
+      summed : {b : ℕ} (v : Divided d x b) → loadsTo c x b ≡ loadsOf v
       summed begin = refl
       summed (then a b before run) =
           let old = summed before in
-          let grows = sum-grows (λ k. fullAt (at (d .capacity) k) (x k)) a b (omega (arith, run .ahead)) in
+          let grows = sum-grows (λ k. fullAt (c k) (x k)) a b (omega (arith, run .ahead)) in
           ap₂ (λ (f p : ℕ). record { full = f; part = p })
           (omega (arith, ap (λ (o : Loads). o .full) old, equal-run-loads pos a b run .full, grows))
           (omega (arith, ap (λ (o : Loads). o .part) old, part-more a b run))
