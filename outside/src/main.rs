@@ -232,7 +232,7 @@ fn report(input: &Input) -> ! {
     if !compare::full_agrees(&smallest, &expected) {
         println!("the full path says otherwise on this day than what is expected");
     }
-    if !compare::loads_counted(&smallest, &seen) {
+    if expected.code == 0 && !compare::loads_counted(&smallest, &seen) {
         println!("the slots, counted, have other loads than the answer says, or than some run may have");
     }
     exit(1);
