@@ -29,24 +29,24 @@ abbrev μ-loop : tie.MeasureT-loop
 loop-holds : tie.Need-loop-holds Inv-loop μ-loop
 loop-holds c = record { inside = omega arith; full = record { is = refl; low = omega arith }; part = record { is = refl; low = omega arith } }
 
-abbrev at-loop : tie.After-part-load Inv-loop μ-loop → tie.At-loop Inv-loop μ-loop
-at-loop c = c .before .before .before .before .before .before .before
+abbrev at-loop : tie.After-one-if Inv-loop μ-loop → tie.At-loop Inv-loop μ-loop
+at-loop c = c .before .before .before .before
 
 add-full : tie.Need-add-full Inv-loop μ-loop
-add-full c = let p = c .before .before .before .before in omega (arith, c .full-load .ensures .low, p .loop .inv .full .low, p .before .before .before .good)
+add-full c = let p = at-loop c in omega (arith, c .one-if .ensures .low, p .loop .inv .full .low, p .before .before .before .good)
 
 add-part : tie.Need-add-part Inv-loop μ-loop
-add-part c = let p = at-loop c in omega (arith, c .part-load .ensures .low, p .loop .inv .part .low, p .before .before .before .good)
+add-part c = let p = at-loop (c .before) in omega (arith, c .one-if2 .ensures .low, p .loop .inv .part .low, p .before .before .before .good)
 
 loop-again : tie.Need-loop-again Inv-loop μ-loop
 loop-again c =
-    let p = at-loop c in
+    let p = at-loop (c .before) in
     let a = p .before .before .before .args in
     let k = p .loop .k in
     record {
       inside = omega arith;
-      full = counted (λ i. fullAt (at (a .capacity .now) i) (at (a .plan .now) i)) k (p .loop .inv .full) (c .before .before .before .full-load .ensures);
-      part = counted (λ i. partAt (at (a .capacity .now) i) (at (a .plan .now) i)) k (p .loop .inv .part) (c .part-load .ensures);
+      full = counted (λ i. fullAt (at (a .capacity .now) i) (at (a .plan .now) i)) k (p .loop .inv .full) (c .before .one-if .ensures);
+      part = counted (λ i. partAt (at (a .capacity .now) i) (at (a .plan .now) i)) k (p .loop .inv .part) (c .one-if2 .ensures);
     }
 
 returns : tie.Need-returns Inv-loop μ-loop
@@ -60,5 +60,4 @@ count-spec =
     tie.close
     (tie.spec
     Inv-loop μ-loop loop-holds (λ c. search needs) (λ c. search needs) (λ c. search needs) (λ c. search needs) (λ c κs. search needs) add-full
-    (λ c. search needs) (λ c. search needs) (λ c. search needs) (λ c. search needs) (λ c κs. search needs) add-part (λ c. search needs)
-    (λ c. search needs) loop-again returns)
+    (λ c κs. search needs) add-part (λ c. search needs) (λ c. search needs) loop-again returns)
