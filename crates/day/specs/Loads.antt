@@ -1,6 +1,6 @@
 -- How a plan loads the cell, and the contract of the equal path, whose answer counts it (document 02, 2.6, in place of document 01's "at most one
 -- part-loaded period").
--- Main definitions: `Run`, `RunLoads`, `fullLoads`, `partLoads`, `EqualRuns`; `m11-loads` shows them on M11. Assumes nothing.
+-- Main definitions: `Run`, `RunLoads`, `loadsThrough`, `EqualRuns`; `m11-loads` shows them on M11. Assumes nothing.
 use mathlib.Core.Path.{_≡_, refl}
 use mathlib.Core.Bool.{Bool, true, false, _&&_}
 use mathlib.Core.List.{[], _∷_}
@@ -16,8 +16,7 @@ use Rattle.day.specs.declared.EqualAnswer.{EqualAnswer}
 use Rattle.day.specs.declared.EqualAnswer.the-variants.{Refused, Planned}
 use Rattle.day.specs.Sums.{at, sumTo}
 use Rattle.day.specs.Day.{Day, periods}
-use Rattle.day.specs.Plan.{inventory, cost, setups}
-use Rattle.day.specs.Figures.{acceptedWith, equalFigures}
+use Rattle.day.specs.Plan.{inventory}
 use Rattle.day.specs.Outcome.{Memory, Runs}
 use Rattle.day.specs.Paths.{equal}
 
@@ -47,7 +46,7 @@ fullAt c x = oneIf (ltb 0 x && eqb x c)
 abbrev pub partAt : (c x : ℕ) → ℕ
 partAt c x = oneIf (ltb 0 x && ltb x c)
 
--- what they say of one amount: it is c, or not; it is between 0 and c, or not; and of nothing
+-- `fullAt` and `partAt` case by case: 1; 0; and 0 of an idle period
 pub full-yes : {c x : ℕ} → 0 < x → x ≡ c → fullAt c x ≡ 1
 full-yes {c} {x} some e = rw (lt-ltb 0 x some, eq-eqb x c e) refl
 
@@ -70,15 +69,8 @@ fullTo c x i = sumTo (λ k. fullAt (c k) (x k)) i
 abbrev pub partTo : (c x : ℕ → ℕ) → ℕ → ℕ
 partTo c x i = sumTo (λ k. partAt (c k) (x k)) i
 
-abbrev pub loadsTo : (c x : ℕ → ℕ) → ℕ → Loads
-loadsTo c x i = record { full = fullTo c x i; part = partTo c x i }
-
--- over the day
-abbrev pub fullLoads : Day → (ℕ → ℕ) → ℕ
-fullLoads d x = fullTo (at (d .capacity)) x (periods d)
-
-abbrev pub partLoads : Day → (ℕ → ℕ) → ℕ
-partLoads d x = partTo (at (d .capacity)) x (periods d)
+abbrev pub loadsThrough : (c x : ℕ → ℕ) → ℕ → Loads
+loadsThrough c x i = record { full = fullTo c x i; part = partTo c x i }
 
 -- what the periods a + 1 to b add to a running sum
 abbrev pub added : (ℕ → ℕ) → (a b : ℕ) → ℕ
@@ -119,11 +111,10 @@ abbrev pub pathAnswer : EqualAnswer → Answer
 pathAnswer (Refused r) = answer.Refused r
 pathAnswer (Planned t l) = answer.Planned t
 
--- an accepted answer gives the plan's cost, setups, full-load and part-loaded periods, by its figures
+-- the loads of an accepted answer are the plan's, over the day
 abbrev pub CountsLoads : Day → (ℕ → ℕ) → EqualAnswer → Type 0
 CountsLoads d x (Refused r) = Unit {0}
-CountsLoads d x (Planned t l) =
-    equalFigures (Planned t l) ≡ acceptedWith (cost d x ∷ setups (periods d) x ∷ fullLoads d x ∷ partLoads d x ∷ [])
+CountsLoads d x (Planned t l) = l ≡ loadsThrough (at (d .capacity)) x (periods d)
 
 -- the contract of the equal path: that of every path, and the loads of the plan in its slots
 pub record EqualRuns (d : Day) (before : Memory) (r : EqualAnswer) (after : Memory) : Type 0 where

@@ -15,10 +15,9 @@ use Rattle.day.specs.Day.{Day, periods}
 use Rattle.day.specs.Plan.{Optimal}
 use Rattle.day.specs.Refusals.{unequal, lowStore}
 use Rattle.day.specs.Tests.{first-two}
-use Rattle.day.specs.Figures.{first-value, second-value}
 use Rattle.day.specs.Outcome.{Memory, memoryOf, sizesOf, refusal, Cleared, Accepted}
 use Rattle.day.specs.Paths.{equal}
-use Rattle.day.specs.Loads.{loadsTo, CountsLoads}
+use Rattle.day.specs.Loads.{loadsThrough, CountsLoads}
 use Rattle.path_checks.specs.declared.Needed.{Needed}
 use Rattle.checks.specs.Passed.{Admitted, admitted, equal-passed}
 use Rattle.path_checks.specs.Needed.{NeededBy}
@@ -146,6 +145,6 @@ module _ (d : Day) (m after : Memory) (t : Totals) (passed : refusal equal d (si
   pub countable : length (d .capacity) ≤ length (after .slots)
   countable = omega (arith, each, ok .room .slots, done .size)
 
-  pub loads-counted : (l : Loads) → l ≡ loadsTo (at (d .capacity)) (at (after .slots)) (length (d .capacity))
+  pub loads-counted : (l : Loads) → l ≡ loadsThrough (at (d .capacity)) (at (after .slots)) (length (d .capacity))
       → CountsLoads d (at (after .slots)) (Planned t l)
-  loads-counted l is = rw (is, each, first-value (done .counts), second-value (done .counts)) refl
+  loads-counted l is = rw each at is

@@ -5,21 +5,21 @@ ghost use Prim.Native.Nat.{_≤_};
 ghost use lib.Dec.{ltb};
 ghost use lib.ListN.{length};
 ghost use Rattle.day.specs.Sums.{at, Term};
-ghost use Rattle.day.specs.Loads.{oneIf, loadsTo};
+ghost use Rattle.day.specs.Loads.{oneIf, loadsThrough};
 use day::Loads;
 
-// 1 for an amount above 0 that is as asked.
-fn one_if(made: u16, asked: bool) -> u64
-    ensures { λ r. ⌜ Term (oneIf (ltb 0 made && asked)) 1 r ⌝ }
+// 1 for a period that makes something that fits.
+fn load(made: u16, fits: bool) -> u64
+    ensures { λ r. ⌜ Term (oneIf (ltb 0 made && fits)) 1 r ⌝ }
 {
-    if 0 < made && asked { 1 } else { 0 }
+    if 0 < made && fits { 1 } else { 0 }
 }
 
 // How many periods of a plan make their capacity, and how many something less; amounts past the capacities are not read.
 pub fn count(capacity: &[u16], plan: &[u16]) -> Loads
     requires { ⌜ length (now capacity) ≤ length (now plan) ⌝ }
     ensures { λ r. ⌜
-        r ≡ loadsTo (at (now (capacity .entry))) (at (now (plan .entry))) (length (now (capacity .entry)))
+        r ≡ loadsThrough (at (now (capacity .entry))) (at (now (plan .entry))) (length (now (capacity .entry)))
         ⌝ }
 {
     let mut full = 0;
@@ -27,8 +27,8 @@ pub fn count(capacity: &[u16], plan: &[u16]) -> Loads
     for k in 0..capacity.len() {
         let made = plan[k];
         let most = capacity[k];
-        full += one_if(made, made == most);
-        part += one_if(made, made < most);
+        full += load(made, made == most);
+        part += load(made, made < most);
     }
     Loads { full, part }
 }

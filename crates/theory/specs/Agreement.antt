@@ -66,7 +66,7 @@ module _ (d : Day) (m m′ after : Memory) (q : Answer) (after′ : Memory) (roo
       → Runs uncapped d m r after → Agree d r after q after′
   uncapped-agrees r room kind loose a = paths-agree uncapped full d m m′ r after q after′ room room′ (rw (kind, loose) refl) refl a b
 
-  -- Demand 3: and so does the equal path where capacities are equal; its loads are its own.
+  -- Demand 3: and so does the equal path where capacities are equal; the full path counts no loads.
   pub equal-agrees : (r : EqualAnswer) → Roomy equal d (sizesOf m) → unequal d ≡ none → lowStore d ≡ none
       → EqualRuns d m r after → Agree d (pathAnswer r) after q after′
   equal-agrees r room kind loose a = paths-agree equal full d m m′ (pathAnswer r) after q after′ room room′ (rw (kind, loose) refl) refl (a .runs) b

@@ -16,14 +16,13 @@ use Rattle.day.specs.Day.{Day, periods, netTo, net-before, net-end}
 use Rattle.day.specs.Plan.{inventory}
 use Rattle.day.specs.Refusals.{unequal, lowStore}
 use Rattle.day.specs.Tests.{first-two}
-use Rattle.day.specs.Figures.{same-values}
 use Rattle.day.specs.Outcome.{Memory, sizesOf}
 use Rattle.day.specs.Paths.{equal}
-use Rattle.day.specs.Loads.{Run, RunLoads, Divided, begin, then, loadsOf, loadsTo, fullAt, partAt, fullTo, partTo, oneIf, madeIn, idle-none, EqualRuns}
+use Rattle.day.specs.Loads.{Run, RunLoads, Divided, begin, then, loadsOf, loadsThrough, fullAt, partAt, fullTo, partTo, oneIf, madeIn, idle-none, EqualRuns}
 use Rattle.checks.specs.Passed.{equal-passed, Admitted, admitted}
 use Rattle.theory.specs.Model.{Model, OptimalTo}
-use Rattle.theory.specs.Exchange.{Fractional, interval-one}
-use Rattle.theory.specs.FullLoads.{Part, FewParts, few-loads}
+use Rattle.theory.specs.FullLoads.{few-loads}
+use Rattle.theory.specs.FlorianKlein.{few-parts}
 use Rattle.theory.specs.Problem.{modelOf, model-rising, model-unlimited}
 use Rattle.theory.specs.Net.{problemOf, floor-is}
 use Rattle.theory.specs.Store.{Loose, limits-loose}
@@ -109,42 +108,24 @@ module _ (d : Day) (m : Memory) (t : Totals) (l : Loads) (after : Memory) (call 
   best =
       subst (λ (X : ℕ). OptimalTo M n X x) (sym (floor-here n (omega arith) ∙ net-end d)) (loose-plan d loose x .0 (call .runs .1 .plan))
 
-  fraction : (k : ℕ) → k < n → Part c x k → Fractional M n x k
-  fraction k h p = record { inside = h; some = p .0; room = p .1 }
-
-  counted : l ≡ loadsTo c x n
-  counted =
-      let same = same-values (call .loads) in
-      let full : l .full ≡ fullTo c x n = cc in
-      let part : l .part ≡ partTo c x n = cc in
-      ap₂ (λ (f p : ℕ). record { full = f; part = p }) full part
-
   -- With a capacity above 0, in each run that makes W exactly W ÷ c rounded down periods make c, and exactly one is part-loaded if the remainder is
   -- above 0, none if it is 0.
   pub equal-run-loads : 0 < c 0 → (a b : ℕ) → Run d x a b → RunLoads c x a b
-  equal-run-loads pos a b run = few-loads c x a b few (omega (arith, run .ahead)) .0
+  equal-run-loads pos a b run =
+      few-loads c x a b
+      (few-parts M (model-rising (problemOf d)) (model-unlimited (problemOf d)) n (c 0) pos constant x best a b (run .ahead) (run .inside) never)
+      (omega (arith, run .ahead)) .0
     where
-      inside : b ≤ n
-      inside = run .inside
-
       -- while A lasts the floor is 0, and there is charge once something is made
       never : (i : ℕ) → a < i → i < b → 0 < sumTo x i → M .floor i < sumTo x i
-      never i u v made = let floor = floor-here i (omega arith) ∙ net-before d i (omega arith) in omega (arith, run .above i u v)
-
-      few : FewParts c x a b
-      few =
-          record {
-            some-capacity = pos;
-            same = λ k h. constant k (omega arith);
-            within = λ k h. within k (omega arith);
-            one = λ i j ai ij jb p q.
-                interval-one M (model-rising (problemOf d)) (model-unlimited (problemOf d)) n x best a b never i j ai ij jb
-                (fraction i (omega arith) p) (fraction j (omega arith) q);
-          }
+      never i u v made =
+          let inside = run .inside in
+          let floor = floor-here i (omega arith) ∙ net-before d i (omega arith) in
+          omega (arith, run .above i u v)
 
   -- With a capacity of 0 both totals are 0.
   pub equal-no-loads : c 0 ≡ 0 → (l .full ≡ 0) × (l .part ≡ 0)
-  equal-no-loads nothing = rw counted (idle-loads n (omega arith))
+  equal-no-loads nothing = rw (call .loads) (idle-loads n (omega arith))
     where
       idle-loads : (i : ℕ) → i ≤ n → (fullTo c x i ≡ 0) × (partTo c x i ≡ 0)
       idle-loads zero h = (refl, refl)
@@ -155,7 +136,7 @@ module _ (d : Day) (m : Memory) (t : Totals) (l : Loads) (after : Memory) (call 
 
   -- The answer's totals are the sums over the runs that the day is divided into.
   pub equal-day-loads : 0 < c 0 → (v : Divided d x n) → l ≡ loadsOf v
-  equal-day-loads pos v = counted ∙ summed v
+  equal-day-loads pos v = call .loads ∙ summed v
     where
       part-more : (a b : ℕ) → Run d x a b
           → partTo c x b ≡ partTo c x a + oneIf (ltb 0 (madeIn x a b % c 0))
@@ -167,7 +148,7 @@ module _ (d : Day) (m : Memory) (t : Totals) (l : Loads) (after : Memory) (call 
           (λ (some-left : 0 < madeIn x a b % c 0). rw (lt-ltb 0 _ some-left) (omega (arith, q .part some-left, grows)))
           (eq-zero-or-pos (madeIn x a b % c 0))
 
-      summed : {b : ℕ} (v : Divided d x b) → loadsTo c x b ≡ loadsOf v
+      summed : {b : ℕ} (v : Divided d x b) → loadsThrough c x b ≡ loadsOf v
       summed begin = refl
       summed (then a b before run) =
           let old = summed before in

@@ -15,7 +15,7 @@ use Rattle.theory.specs.Stages.{Solution, Answers}
 use Rattle.theory.specs.Recursion.{both?}
 use Rattle.theory.specs.Reachable.{high, Covered}
 use Rattle.theory.specs.Exchange.{Fractional, Regeneration, interval-one}
-use Rattle.theory.specs.FullLoads.{Part, FewParts, few-loads}
+use Rattle.theory.specs.FullLoads.{FewParts, few-loads}
 use Rattle.theory.specs.Candidates.{Some}
 use Rattle.theory.specs.Regeneration.{Kinds, tail, sum-tail, Right, Fits, cover}
 
@@ -41,6 +41,21 @@ Equal M c n = (k : ℕ) → k < n → M .capacity k ≡ c
 abbrev pub byLoads : Model → ℕ → ℕ → ℕ → Kinds
 byLoads M c l m = loads c ((M .floor m - M .floor l) % c)
 
+-- Where the inventory is never empty once something is made, no two periods of the optimal plan are part-loaded.
+pub few-parts : (M : Model) → Rising M → Unlimited M → (n c : ℕ) → 0 < c → Equal M c n → (x : ℕ → ℕ) → OptimalTo M n (M .floor n) x
+    → (a b : ℕ) → a < b → b ≤ n → ((m : ℕ) → a < m → m < b → 0 < sumTo x m → M .floor m < sumTo x m) → FewParts (M .capacity) x a b
+few-parts M rising unlimited n c pos caps x best a b ahead inside never =
+    let first = caps 0 (omega arith) in
+    record {
+      some-capacity = omega arith;
+      same = λ k l. caps k (omega arith) ∙ sym first;
+      within = λ k l. best .feasible .within k (omega arith);
+      one = λ i j ai ij jb p q.
+          interval-one M rising unlimited n x best a b never i j ai ij jb
+          (record { inside = omega arith; some = p .0; room = p .1 })
+          (record { inside = omega arith; some = q .0; room = q .1 });
+    }
+
 module _ (M : Model) (rising : Rising M) (unlimited : Unlimited M) (c m : ℕ) (caps : Equal M c m)
     (x : ℕ → ℕ) (best : OptimalTo M m (M .floor m) x) (a : ℕ) (run : Regeneration M x a m) where
   -- idle, full, or fractional
@@ -58,27 +73,17 @@ module _ (M : Model) (rising : Rising M) (unlimited : Unlimited M) (c m : ℕ) (
   abbrev W : ℕ
   W = M .floor m - M .floor a
 
-  fraction : (k : ℕ) → k < m → Part (M .capacity) x k → Fractional M m x k
-  fraction k l p = record { inside = l; some = p .0; room = p .1 }
-
-  few : (b k : ℕ) → b ≤ m → Fractional M m x k → FewParts (M .capacity) x a b
-  few b k inside part =
-      let first = caps 0 (omega (arith, part .inside)) in
-      record {
-        some-capacity = omega (arith, part .room, caps k (part .inside));
-        same = λ j l. caps j (omega arith) ∙ sym first;
-        within = λ j l. best .feasible .within j (omega arith);
-        one = λ i j ai ij jb p q.
-            interval-one M rising unlimited m x best a m (λ e u v _. run .never e u v) i j ai ij (omega arith)
-            (fraction i (omega arith) p) (fraction j (omega arith) q);
-      }
+  few : (b k : ℕ) → a < b → b ≤ m → Fractional M m x k → FewParts (M .capacity) x a b
+  few b k ahead inside part =
+      few-parts M rising unlimited m c (omega (arith, part .room, caps k (part .inside))) caps x best a b ahead inside
+      (λ e u v _. run .never e u (omega arith))
 
   -- what the fractional period leaves over of the periods up to it, it leaves over of all
   part-is : (k : ℕ) → a ≤ k → k < m → Fractional M m x k → (x k ≡ W % c) × ((sumTo x (suc k) - M .floor a) % c ≡ W % c)
   part-is k l h part =
       let first = caps 0 (omega arith) in
-      let all = few-loads (M .capacity) x a m (few m k (omega arith) part) (omega arith) .1 k l h (part .some, part .room) in
-      let so = few-loads (M .capacity) x a (suc k) (few (suc k) k h part) (omega arith) .1 k l (omega arith) (part .some, part .room) in
+      let all = few-loads (M .capacity) x a m (few m k (omega arith) (omega arith) part) (omega arith) .1 k l h (part .some, part .room) in
+      let so = few-loads (M .capacity) x a (suc k) (few (suc k) k (omega arith) h part) (omega arith) .1 k l (omega arith) (part .some, part .room) in
       let w : madeIn x a m ≡ W = omega (arith, run .empty, best .feasible .total) in
       let v : sumTo x (suc k) - M .floor a ≡ madeIn x a (suc k) = omega (arith, run .empty) in
       let e = all ∙ ap₂ _%_ w first in

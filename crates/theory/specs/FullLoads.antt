@@ -14,7 +14,7 @@ use Rattle.day.specs.Loads.{fullTo, partTo, full-yes, full-no, part-yes, part-n
 abbrev pub Part : (c x : ℕ → ℕ) → ℕ → Type 0
 Part c x k = (0 < x k) × (x k < c k)
 
--- the periods a + 1 to b have one capacity, c 0, and at most one of them is part-loaded
+-- the first b periods have one capacity, c 0, above 0, and make no more; no two of the periods a + 1 to b are part-loaded
 pub record FewParts (c x : ℕ → ℕ) (a b : ℕ) : Type 0 where
   pub some-capacity : 0 < c 0
   pub same : (k : ℕ) → k < b → c k ≡ c 0

@@ -29,14 +29,14 @@ abbrev μ-loop : tie.MeasureT-loop
 loop-holds : tie.Need-loop-holds Inv-loop μ-loop
 loop-holds c = record { inside = omega arith; full = record { is = refl; low = omega arith }; part = record { is = refl; low = omega arith } }
 
-abbrev at-loop : tie.After-one-if Inv-loop μ-loop → tie.At-loop Inv-loop μ-loop
+abbrev at-loop : tie.After-load Inv-loop μ-loop → tie.At-loop Inv-loop μ-loop
 at-loop c = c .before .before .before .before
 
 add-full : tie.Need-add-full Inv-loop μ-loop
-add-full c = let p = at-loop c in omega (arith, c .one-if .ensures .low, p .loop .inv .full .low, p .before .before .before .good)
+add-full c = let p = at-loop c in omega (arith, c .load .ensures .low, p .loop .inv .full .low, p .before .before .before .good)
 
 add-part : tie.Need-add-part Inv-loop μ-loop
-add-part c = let p = at-loop (c .before) in omega (arith, c .one-if2 .ensures .low, p .loop .inv .part .low, p .before .before .before .good)
+add-part c = let p = at-loop (c .before) in omega (arith, c .load2 .ensures .low, p .loop .inv .part .low, p .before .before .before .good)
 
 loop-again : tie.Need-loop-again Inv-loop μ-loop
 loop-again c =
@@ -45,8 +45,8 @@ loop-again c =
     let k = p .loop .k in
     record {
       inside = omega arith;
-      full = counted (λ i. fullAt (at (a .capacity .now) i) (at (a .plan .now) i)) k (p .loop .inv .full) (c .before .one-if .ensures);
-      part = counted (λ i. partAt (at (a .capacity .now) i) (at (a .plan .now) i)) k (p .loop .inv .part) (c .one-if2 .ensures);
+      full = counted (λ i. fullAt (at (a .capacity .now) i) (at (a .plan .now) i)) k (p .loop .inv .full) (c .before .load .ensures);
+      part = counted (λ i. partAt (at (a .capacity .now) i) (at (a .plan .now) i)) k (p .loop .inv .part) (c .load2 .ensures);
     }
 
 returns : tie.Need-returns Inv-loop μ-loop

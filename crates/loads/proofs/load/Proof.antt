@@ -1,9 +1,9 @@
--- `loads::one_if` meets its contract, test by test. Assumes nothing.
+-- `loads::load` meets its contract, test by test. Assumes nothing.
 use mathlib.Core.Logic.{⊎-elim}
 use borrow.Author.Needs.{needs}
 use borrow.Author.Tests.{lt-ltb, le-ltb}
-use Rattle.loads.proofs.one_if.Statement.{statement}
-use Rattle.loads.proofs.one_if.Tie as tie
+use Rattle.loads.proofs.load.Statement.{statement}
+use Rattle.loads.proofs.load.Tie as tie
 
 returns : tie.Need-returns
 returns c = record { is = simp (lt-ltb _ _ (c .before .if1 .taken), c .if2 .taken); low = search needs }
@@ -15,5 +15,5 @@ returns-2 c =
       low = search needs;
     }
 
-pub one-if-spec : {M : Type 1} → statement M
-one-if-spec = tie.close (tie.spec returns returns-2)
+pub load-spec : {M : Type 1} → statement M
+load-spec = tie.close (tie.spec returns returns-2)
