@@ -33,7 +33,7 @@ struct Run {
     /// by the rule: above capacity, short, over, above store
     broken: [usize; 4],
     /// of the equal path's plans
-    runs: loads::Runs,
+    plan_runs: loads::Runs,
 }
 
 impl Run {
@@ -48,7 +48,7 @@ impl Run {
                 self.accepted += 1;
                 self.short_paths += usize::from(input.call.is_short_path());
                 if input.call == Call::Equal {
-                    self.runs.add(&input.day, &expected.plan(input.day.periods()));
+                    self.plan_runs.add(&input.day, &expected.plan(input.day.periods()));
                 }
             }
             number if number <= LAST as u64 => self.refused[number as usize] += 1,
@@ -195,7 +195,7 @@ impl Run {
         let [above, short, over, full] = self.broken;
         println!("broken plans: {above} above capacity, {short} short, {over} over at the end, {full} above store");
         println!("uncapped, equal and free path: {} plans, each the full path's on the same day", self.short_paths);
-        let loads::Runs { plans, opening, closing, whole, both, part, idle } = self.runs;
+        let loads::Runs { plans, opening, closing, whole, both, part, idle } = self.plan_runs;
         println!("equal path: {plans} plans, {opening} with an opening charge, {closing} with a closing charge");
         println!("their runs: {whole} of full loads, {both} with a part load too, {part} with a part load alone, {idle} that make nothing");
     }
@@ -261,8 +261,8 @@ fn main() {
         Some(word) => word.parse().expect("the seed is a number"),
     };
     let start = Instant::now();
-    let (random, refused, broken, runs) = (Random::new(seed), [0; LAST + 1], [0; 4], loads::Runs::default());
-    let mut run = Run { random, with: With::NOTHING, inputs: 0, accepted: 0, short_paths: 0, refused, broken, runs };
+    let (random, refused, broken, plan_runs) = (Random::new(seed), [0; LAST + 1], [0; 4], loads::Runs::default());
+    let mut run = Run { random, with: With::NOTHING, inputs: 0, accepted: 0, short_paths: 0, refused, broken, plan_runs };
     run.made_up(EARLIER, With::NOTHING, 1);
     for call in [Call::Read, Call::Lookup] {
         run.try_inputs(&long_files(call));

@@ -60,8 +60,8 @@ pub struct Loads {
     pub part: u64,
 }
 
-/// What the equal path says of its plan. A run (between two moments of empty store, or an end of the day) that makes W has W ÷ c full loads, and
-/// a part load for a remainder above 0; the loads are the sums over the runs.
+/// What the equal path says of its plan. Where the capacity c is above 0, a run (between two moments of empty store, or an end of the day) that
+/// makes W has W ÷ c full loads, rounded down, and one part load if the remainder is above 0; the loads are the sums over the runs.
 #[derive(Clone, Copy, Debug, PartialEq, Eq)]
 pub struct EqualTotals {
     pub totals: Totals,
