@@ -28,7 +28,8 @@ use Rattle.day.specs.Tests.{not-refused, neither}
 use Rattle.day.specs.File.{periodKind, chargeKind, storeKind, isKind, bodyLength, body, next, number2, isRecord, isPeriod, bothZero, isCharges, headEnd}
 use Rattle.day.specs.File.{recordAt, PeriodAt, Layout, orZero, periodsIn, unknownKind, misplaced, truncated, wrongEnd, badEnd, walk, field, storeIn, dayIn}
 use Rattle.checks.specs.Passed.{SameLengths, Readable}
-use Rattle.dayfile.specs.Answers.{withFirst, withDay, withTables, firstOf}
+use Rattle.tables.specs.Filled.{withFirst}
+use Rattle.dayfile.specs.Answers.{withDay, withTables, firstOf}
 use Rattle.dayfile.specs.Passed.{each-passed}
 
 -- a whole record of kind x: the file reaches to its end
