@@ -1,6 +1,6 @@
 -- What a C program sees of a call's answer: one code, and the call's out-array (include/yakkurem.h).
--- Main definitions: `codeOf`; `seenOf`, what is seen of an answer's figures; `checkCode`, of a call without an out-array. Main statement: `code-splits` takes a code apart.
--- Assumes nothing.
+-- Main definitions: `codeOf`; `seenOf`, what is seen of an answer's figures; `checkCode`, of a call without an out-array.
+-- Main statement: `code-splits` takes a code apart. Assumes nothing.
 use mathlib.Core.Path.{_≡_, _∙_}
 use mathlib.Core.List.{List}
 use mathlib.Core.Option.{Option, none, some}

@@ -7,8 +7,7 @@ use Prim.Native.Nat.{ℕ, _+_, _-_}
 use lib.ListN.{length, take, drop}
 use denote.Ref.{RefT, now}
 use Rattle.day.specs.Sums.{at}
-use Rattle.day.specs.declared.Ends.{Ends}
-use Rattle.day.specs.Day.{Day, dayOf, tablesOf, periods}
+use Rattle.day.specs.Day.{Day, tablesOf, periods}
 use Rattle.day.specs.File.{bodyLength, body, recordAt, number2, number4, periodsIn, walk, noSuchPeriod, chargeIn, field, storeIn, dayIn, fileOf}
 use Rattle.day.specs.Refusals.{Gives, first, badCount, badSlots, badValue, tableTests}
 use Rattle.day.specs.declared.Refusal.{Refusal}
@@ -68,7 +67,7 @@ withPeriods s k tables =
 abbrev pub withDay : List ℕ → Day → Day
 withDay s tables = withPeriods s (periodsIn s) tables
 
--- a day's tables at the front of the lent ones, whose later cells stay; and the tables' first n cells as a day, with its ends
+-- a day's tables at the front of the lent ones, whose later cells stay
 abbrev pub withTables : Day → Day → Day
 withTables d tables =
     let n = periods d in
@@ -79,17 +78,6 @@ withTables d tables =
     (d .unit ++ drop n (tables .unit))
     (d .holding ++ drop n (tables .holding))
     (d .store ++ drop n (tables .store))
-
-abbrev pub firstOf : ℕ → Day → Ends → Day
-firstOf n tables ends =
-    dayOf
-    (take n (tables .demand))
-    (take n (tables .capacity))
-    (take n (tables .setup))
-    (take n (tables .unit))
-    (take n (tables .holding))
-    (take n (tables .store))
-    ends
 
 -- a reading's answer in figures: the count of periods, A, Z
 abbrev pub readFigures : ReadAnswer → Figures ℕ

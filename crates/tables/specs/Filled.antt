@@ -1,5 +1,5 @@
 -- Six lent tables whose first cells take the numbers of a day's periods, one after the other; later cells keep what they held.
--- Main definitions: `Cells`, `shortest`, `withNumbers`, `TableFilled`. Main statements: `cells-enough`, room as test 6 asks for it;
+-- Main definitions: `Cells`, `shortest`, `withNumbers`, `firstOf`, `TableFilled`. Main statements: `cells-enough`, room as test 6 asks for it;
 -- `filled-more`, a turn of a loop that fills; `table-filled`, one table cell by cell. Assumes nothing.
 use mathlib.Core.Path.{_≡_, refl, ap, _∙_}
 use mathlib.Core.List.{List, [], _∷_, _++_}
@@ -7,10 +7,11 @@ use Prim.Native.Nat.{ℕ, zero, suc, _+_, _≤_, _<_, min}
 use native.Mathlib.Nat.{le-of-suc-le-suc}
 use native.Mathlib.Numerals.{add-one}
 use native.Mathlib.Omega.{arith}
-use lib.ListN.{length, set, drop, List·getD-append}
-use lib.Seq.{drop-at}
+use lib.ListN.{length, set, take, drop, List·getD-append}
+use lib.Seq.{take-at, drop-at}
 use Rattle.day.specs.Sums.{at, listOf, at-listOf, length-listOf}
-use Rattle.day.specs.Day.{Day, tablesOf}
+use Rattle.day.specs.declared.Ends.{Ends}
+use Rattle.day.specs.Day.{Day, dayOf, tablesOf}
 use Rattle.tables.specs.declared.Numbers.{Numbers}
 
 -- each table has at least n cells
@@ -42,6 +43,21 @@ cells-enough n tables l = record {
 -- a table whose first k cells take f 0, .. f (k - 1), and whose later cells stay
 abbrev pub withFirst : (ℕ → ℕ) → ℕ → List ℕ → List ℕ
 withFirst f k l = listOf f k ++ drop k l
+
+-- the tables' first n cells as a day, with its ends
+abbrev pub firstOf : ℕ → Day → Ends → Day
+firstOf n tables ends =
+    dayOf
+    (take n (tables .demand))
+    (take n (tables .capacity))
+    (take n (tables .setup))
+    (take n (tables .unit))
+    (take n (tables .holding))
+    (take n (tables .store))
+    ends
+
+pub with-front : (f : ℕ → ℕ) (n : ℕ) (l : List ℕ) → take n (withFirst f n l) ≡ listOf f n
+with-front f n l = take-at (listOf f n) (drop n l) n (length-listOf f n)
 
 -- tables whose first k cells take the numbers p 0, .. p (k - 1)
 abbrev pub withNumbers : (ℕ → Numbers) → ℕ → Day → Day

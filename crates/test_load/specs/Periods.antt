@@ -1,8 +1,8 @@
 -- How the tables of a test load fill: period by period, each from the seed that the one before it left.
 -- Main statements: `load-passed`, what passed tests tell; `draws-turn`, a turn of the loop. Assumes nothing.
-use mathlib.Core.Path.{_≡_, refl, _∙_}
+use mathlib.Core.Path.{_≡_, refl}
 use mathlib.Core.Option.{none}
-use Prim.Native.Nat.{ℕ, suc, _+_, _*_, _%_, _≤_, _<_}
+use Prim.Native.Nat.{ℕ, suc, _+_, _*_, _%_, _<_}
 use native.Mathlib.Omega.{arith}
 use borrow.Author.Tests.{ltb-false}
 use Rattle.day.specs.Day.{Day, maxStore}
