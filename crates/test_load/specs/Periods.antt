@@ -2,13 +2,14 @@
 -- Main statements: `load-passed`, what passed tests tell; `draws-turn`, a turn of the loop. Assumes nothing.
 use mathlib.Core.Path.{_≡_, refl}
 use mathlib.Core.Option.{none}
-use Prim.Native.Nat.{ℕ, suc, _+_, _*_, _%_, _<_}
+use Prim.Native.Nat.{ℕ, suc, _+_, _*_, _%_, _≤_, _<_}
 use native.Mathlib.Omega.{arith}
 use borrow.Author.Tests.{ltb-false}
-use Rattle.day.specs.Day.{Day, maxStore}
+use Rattle.day.specs.Day.{Day, maxPeriods, maxStore}
 use Rattle.day.specs.declared.Refusal.the-variants.{FewSlots}
 use Rattle.day.specs.Refusals.{badCount, badSlots}
 use Rattle.day.specs.Tests.{first-two, not-refused}
+use Rattle.checks.specs.Passed.{count-passed}
 use Rattle.tables.specs.declared.Numbers.{Numbers}
 use Rattle.tables.specs.Filled.{Cells, shortest, cells-enough, stored, Filled, filled-more}
 use Rattle.test_load.specs.declared.Drawn.{Drawn}
@@ -16,11 +17,21 @@ use Rattle.test_load.specs.Draws.{nextSeed, seedAfter, upper}
 use Rattle.test_load.specs.Draws as draws
 use Rattle.test_load.specs.Load.{badLoad}
 
--- tables that pass the tests have n cells each
-pub load-passed : (n : ℕ) (tables : Day) → badLoad n (shortest tables) ≡ none → Cells n tables
+-- what the tests leave: 1 to 96 periods, and as many cells in each table
+pub record Taken (n : ℕ) (tables : Day) : Type 0 where
+  pub nonempty : 1 ≤ n
+  pub few : n ≤ maxPeriods
+  pub cells : Cells n tables
+
+pub load-passed : (n : ℕ) (tables : Day) → badLoad n (shortest tables) ≡ none → Taken n tables
 load-passed n tables e =
-    let room = first-two (badCount n) (badSlots (shortest tables) n) e .1 in
-    cells-enough n tables (ltb-false (shortest tables) n (not-refused _ FewSlots room))
+    let t = first-two (badCount n) (badSlots (shortest tables) n) e in
+    let count = count-passed n (t .0) in
+    record {
+      nonempty = count .0;
+      few = count .1;
+      cells = cells-enough n tables (ltb-false (shortest tables) n (not-refused _ FewSlots (t .1)));
+    }
 
 -- one period, from the seed before its draws
 unfoldable pub drawnFrom : ℕ → Drawn

@@ -9,11 +9,10 @@ use Rattle.day.specs.declared.Refusal.the-variants.{LowStore}
 use Rattle.day.specs.Sums.{sumTo, listOf, at-listOf, length-listOf, sum-ext}
 use Rattle.day.specs.Find.{nothing-found}
 use Rattle.day.specs.Day.{Day, noEnds, tablesOf, periods, maxStore, maxPeriods, required}
-use Rattle.day.specs.Refusals.{refuseAt, first, dayTests, badCount, badSlots, tight, lowStore}
-use Rattle.day.specs.Tests.{first-two}
+use Rattle.day.specs.Refusals.{refuseAt, first, dayTests, tight, lowStore}
 use Rattle.day.specs.declared.Check.the-variants.{Passed}
-use Rattle.checks.specs.Passed.{Within, DayLimits, count-passed, day-passes}
-use Rattle.tables.specs.Filled.{shortest, firstOf, with-front, TableFilled, table-filled}
+use Rattle.checks.specs.Passed.{Within, DayLimits, day-passes}
+use Rattle.tables.specs.Filled.{firstOf, with-front, TableFilled, table-filled}
 use Rattle.test_load.specs.Draws as draws
 use Rattle.test_load.specs.Load.{Loading}
 use Rattle.test_load.specs.Periods.{load-passed}
@@ -29,7 +28,7 @@ pub record Loaded (seed n : ℕ) (before after : Day) : Type 0 where
 
 pub load-gives : (seed n : ℕ) (before after : Day) → Loading seed n before Passed after → Loaded seed n before after
 load-gives seed n before after w =
-    let c = load-passed n before (w .0) in
+    let c = load-passed n before (w .0) .cells in
     rw (w .1)
     (record {
       demand = table-filled n (draws.need seed) (before .demand) (c .demand);
@@ -102,9 +101,9 @@ stores seed n few =
 pub load-within : (seed n : ℕ) (before after : Day) → Loading seed n before Passed after
     → let d = firstOf n after noEnds in (first (dayTests d) ≡ none) × (lowStore d ≡ none)
 load-within seed n before after w =
-    let c = count-passed n (first-two (badCount n) (badSlots (shortest before) n) (w .0) .0) in
+    let c = load-passed n before (w .0) in
     let front : firstOf n after noEnds ≡ loadDay seed n = rw (w .1) (simp with-front) in
     subst
     (λ (d : Day). (first (dayTests d) ≡ none) × (lowStore d ≡ none))
     (sym front)
-    (day-passes (loadDay seed n) (limits seed n (c .0) (c .1)), stores seed n (c .1))
+    (day-passes (loadDay seed n) (limits seed n (c .nonempty) (c .few)), stores seed n (c .few))

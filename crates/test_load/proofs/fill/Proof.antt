@@ -44,7 +44,7 @@ returns c =
     (is-gives (refused (badLoad (start p .args .n) (shortest (lent p))) (tested p) (c .before .r .given .1)), refl)
 
 draw-periods-requires : tie.Need-draw-periods-requires
-draw-periods-requires c κs = load-passed _ (lent (at-tests c .before .before)) (admitted (at-tests c))
+draw-periods-requires c κs = load-passed _ (lent (at-tests c .before .before)) (admitted (at-tests c)) .cells
 
 returns-2 : tie.Need-returns-2
 returns-2 c =
