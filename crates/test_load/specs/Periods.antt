@@ -2,7 +2,7 @@
 -- Main statements: `load-passed`, what passed tests tell; `draws-turn`, a turn of the loop. Assumes nothing.
 use mathlib.Core.Path.{_≡_, refl}
 use mathlib.Core.Option.{none}
-use Prim.Native.Nat.{ℕ, suc, _+_, _*_, _%_, _≤_, _<_}
+use Prim.Native.Nat.{ℕ, suc, _+_, _*_, _≤_, _<_}
 use native.Mathlib.Omega.{arith}
 use borrow.Author.Tests.{ltb-false}
 use Rattle.day.specs.Day.{Day, maxPeriods, maxStore}
@@ -13,7 +13,7 @@ use Rattle.checks.specs.Passed.{count-passed}
 use Rattle.tables.specs.declared.Numbers.{Numbers}
 use Rattle.tables.specs.Filled.{Cells, shortest, cells-enough, stored, Filled, filled-more}
 use Rattle.test_load.specs.declared.Drawn.{Drawn}
-use Rattle.test_load.specs.Draws.{nextSeed, seedAfter, upper}
+use Rattle.test_load.specs.Draws.{seedAfter}
 use Rattle.test_load.specs.Draws as draws
 use Rattle.test_load.specs.Load.{badLoad}
 
@@ -33,26 +33,6 @@ load-passed n tables e =
       cells = cells-enough n tables (ltb-false (shortest tables) n (not-refused _ FewSlots (t .1)));
     }
 
--- one period, from the seed before its draws
-unfoldable pub drawnFrom : ℕ → Drawn
-drawnFrom seed =
-    let a = nextSeed seed in
-    let b = nextSeed a in
-    let c = nextSeed b in
-    let d = nextSeed c in
-    let e = nextSeed d in
-    record {
-      numbers = record {
-        demand = upper a % 41;
-        capacity = upper b % 61;
-        setup = upper c % 30001;
-        unit = upper d % 1201;
-        holding = upper e % 21;
-        store = maxStore;
-      };
-      seed = e;
-    }
-
 -- the numbers of period k + 1
 abbrev pub numbersAt : ℕ → ℕ → Numbers
 numbersAt seed k = record {
@@ -63,6 +43,10 @@ numbersAt seed k = record {
   holding = draws.upkeep seed k;
   store = maxStore;
 }
+
+-- one period, from the seed before its draws: the first of the load that this seed gives; and the seed after them
+unfoldable pub drawnFrom : ℕ → Drawn
+drawnFrom seed = record { numbers = numbersAt seed 0; seed = seedAfter seed 5 }
 
 -- the loop has drawn k periods
 pub record PeriodsDrawn (seed n : ℕ) (before : Day) (k at : ℕ) (after : Day) : Type 0 where
