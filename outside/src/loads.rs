@@ -119,27 +119,26 @@ pub fn inputs() -> Vec<Input> {
     [amounts(), capacities(), large()].concat()
 }
 
-/// The runs of the equal path's plans.
+/// The equal path's plans and their runs.
 #[derive(Default)]
 pub struct Runs {
     pub plans: usize,
-    /// by what they make: whole loads, a part load too, a part load alone, nothing
+    /// of these, on days with an opening charge, and with a closing one
+    pub opening: usize,
+    pub closing: usize,
+    /// runs by what they make: full loads, a part load beside them, a part load alone, nothing
     pub whole: usize,
     pub both: usize,
     pub part: usize,
     pub idle: usize,
-    /// of these, with charge from the day before, and for the next
-    pub opening: usize,
-    pub closing: usize,
 }
 
 impl Runs {
     pub fn add(&mut self, day: &Day, plan: &[u16]) {
-        let runs = plain::runs(day, plan);
         self.plans += 1;
         self.opening += usize::from(day.opening > 0);
         self.closing += usize::from(day.closing > 0);
-        for run in runs {
+        for run in plain::runs(day, plan) {
             let loads = plain::counted(day.capacity[0], &plan[run]);
             let kind = match (loads.full, loads.part) {
                 (0, 0) => &mut self.idle,

@@ -201,6 +201,17 @@ impl Run {
             self.damaged(call, 400 / part);
         }
     }
+
+    fn print_counts(&self) {
+        let refused = (1..=LAST).map(|number| format!("{number}: {}", self.refused[number])).collect::<Vec<_>>().join(", ");
+        println!("accepted {}, refused {refused}", self.accepted);
+        let [above, short, over, full] = self.broken;
+        println!("broken plans: {above} above capacity, {short} short, {over} over at the end, {full} above store");
+        println!("uncapped, equal and free path: {} plans, each the full path's on the same day", self.short_paths);
+        let loads::Runs { plans, opening, closing, whole, both, part, idle } = self.runs;
+        println!("equal path: {plans} plans, {opening} with an opening charge, {closing} with a closing charge");
+        println!("their runs: {whole} of full loads, {both} with a part load too, {part} with a part load alone, {idle} that make nothing");
+    }
 }
 
 fn differs(input: &Input, expected: &compare::Seen) -> bool {
@@ -323,17 +334,8 @@ fn main() {
     }
     let on_test_loads = test_load::inputs(&mut run.random);
     run.try_inputs(&on_test_loads);
-    let refused = (1..=LAST).map(|number| format!("{number}: {}", run.refused[number])).collect::<Vec<_>>().join(", ");
     println!("outside: seed {seed}, {} inputs of {} calls as the plain implementation has them", run.inputs, CALLS.len() + 1);
-    let [above, short, over, full] = run.broken;
-    println!("accepted {}, refused {refused}", run.accepted);
-    println!("broken plans: {above} above capacity, {short} short, {over} over at the end, {full} above store");
-    println!("uncapped, equal and free path: {} plans, each the full path's on the same day", run.short_paths);
-    let loads::Runs { plans, whole, both, part, idle, opening, closing } = run.runs;
-    println!(
-        "equal path: {plans} plans, {opening} with an opening and {closing} with a closing charge; runs that make whole loads {whole}, with a part load \
-         too {both}, a part load alone {part}, nothing {idle}"
-    );
+    run.print_counts();
     println!("test loads: {} inputs, and {} of the other calls on days so drawn", test_loads.len(), on_test_loads.len());
     println!("published instances: {} inputs, each with the published cost, doubled", published.len());
     eprintln!("{} seconds", start.elapsed().as_secs());

@@ -1,14 +1,14 @@
 -- How a plan loads the cell, and the contract of the equal path, whose answer counts it (document 02, 2.6, in place of document 01's "at most one
 -- part-loaded period").
--- Main definitions: `Run`, `RunLoads`, `fullLoads`, `partLoads`, `EqualRuns`. Assumes nothing.
+-- Main definitions: `Run`, `RunLoads`, `fullLoads`, `partLoads`, `EqualRuns`; `m11-loads` shows them on M11. Assumes nothing.
 use mathlib.Core.Path.{_≡_, refl}
 use mathlib.Core.Bool.{Bool, true, false, _&&_}
 use mathlib.Core.List.{[], _∷_}
 use mathlib.Core.Logic.{_⊎_, _≢_}
-use Prim.Native.Nat.{ℕ, _-_, _/_, _%_, _≤_, _<_}
+use Prim.Native.Nat.{ℕ, _+_, _-_, _/_, _%_, _≤_, _<_}
+use native.Mathlib.Omega.{arith}
 use lib.Dec.{eqb, ltb}
 use borrow.Author.Tests.{lt-ltb, le-ltb, eq-eqb, ne-eqb}
-use Rattle.day.specs.declared.Totals.{Totals}
 use Rattle.day.specs.declared.Loads.{Loads}
 use Rattle.day.specs.declared.Answer.{Answer}
 use Rattle.day.specs.declared.Answer.the-variants as answer
@@ -84,12 +84,35 @@ partLoads d x = partTo (at (d .capacity)) x (periods d)
 abbrev pub added : (ℕ → ℕ) → (a b : ℕ) → ℕ
 added s a b = s b - s a
 
+-- W, what they make
+abbrev pub madeIn : (ℕ → ℕ) → (a b : ℕ) → ℕ
+madeIn x a b = added (sumTo x) a b
+
 -- Of the periods a + 1 to b, which make W, exactly W ÷ c rounded down make c, and exactly one is part-loaded if the remainder is above 0, none if it
 -- is 0; c is the capacity of the first period, and so of all where it is the same throughout.
 pub record RunLoads (c x : ℕ → ℕ) (a b : ℕ) : Type 0 where
-  pub full : added (fullTo c x) a b ≡ added (sumTo x) a b / c 0
-  pub part : 0 < added (sumTo x) a b % c 0 → added (partTo c x) a b ≡ 1
-  pub none : added (sumTo x) a b % c 0 ≡ 0 → added (partTo c x) a b ≡ 0
+  pub full : added (fullTo c x) a b ≡ madeIn x a b / c 0
+  pub part : 0 < madeIn x a b % c 0 → added (partTo c x) a b ≡ 1
+  pub none : madeIn x a b % c 0 ≡ 0 → added (partTo c x) a b ≡ 0
+
+-- the first b periods as runs, one after another
+pub data Divided (d : Day) (x : ℕ → ℕ) : ℕ → Type 0 where
+  begin : Divided d x 0
+  then : (a b : ℕ) → Divided d x a → Run d x a b → Divided d x b
+
+-- what the statement above gives for them in all: W ÷ c for each, and 1 for each that leaves a remainder
+abbrev pub loadsOf : {d : Day} {x : ℕ → ℕ} {b : ℕ} → Divided d x b → Loads
+loadsOf begin = record { full = 0; part = 0 }
+loadsOf {d} {x} (then a b before run) =
+    let c = at (d .capacity) 0 in
+    record { full = loadsOf before .full + madeIn x a b / c; part = loadsOf before .part + oneIf (ltb 0 (madeIn x a b % c)) }
+
+-- M11's plan, 4 0 3 where capacities are 4: its first run makes 4, one full load, and its second 3, one part load.
+pub m11-loads : let c = at (4 ∷ 4 ∷ 4 ∷ []) in let x = at (4 ∷ 0 ∷ 3 ∷ []) in RunLoads c x 0 2 × RunLoads c x 2 3
+m11-loads = (
+  record { full = refl; part = λ h. absurd (omega arith); none = λ _. refl },
+  record { full = refl; part = λ _. refl; none = λ h. absurd (omega arith) },
+)
 
 -- the equal path's answer as every path has it, without the loads
 abbrev pub pathAnswer : EqualAnswer → Answer

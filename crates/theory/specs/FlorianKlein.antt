@@ -4,17 +4,18 @@
 use mathlib.Core.Path.{_≡_, refl, sym, ap₂, _∙_}
 use mathlib.Core.Option.{Option, none, some}
 use mathlib.Core.Logic.{_⊎_, inl, inr, ⊎-elim}
-use Prim.Native.Nat.{ℕ, zero, suc, _+_, _-_, _*_, _%_, _≤_, _<_}
+use Prim.Native.Nat.{ℕ, zero, suc, _+_, _-_, _%_, _≤_, _<_}
 use native.Mathlib.Nat.{eq-or-lt-of-le, eq-zero-or-pos}
 use native.Mathlib.Decide.{ℕ-discrete}
 use native.Mathlib.Omega.{arith}
 use Rattle.day.specs.Sums.{sumTo}
+use Rattle.day.specs.Loads.{madeIn}
 use Rattle.theory.specs.Model.{Model, Rising, Unlimited, costTo, OptimalTo}
 use Rattle.theory.specs.Stages.{Solution, Answers}
 use Rattle.theory.specs.Recursion.{both?}
 use Rattle.theory.specs.Reachable.{high, Covered}
 use Rattle.theory.specs.Exchange.{Fractional, Regeneration, interval-one}
-use Rattle.theory.specs.FullLoads.{Part, FewParts, made, few-loads}
+use Rattle.theory.specs.FullLoads.{Part, FewParts, few-loads}
 use Rattle.theory.specs.Candidates.{Some}
 use Rattle.theory.specs.Regeneration.{Kinds, tail, sum-tail, Right, Fits, cover}
 
@@ -78,8 +79,8 @@ module _ (M : Model) (rising : Rising M) (unlimited : Unlimited M) (c m : ℕ) (
       let first = caps 0 (omega arith) in
       let all = few-loads (M .capacity) x a m (few m k (omega arith) part) (omega arith) .1 k l h (part .some, part .room) in
       let so = few-loads (M .capacity) x a (suc k) (few (suc k) k h part) (omega arith) .1 k l (omega arith) (part .some, part .room) in
-      let w : made x a m ≡ W = omega (arith, run .empty, best .feasible .total) in
-      let v : sumTo x (suc k) - M .floor a ≡ made x a (suc k) = omega (arith, run .empty) in
+      let w : madeIn x a m ≡ W = omega (arith, run .empty, best .feasible .total) in
+      let v : sumTo x (suc k) - M .floor a ≡ madeIn x a (suc k) = omega (arith, run .empty) in
       let e = all ∙ ap₂ _%_ w first in
       (e, ap₂ _%_ v (sym first) ∙ sym so ∙ e)
 

@@ -1,14 +1,14 @@
 -- Amounts of at most c of which at most one is neither 0 nor c: how many are c, and what the one is (document 02, 2.6).
 -- Main statement: `few-loads`. Assumes nothing.
-use mathlib.Core.Path.{_≡_, refl, sym, ap, _∙_, subst}
+use mathlib.Core.Path.{_≡_, refl, sym, ap, _∙_}
 use mathlib.Core.Logic.{_⊎_, inl, inr, ⊎-elim}
-use Prim.Native.Nat.{ℕ, zero, suc, _+_, _-_, _*_, _/_, _%_, _≤_, _<_}
+use Prim.Native.Nat.{ℕ, zero, suc, _+_, _*_, _/_, _%_, _≤_, _<_}
 use native.Mathlib.Nat.{eq-or-lt-of-le, eq-zero-or-pos, le-of-suc-le-suc}
 use native.Mathlib.Decide.{decLt}
 use native.Mathlib.Omega.{arith}
 use lib.Arith.{digits-div, digits-mod}
 use Rattle.day.specs.Sums.{sumTo, below}
-use Rattle.day.specs.Loads.{fullTo, partTo, full-yes, full-no, part-yes, part-no, idle-none, added, RunLoads}
+use Rattle.day.specs.Loads.{fullTo, partTo, full-yes, full-no, part-yes, part-no, idle-none, madeIn, RunLoads}
 
 -- x k is neither 0 nor the capacity
 abbrev pub Part : (c x : ℕ → ℕ) → ℕ → Type 0
@@ -20,10 +20,6 @@ pub record FewParts (c x : ℕ → ℕ) (a b : ℕ) : Type 0 where
   pub same : (k : ℕ) → k < b → c k ≡ c 0
   pub within : (k : ℕ) → k < b → x k ≤ c k
   pub one : (i j : ℕ) → a ≤ i → i < j → j < b → Part c x i → Part c x j → ⊥
-
--- W: what the periods a + 1 to b make
-abbrev pub made : (ℕ → ℕ) → (a b : ℕ) → ℕ
-made x a b = added (sumTo x) a b
 
 module _ (c x : ℕ → ℕ) (a b : ℕ) (few : FewParts c x a b) where
   -- beside full loads r is made, by no period up to e
@@ -131,13 +127,13 @@ module _ (c x : ℕ → ℕ) (a b : ℕ) (few : FewParts c x a b) where
         (λ p. omega (arith, p .part .1, p .makes, few .same (p .k) (p .inside)))
         (s .parts)
 
-    split : s .q * c 0 + s .r ≡ made x a b
+    split : s .q * c 0 + s .r ≡ madeIn x a b
     split = omega (arith, s .sum)
 
-    over : made x a b / c 0 ≡ s .q
+    over : madeIn x a b / c 0 ≡ s .q
     over = ap (λ (v : ℕ). v / c 0) (sym split) ∙ digits-div (s .q) small
 
-    left : made x a b % c 0 ≡ s .r
+    left : madeIn x a b % c 0 ≡ s .r
     left = ap (λ (v : ℕ). v % c 0) (sym split) ∙ digits-mod (s .q) small
 
     counts : RunLoads c x a b
@@ -148,7 +144,7 @@ module _ (c x : ℕ → ℕ) (a b : ℕ) (few : FewParts c x a b) where
           none = λ nothing. ⊎-elim (λ p. omega (arith, p .count)) (λ p. omega (arith, p .part .0, p .makes, left)) (s .parts);
         }
 
-    amount : (k : ℕ) → a ≤ k → k < b → Part c x k → x k ≡ made x a b % c 0
+    amount : (k : ℕ) → a ≤ k → k < b → Part c x k → x k ≡ madeIn x a b % c 0
     amount k l h part = ⊎-elim (λ p. absurd (p .none k h l part)) (λ p. alike p (decLt k (p .k)) (decLt (p .k) k) ∙ p .makes ∙ sym left) (s .parts)
       where
         alike : (p : OnePart b (s .r)) → Dec (k < p .k) → Dec (p .k < k) → x k ≡ x (p .k)
@@ -157,5 +153,5 @@ module _ (c x : ℕ → ℕ) (a b : ℕ) (few : FewParts c x a b) where
         alike p (no f) (no g) = let e : k ≡ p .k = omega arith in ap x e
 
   -- Their loads are counted, and the one that is part-loaded makes the remainder.
-  pub few-loads : a ≤ b → RunLoads c x a b × ((k : ℕ) → a ≤ k → k < b → Part c x k → x k ≡ made x a b % c 0)
+  pub few-loads : a ≤ b → RunLoads c x a b × ((k : ℕ) → a ≤ k → k < b → Part c x k → x k ≡ madeIn x a b % c 0)
   few-loads l = let s = shapes b l (omega arith) in (counts s, amount s)
