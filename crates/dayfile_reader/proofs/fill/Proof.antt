@@ -98,6 +98,7 @@ fill-spec =
     tie.close
     (tie.spec
     Inv-loop μ-loop (λ c κs. search needs) loop-holds add-start next-requires index sub-decode sub-decode part-decode-end decode-requires put-requires
-    add-k (λ c. omega arith) loop-again (λ c. c .before .loop .inv .filled .cells .demand)
-    (λ c. c .before .loop .inv .filled .cells .capacity) (λ c. c .before .loop .inv .filled .cells .setup)
-    (λ c. c .before .loop .inv .filled .cells .unit) (λ c. c .before .loop .inv .filled .cells .holding) (λ c. c .before .loop .inv .filled .cells .store) returns)
+    add-k (λ c. omega arith) loop-again
+    (λ c. c .before .loop .inv .filled .cells .demand) (λ c. c .before .loop .inv .filled .cells .capacity)
+    (λ c. c .before .loop .inv .filled .cells .setup) (λ c. c .before .loop .inv .filled .cells .unit)
+    (λ c. c .before .loop .inv .filled .cells .holding) (λ c. c .before .loop .inv .filled .cells .store) returns)
