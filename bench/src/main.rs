@@ -27,7 +27,7 @@ impl Areas {
 
 /// The test load of request 2.7 that a seed gives, drawn by the library.
 fn drawn(seed: u32, n: usize) -> Day {
-    let mut day = plain::Day {
+    let mut day = Day {
         demand: vec![0; n],
         capacity: vec![0; n],
         setup: vec![0; n],
@@ -47,7 +47,7 @@ fn first_seed() -> u32 {
     (0..).find(|&seed| plain::shortage(&drawn(seed, 96)).is_none()).expect("a load with a plan")
 }
 
-/// A capacity for every period in place of the drawn ones.
+/// Capacities as drawn, or one for every period in their place.
 #[derive(Clone, Copy, PartialEq)]
 enum Capacity {
     Drawn,
