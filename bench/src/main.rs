@@ -48,23 +48,18 @@ fn first_seed() -> u32 {
 }
 
 /// Capacities as drawn, or one for every period in their place.
-#[derive(Clone, Copy, PartialEq)]
+#[derive(Clone, Copy)]
 enum Capacity {
     Drawn,
     One(u16),
 }
 
 impl Capacity {
-    fn of(self, day: Day) -> Day {
+    fn set_in(self, day: Day) -> Day {
         match self {
             Capacity::Drawn => day,
             Capacity::One(capacity) => Day { capacity: vec![capacity; day.periods()], ..day },
         }
-    }
-
-    /// Whether it can't bind, whatever is needed.
-    fn is_ample(self) -> bool {
-        self == Capacity::One(65_535)
     }
 }
 
@@ -186,7 +181,7 @@ fn with_store(seed: u32) {
     println!("|---|---|---|---|---|---|");
     for capacity in [Capacity::One(60), Capacity::One(65_535)] {
         for limit in [10, 50, 250, 1000] {
-            let unlimited = capacity.of(drawn(seed, 96));
+            let unlimited = capacity.set_in(drawn(seed, 96));
             let limited = Day { store: vec![limit; 96], ..unlimited.clone() };
             let (time, plain, letter) = compare(Path::Full, &limited);
             println!(
@@ -205,12 +200,15 @@ const PATHS: [(Path, &str); 3] = [(Path::Full, "full"), (Path::Uncapped, "uncapp
 /// The free path beside those that may serve the same days: what a station would take without it.
 fn without_starts(seed: u32) {
     println!("\n## Days without starting cost\n");
-    println!("The same with every start cost 0; the ratios are the free path's. It serves at most 2 × n batches, whatever R is.\n");
+    println!(
+        "Test loads of 96 periods and fewer, with every start cost 0; the ratios are the free path's, and a dash says that a capacity may \
+         bind. It serves at most 2 × n batches, whatever R is.\n"
+    );
     println!("| n | Capacity | full | uncapped | free | To the plain program | To recursion (5) |");
     println!("|---|---|---|---|---|---|---|");
     for (n, capacity) in [96, 48, 24, 12].into_iter().flat_map(|n| CAPACITIES.map(|capacity| (n, capacity))) {
-        let day = Day { setup: vec![0; n], ..capacity.of(drawn(seed, n)) };
-        let uncapped = if capacity.is_ample() { alone(Path::Uncapped, &day).time() } else { "–".to_string() };
+        let day = Day { setup: vec![0; n], ..capacity.set_in(drawn(seed, n)) };
+        let uncapped = if plain::binding(&day).is_none() { alone(Path::Uncapped, &day).time() } else { "–".to_string() };
         let (time, plain, letter) = compare(Path::Free, &day);
         println!(
             "| {n} | {capacity} | {} | {uncapped} | {} | {} | {} |",
@@ -228,7 +226,7 @@ fn with_n(seed: u32) {
     println!("| n | R | full, capacity 60 | uncapped | equal, capacity 60 |");
     println!("|---|---|---|---|---|");
     for n in [12, 24, 48, 96] {
-        let [capped, unbound] = [60, 65_535].map(|capacity| Capacity::One(capacity).of(drawn(seed, n)));
+        let [capped, unbound] = [60, 65_535].map(|capacity| Capacity::One(capacity).set_in(drawn(seed, n)));
         println!(
             "| {n} | {} | {} | {} | {} |",
             capped.total(),
@@ -241,12 +239,12 @@ fn with_n(seed: u32) {
 
 /// The paths on days with more and more need.
 fn with_need(seed: u32) {
-    println!("\n## Growth with R\n\nn is 96; the needs are a quarter, half, once and twice those that are drawn, rounded down.\n");
+    println!("\n## Growth with R\n\nn is 96; the needs are those drawn times ¼, ½, 1 and 2, rounded down.\n");
     println!("| R | full, capacity 80 | full, capacity 65,535 | uncapped | equal, capacity 80 |");
     println!("|---|---|---|---|---|");
     for quarters in [1, 2, 4, 8] {
         let [capped, unbound] = [80, 65_535].map(|capacity| {
-            let day = Capacity::One(capacity).of(drawn(seed, 96));
+            let day = Capacity::One(capacity).set_in(drawn(seed, 96));
             Day { demand: day.demand.iter().map(|need| need * quarters / 4).collect(), ..day }
         });
         println!(
@@ -283,10 +281,11 @@ fn main() {
     println!("|---|---|---|---|---|");
     for (path, name) in PATHS {
         for capacity in CAPACITIES {
-            if path == Path::Uncapped && !capacity.is_ample() || path == Path::Equal && capacity == Capacity::Drawn {
+            let day = capacity.set_in(drawn(seed, 96));
+            if path == Path::Uncapped && plain::binding(&day).is_some() || path == Path::Equal && plain::unequal(&day).is_some() {
                 continue;
             }
-            let (time, plain, letter) = compare(path, &capacity.of(drawn(seed, 96)));
+            let (time, plain, letter) = compare(path, &day);
             println!("| {name} | {capacity} | {} | {} | {} |", time.time(), plain.ratio(), letter.ratio());
         }
     }

@@ -233,7 +233,7 @@ fn show_cell(part: &str, expected: &[u64], seen: &[u64]) {
 
 /// What was to be seen, and what was; the first cell of each part that differs.
 fn show_seen(expected: &compare::Seen, seen: &compare::Seen) {
-    for (which, said) in [("expected", &expected), ("seen    ", &seen)] {
+    for (which, said) in [("expected", expected), ("seen    ", seen)] {
         println!("{which} code {} (number {}, period {}), out {:?}", said.code, said.code % 256, said.code / 256, said.values());
     }
     show_cell("out-array", &expected.out, &seen.out);

@@ -65,9 +65,14 @@ impl TestLoad {
         tries
     }
 
-    /// One that still fails, and of which no smaller try does.
+    /// One that still fails, and of which no smaller try does; or what was found in good time.
     pub fn smallest(&self) -> TestLoad {
-        self.smaller().into_iter().find(TestLoad::fails).map_or_else(|| self.clone(), |other| other.smallest())
+        let mut found = self.clone();
+        for _ in 0..10_000 {
+            let Some(other) = found.smaller().into_iter().find(TestLoad::fails) else { break };
+            found = other;
+        }
+        found
     }
 }
 
@@ -152,8 +157,8 @@ pub fn check_draws() {
     assert!(day.store.iter().all(|&s| s == NO_LIMIT) && day.opening == 0 && day.closing == 0);
 }
 
-/// The other calls on days that are drawn: as they are, and for a path that refuses them with capacities that can't bind, or without
-/// starting cost.
+/// The other calls on days that are drawn: as they are, and with capacities that can't bind, or without starting cost, by the paths for
+/// such days and the full path.
 pub fn inputs(random: &mut Random) -> Vec<Input> {
     let mut inputs = vec![];
     for (n, times) in [(1, 40), (2, 40), (5, 40), (24, 20), (MAX_PERIODS, 3)] {

@@ -4,7 +4,7 @@ use mathlib.Core.Path.{_≡_}
 use mathlib.Core.Option.{Option, none, some}
 use mathlib.Core.List.{List, [], _∷_, _++_}
 use Prim.Native.Nat.{ℕ, _+_, _-_}
-use lib.ListN.{length, take, drop}
+use lib.ListN.{length, drop}
 use denote.Ref.{RefT, now}
 use Rattle.day.specs.Sums.{at}
 use Rattle.day.specs.Day.{Day, tablesOf, periods}
@@ -52,20 +52,17 @@ lookupFigures s i = partFigures (badLookup s i) s i
 abbrev pub badRead : List ℕ → ℕ → Option Refusal
 badRead s cells = first (fileTests s ++ (badSlots cells (periodsIn s) ∷ badValue (dayIn s) ∷ []))
 
--- tables whose first k cells take the numbers of the file's first k periods
-abbrev pub withPeriods : List ℕ → ℕ → Day → Day
-withPeriods s k tables =
-    tablesOf
-    (withFirst (field number2 0 s) k (tables .demand))
-    (withFirst (field number2 2 s) k (tables .capacity))
-    (withFirst (field number4 4 s) k (tables .setup))
-    (withFirst (field number4 8 s) k (tables .unit))
-    (withFirst (field number4 12 s) k (tables .holding))
-    (withFirst (storeIn s) k (tables .store))
-
--- and of all its periods: the file's day at the tables' front
+-- tables whose first cells take the numbers of the file's periods: its day at their front
 abbrev pub withDay : List ℕ → Day → Day
-withDay s tables = withPeriods s (periodsIn s) tables
+withDay s tables =
+    let n = periodsIn s in
+    tablesOf
+    (withFirst (field number2 0 s) n (tables .demand))
+    (withFirst (field number2 2 s) n (tables .capacity))
+    (withFirst (field number4 4 s) n (tables .setup))
+    (withFirst (field number4 8 s) n (tables .unit))
+    (withFirst (field number4 12 s) n (tables .holding))
+    (withFirst (storeIn s) n (tables .store))
 
 -- a day's tables at the front of the lent ones, whose later cells stay
 abbrev pub withTables : Day → Day → Day

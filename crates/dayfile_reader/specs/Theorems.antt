@@ -6,7 +6,7 @@ use Rattle.day.specs.declared.Ends.{Ends}
 use Rattle.day.specs.Day.{Day}
 use Rattle.day.specs.File.{number2, number4, Layout, periodsIn, chargeIn, field, storeIn}
 use Rattle.dayfile.specs.declared.ReadAnswer.the-variants.{Periods}
-use Rattle.tables.specs.Filled.{TableFilled, table-filled}
+use Rattle.tables.specs.Filled.{FrontFilled, front-filled}
 use Rattle.dayfile.specs.Answers.{Reading}
 use Rattle.dayfile.specs.Passed.{read-given}
 use Rattle.dayfile.specs.Layout.{laid-out}
@@ -18,12 +18,12 @@ pub record Read (s : List ℕ) (n : ℕ) (ends : Ends) (before after : Day) : Ty
   pub layout : Layout s n
   pub opening : ends .opening ≡ chargeIn 0 s
   pub closing : ends .closing ≡ chargeIn 2 s
-  pub demand : TableFilled n (field number2 0 s) (before .demand) (after .demand)
-  pub capacity : TableFilled n (field number2 2 s) (before .capacity) (after .capacity)
-  pub setup : TableFilled n (field number4 4 s) (before .setup) (after .setup)
-  pub unit : TableFilled n (field number4 8 s) (before .unit) (after .unit)
-  pub holding : TableFilled n (field number4 12 s) (before .holding) (after .holding)
-  pub store : TableFilled n (storeIn s) (before .store) (after .store)
+  pub demand : FrontFilled n (field number2 0 s) (before .demand) (after .demand)
+  pub capacity : FrontFilled n (field number2 2 s) (before .capacity) (after .capacity)
+  pub setup : FrontFilled n (field number4 4 s) (before .setup) (after .setup)
+  pub unit : FrontFilled n (field number4 8 s) (before .unit) (after .unit)
+  pub holding : FrontFilled n (field number4 12 s) (before .holding) (after .holding)
+  pub store : FrontFilled n (storeIn s) (before .store) (after .store)
 
 pub reader-gives : (s : List ℕ) (n : ℕ) (ends : Ends) (before after : Day) → Reading s before (Periods n ends) after → Read s n ends before after
 reader-gives s n ends before after w =
@@ -34,10 +34,10 @@ reader-gives s n ends before after w =
       layout = laid-out s (c .walked);
       opening = refl;
       closing = refl;
-      demand = table-filled (periodsIn s) (field number2 0 s) (before .demand) (c .cells .demand);
-      capacity = table-filled (periodsIn s) (field number2 2 s) (before .capacity) (c .cells .capacity);
-      setup = table-filled (periodsIn s) (field number4 4 s) (before .setup) (c .cells .setup);
-      unit = table-filled (periodsIn s) (field number4 8 s) (before .unit) (c .cells .unit);
-      holding = table-filled (periodsIn s) (field number4 12 s) (before .holding) (c .cells .holding);
-      store = table-filled (periodsIn s) (storeIn s) (before .store) (c .cells .store);
+      demand = front-filled (periodsIn s) (field number2 0 s) (before .demand) (c .cells .demand);
+      capacity = front-filled (periodsIn s) (field number2 2 s) (before .capacity) (c .cells .capacity);
+      setup = front-filled (periodsIn s) (field number4 4 s) (before .setup) (c .cells .setup);
+      unit = front-filled (periodsIn s) (field number4 8 s) (before .unit) (c .cells .unit);
+      holding = front-filled (periodsIn s) (field number4 12 s) (before .holding) (c .cells .holding);
+      store = front-filled (periodsIn s) (storeIn s) (before .store) (c .cells .store);
     })

@@ -1,6 +1,6 @@
 -- Six lent tables whose first cells take the numbers of a day's periods, one after the other; later cells keep what they held.
--- Main definitions: `Cells`, `shortest`, `withNumbers`, `firstOf`, `TableFilled`. Main statements: `cells-enough`, room as test 6 asks for it;
--- `filled-more`, a turn of a loop that fills; `table-filled`, one table cell by cell. Assumes nothing.
+-- Main definitions: `Cells`, `shortest`, `withFirst`, `withNumbers`, `firstOf`, `FrontFilled`. Main statements: `cells-enough`, room as test 6 asks for it;
+-- `filled-more`, a turn of a loop that fills; `front-filled`, one table cell by cell. Assumes nothing.
 use mathlib.Core.Path.{_≡_, refl, ap, _∙_}
 use mathlib.Core.List.{List, [], _∷_, _++_}
 use Prim.Native.Nat.{ℕ, zero, suc, _+_, _≤_, _<_, min}
@@ -93,13 +93,13 @@ with-more f zero (x ∷ l) h = refl
 with-more f (suc k) (x ∷ l) h = ap (λ (r : List ℕ). f 0 ∷ r) (with-more (λ j. f (suc j)) k l (le-of-suc-le-suc h))
 
 -- one table whose first n cells hold these numbers, the later cells what they held
-pub record TableFilled (n : ℕ) (number : ℕ → ℕ) (before after : List ℕ) : Type 0 where
+pub record FrontFilled (n : ℕ) (number : ℕ → ℕ) (before after : List ℕ) : Type 0 where
   pub entry : (k : ℕ) → k < n → at after k ≡ number k
   pub rest : drop n after ≡ drop n before
   pub size : length after ≡ length before
 
-pub table-filled : (n : ℕ) (f : ℕ → ℕ) (before : List ℕ) → n ≤ length before → TableFilled n f before (withFirst f n before)
-table-filled n f before l = record {
+pub front-filled : (n : ℕ) (f : ℕ → ℕ) (before : List ℕ) → n ≤ length before → FrontFilled n f before (withFirst f n before)
+front-filled n f before l = record {
   entry = λ k lt. List·getD-append (listOf f n) (drop n before) 0 k (rw length-listOf lt) ∙ at-listOf f n k lt;
   rest = drop-at (listOf f n) (drop n before) n (length-listOf f n);
   size = with-length f n before l;

@@ -5,17 +5,15 @@ use mathlib.Core.Option.{none}
 use Prim.Native.Nat.{ℕ, suc, _+_, _*_, _≤_, _<_}
 use native.Mathlib.Omega.{arith}
 use borrow.Author.Tests.{ltb-false}
-use Rattle.day.specs.Day.{Day, maxPeriods, maxStore}
+use Rattle.day.specs.Day.{Day, maxPeriods}
 use Rattle.day.specs.declared.Refusal.the-variants.{FewSlots}
 use Rattle.day.specs.Refusals.{badCount, badSlots}
 use Rattle.day.specs.Tests.{first-two, not-refused}
 use Rattle.checks.specs.Passed.{count-passed}
-use Rattle.tables.specs.declared.Numbers.{Numbers}
 use Rattle.tables.specs.Filled.{Cells, shortest, cells-enough, stored, Filled, filled-more}
 use Rattle.test_load.specs.declared.Drawn.{Drawn}
 use Rattle.test_load.specs.Draws.{seedAfter}
-use Rattle.test_load.specs.Draws as draws
-use Rattle.test_load.specs.Load.{badLoad}
+use Rattle.test_load.specs.Load.{badLoad, numbersAt}
 
 -- what the tests leave: 1 to 96 periods, and as many cells in each table
 pub record Taken (n : ℕ) (tables : Day) : Type 0 where
@@ -32,17 +30,6 @@ load-passed n tables e =
       few = count .1;
       cells = cells-enough n tables (ltb-false (shortest tables) n (not-refused _ FewSlots (t .1)));
     }
-
--- the numbers of period k + 1
-abbrev pub numbersAt : ℕ → ℕ → Numbers
-numbersAt seed k = record {
-  demand = draws.need seed k;
-  capacity = draws.capacity seed k;
-  setup = draws.start seed k;
-  unit = draws.unit seed k;
-  holding = draws.upkeep seed k;
-  store = maxStore;
-}
 
 -- one period, from the seed before its draws: the first of the load that this seed gives; and the seed after them
 unfoldable pub drawnFrom : ℕ → Drawn
@@ -70,8 +57,8 @@ pub draws-turn : (seed n : ℕ) (before : Day) (k at : ℕ) (after later : Day) 
     → PeriodsDrawn seed n before k at after → k < n → Cells n before → drawn ≡ drawnFrom at → later ≡ stored k (drawn .numbers) after
     → PeriodsDrawn seed n before (k + 1) (drawn .seed) later
 draws-turn seed n before k at after later w l c e put =
-    let drawn = rw (w .here, next-period seed k) at e in
+    let same = rw (w .here, next-period seed k) at e in
     record {
-      here = rw drawn refl;
-      filled = filled-more _ _ _ _ _ (w .filled) l c later (rw drawn at put);
+      here = rw same refl;
+      filled = filled-more _ _ _ _ _ (w .filled) l c later (rw same at put);
     }

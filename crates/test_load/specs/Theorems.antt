@@ -12,31 +12,31 @@ use Rattle.day.specs.Day.{Day, noEnds, tablesOf, periods, maxStore, maxPeriods,
 use Rattle.day.specs.Refusals.{refuseAt, first, dayTests, tight, lowStore}
 use Rattle.day.specs.declared.Check.the-variants.{Passed}
 use Rattle.checks.specs.Passed.{Within, DayLimits, day-passes}
-use Rattle.tables.specs.Filled.{firstOf, with-front, TableFilled, table-filled}
+use Rattle.tables.specs.Filled.{firstOf, with-front, FrontFilled, front-filled}
 use Rattle.test_load.specs.Draws as draws
 use Rattle.test_load.specs.Load.{Loading}
 use Rattle.test_load.specs.Periods.{load-passed}
 
 -- each table's first n cells hold what is drawn for each period, the store limits 65,535, and later cells what they held
 pub record Loaded (seed n : ℕ) (before after : Day) : Type 0 where
-  pub demand : TableFilled n (draws.need seed) (before .demand) (after .demand)
-  pub capacity : TableFilled n (draws.capacity seed) (before .capacity) (after .capacity)
-  pub setup : TableFilled n (draws.start seed) (before .setup) (after .setup)
-  pub unit : TableFilled n (draws.unit seed) (before .unit) (after .unit)
-  pub holding : TableFilled n (draws.upkeep seed) (before .holding) (after .holding)
-  pub store : TableFilled n (λ _. maxStore) (before .store) (after .store)
+  pub demand : FrontFilled n (draws.need seed) (before .demand) (after .demand)
+  pub capacity : FrontFilled n (draws.capacity seed) (before .capacity) (after .capacity)
+  pub setup : FrontFilled n (draws.start seed) (before .setup) (after .setup)
+  pub unit : FrontFilled n (draws.unit seed) (before .unit) (after .unit)
+  pub holding : FrontFilled n (draws.upkeep seed) (before .holding) (after .holding)
+  pub store : FrontFilled n (λ _. maxStore) (before .store) (after .store)
 
 pub load-gives : (seed n : ℕ) (before after : Day) → Loading seed n before Passed after → Loaded seed n before after
 load-gives seed n before after w =
     let c = load-passed n before (w .0) .cells in
     rw (w .1)
     (record {
-      demand = table-filled n (draws.need seed) (before .demand) (c .demand);
-      capacity = table-filled n (draws.capacity seed) (before .capacity) (c .capacity);
-      setup = table-filled n (draws.start seed) (before .setup) (c .setup);
-      unit = table-filled n (draws.unit seed) (before .unit) (c .unit);
-      holding = table-filled n (draws.upkeep seed) (before .holding) (c .holding);
-      store = table-filled n (λ _. maxStore) (before .store) (c .store);
+      demand = front-filled n (draws.need seed) (before .demand) (c .demand);
+      capacity = front-filled n (draws.capacity seed) (before .capacity) (c .capacity);
+      setup = front-filled n (draws.start seed) (before .setup) (c .setup);
+      unit = front-filled n (draws.unit seed) (before .unit) (c .unit);
+      holding = front-filled n (draws.upkeep seed) (before .holding) (c .holding);
+      store = front-filled n (λ _. maxStore) (before .store) (c .store);
     })
 
 -- the day that the draws make, of n periods: A and Z are 0

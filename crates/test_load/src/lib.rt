@@ -81,7 +81,7 @@ fn draw_periods(
     }
 }
 
-// 1, then 6, for tables of at least `cells` cells.
+// 1, then 6; `cells` is how many the shortest table has.
 fn tests(n: usize, cells: usize) -> Check
     ensures { λ r. ⌜ r ≡ checked (badLoad n cells) ⌝ }
 {
