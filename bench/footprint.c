@@ -18,7 +18,7 @@ static uint16_t opening, closing;
 #define DAY need, n, capacity, n, start, n, unit, n, upkeep, n, store, n, opening, closing
 #define MEMORY costs, sizeof costs / sizeof *costs, choices, sizeof choices / sizeof *choices, plan, PERIODS
 
-static uint64_t answer[3], code;
+static uint64_t answer[4], code;
 static int64_t difference[1];
 
 static void full(void) { code = yakkurem_full(DAY, MEMORY, answer); }

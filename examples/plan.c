@@ -1,5 +1,6 @@
 /* Plans a day with needs 2 and 3 that begins with a charge of 1 and hands on 1, and prints what is made in each period: by the full path;
- * with a battery that holds 2; and on mains, where no start costs anything, by the free path. */
+ * with a battery that holds 2; on mains, where no start costs anything, by the free path; and by the equal path with a cell that makes 3 at
+ * most, which also counts the periods in which it makes 3, and those in which it makes less. */
 #include <stdio.h>
 #include "yakkurem.h"
 
@@ -10,9 +11,9 @@ static int show(uint64_t code, const uint64_t answer[2], const uint16_t made[2])
 }
 
 int main(void) {
-    uint16_t need[] = {2, 3}, capacity[] = {5, 5}, store[] = {65535, 65535}, small[] = {2, 2}, made[2], choices[12];
+    uint16_t need[] = {2, 3}, capacity[] = {5, 5}, three[] = {3, 3}, store[] = {65535, 65535}, small[] = {2, 2}, made[2], choices[36];
     uint32_t start[] = {10, 10}, none[] = {0, 0}, unit[] = {1, 1}, upkeep[] = {1, 1};
-    uint64_t costs[12], answer[2];
+    uint64_t costs[18], answer[4];
     uint16_t opening = 1, closing = 1;
     uint64_t code = yakkurem_full(
         need, 2, capacity, 2, start, 2, unit, 2, upkeep, 2, store, 2, opening, closing, costs, 12, choices, 12, made, 2, answer);
@@ -21,5 +22,10 @@ int main(void) {
         need, 2, capacity, 2, start, 2, unit, 2, upkeep, 2, small, 2, opening, closing, costs, 12, choices, 12, made, 2, answer);
     refused |= show(code, answer, made);
     code = yakkurem_free(need, 2, capacity, 2, none, 2, unit, 2, upkeep, 2, store, 2, opening, closing, costs, 2, made, 2, answer);
-    return show(code, answer, made) || refused;
+    refused |= show(code, answer, made);
+    code = yakkurem_equal(
+        need, 2, three, 2, start, 2, unit, 2, upkeep, 2, store, 2, opening, closing, costs, 18, choices, 36, made, 2, answer);
+    refused |= show(code, answer, made);
+    if (code == 0) printf("full-load periods %u part-loaded %u\n", (unsigned)answer[2], (unsigned)answer[3]);
+    return refused;
 }

@@ -82,10 +82,16 @@ extern "C" {
  * T is what a plan makes in all: need over the day + closing - opening. A capacity can't bind if it is at least T less what
  * the periods before it need beyond opening (0 where opening covers them). Areas of 8194 and 393312 cells serve the full
  * path on any day, 582 and 37636 the uncapped and the equal one, and a cost area of 96 the free one. yakkurem_free plans
- * like the others, for free starts; it releases nothing. */
+ * like the others, for free starts; it releases nothing.
+ *
+ * The answer of yakkurem_equal has two numbers more, after cost and starts: the plan's full-load periods, which make the
+ * capacity c, and its part-loaded ones, which make something and less than c. Both are 0 where c is 0. A run is a stretch of
+ * periods between two moments with empty store, the charge being above 0 in between; it also begins and ends with the day.
+ * Where c is above 0 and a run makes W in all, exactly W / c of its periods, rounded down, make c, and exactly one is
+ * part-loaded if W % c is above 0, none if it is 0. So the two numbers are the sums of these over the runs. */
 uint64_t yakkurem_full(YAKKUREM_DAY, YAKKUREM_MEMORY, uint64_t answer[2]);
 uint64_t yakkurem_uncapped(YAKKUREM_DAY, YAKKUREM_MEMORY, uint64_t answer[2]);
-uint64_t yakkurem_equal(YAKKUREM_DAY, YAKKUREM_MEMORY, uint64_t answer[2]);
+uint64_t yakkurem_equal(YAKKUREM_DAY, YAKKUREM_MEMORY, uint64_t answer[4]);
 uint64_t yakkurem_free(YAKKUREM_DAY, uint64_t *cost_area, size_t cost_cells, uint16_t *slots, size_t slot_count, uint64_t answer[2]);
 
 /* Weighs somebody's plan. Accepted, it holds, and answer holds its cost and its starts. Else the first period that breaks

@@ -59,7 +59,7 @@ fn library(path: Path, day: &Day, areas: &mut Areas) -> u64 {
     let planned = match path {
         Path::Full => yakkurem::full(day, memory),
         Path::Uncapped => yakkurem::uncapped(day, memory),
-        Path::Equal => yakkurem::equal(day, memory),
+        Path::Equal => yakkurem::equal(day, memory).map(|planned| planned.totals),
         Path::Free => yakkurem::free(day, memory.costs, memory.slots),
     };
     planned.expect("a day that the path accepts").cost

@@ -1,10 +1,10 @@
 //! What a call should answer and leave behind, and what it does.
 use crate::input::{Call, Input};
-use crate::plain::{self, Path, Rule, Verdict};
+use crate::plain::{self, Loads, Path, Rule, Verdict};
 use crate::random::mix;
-use yakkurem::{codes, fault, Day, Fault, Filled, Memory, Refusal, TablesMut};
+use yakkurem::{codes, fault, Day, EqualTotals, Fault, Filled, Memory, Refusal, TablesMut, Totals};
 
-/// Everything that a caller can see after a call: its code, its out-array, and each lent part with the cells around it.
+/// Everything that a caller can see after a call: its code, its out-array, and each lent part, with the cells around them.
 #[derive(Clone, Debug, PartialEq)]
 pub struct Seen {
     pub code: u64,
@@ -12,8 +12,20 @@ pub struct Seen {
     pub lent: Vec<Vec<u64>>,
 }
 
-/// Cells before and after what is lent, which no call may touch.
-const AROUND: usize = 8;
+/// Cells before and after what is lent and the out-array, which no call may touch.
+pub const AROUND: usize = 8;
+
+impl Seen {
+    /// The numbers in the out-array.
+    pub fn values(&self) -> &[u64] {
+        &self.out[AROUND..self.out.len() - AROUND]
+    }
+
+    /// The plan of a path, in its slots.
+    pub fn plan(&self, periods: usize) -> Vec<u16> {
+        self.lent.last().unwrap()[AROUND..][..periods].iter().map(|&x| x as u16).collect()
+    }
+}
 
 /// A cell of any width, filled from a wide pattern and shown as a wide number.
 pub trait Cell: Copy {
@@ -43,9 +55,14 @@ fn wide<T: Cell>(cells: &[T]) -> Vec<u64> {
     cells.iter().map(|&cell| cell.wide()).collect()
 }
 
-/// The out-array's pattern.
-fn out<T: Cell, const N: usize>() -> [T; N] {
-    std::array::from_fn(|i| T::of(mix(0xabcd + i as u64)))
+/// An out-array's pattern, with the cells around it.
+fn out<T: Cell>(length: usize) -> Vec<T> {
+    pattern(6, length)
+}
+
+/// The out-array itself.
+fn array<T, const N: usize>(cells: &mut [T]) -> &mut [T; N] {
+    lent(cells).try_into().unwrap()
 }
 
 /// The parts that a call is lent, as they are before it.
@@ -94,7 +111,12 @@ fn accepted_path(path: Path, input: &Input, seen: &mut Seen) {
     fill(&mut seen.lent[0], &vec![0u64; costs]);
     fill(&mut seen.lent[1], &vec![0u16; choices]);
     fill(&mut seen.lent[2], &planned.plan);
-    seen.out = vec![planned.totals.cost, planned.totals.setups];
+    let mut answer = vec![planned.totals.cost, planned.totals.setups];
+    if path == Path::Equal {
+        let Loads { full, part } = plain::loads(&input.day, &planned.plan);
+        answer.extend([full, part]);
+    }
+    fill(&mut seen.out, &answer);
 }
 
 /// The plan by the rule. Where it does not take long, the search or recursion (5) is to give it too.
@@ -105,12 +127,12 @@ fn accepted_free(input: &Input, seen: &mut Seen) {
     }
     fill(&mut seen.lent[0], &vec![0u64; plain::cells(Path::Free, &input.day).0]);
     fill(&mut seen.lent[1], &planned.plan);
-    seen.out = vec![planned.totals.cost, planned.totals.setups];
+    fill(&mut seen.out, &[planned.totals.cost, planned.totals.setups]);
 }
 
 fn accepted_comparison(input: &Input, seen: &mut Seen) {
     match (plain::verdict(&input.day, &input.plans[0]), plain::verdict(&input.day, &input.plans[1])) {
-        (Verdict::Holds(first), Verdict::Holds(second)) => seen.out = vec![(first.cost as i64 - second.cost as i64) as u64],
+        (Verdict::Holds(first), Verdict::Holds(second)) => fill(&mut seen.out, &[first.cost as i64 - second.cost as i64]),
         (Verdict::Broken(rule, period), _) | (_, Verdict::Broken(rule, period)) => seen.code = broken(rule, period),
     }
 }
@@ -118,10 +140,11 @@ fn accepted_comparison(input: &Input, seen: &mut Seen) {
 /// What the papers say.
 pub fn expected(input: &Input) -> Seen {
     let unwritten = match input.call {
-        Call::Full | Call::Uncapped | Call::Equal | Call::Free | Call::Weigh | Call::Lookup => wide(&out::<u64, 2>()),
-        Call::Compare => wide(&out::<i64, 1>()),
-        Call::Read => wide(&out::<u64, 3>()),
-        Call::Write => wide(&out::<u64, 1>()),
+        Call::Full | Call::Uncapped | Call::Free | Call::Weigh | Call::Lookup => wide::<u64>(&out(2)),
+        Call::Equal => wide::<u64>(&out(4)),
+        Call::Compare => wide::<i64>(&out(1)),
+        Call::Read => wide::<u64>(&out(3)),
+        Call::Write => wide::<u64>(&out(1)),
     };
     let mut seen = Seen { code: 0, out: unwritten, lent: before(input) };
     if let Some(refusal) = input.refusals().first() {
@@ -134,7 +157,7 @@ pub fn expected(input: &Input) -> Seen {
         Call::Equal => accepted_path(Path::Equal, input, &mut seen),
         Call::Free => accepted_free(input, &mut seen),
         Call::Weigh => match plain::verdict(&input.day, &input.plans[0]) {
-            Verdict::Holds(totals) => seen.out = vec![totals.cost, totals.setups],
+            Verdict::Holds(totals) => fill(&mut seen.out, &[totals.cost, totals.setups]),
             Verdict::Broken(rule, period) => seen.code = broken(rule, period),
         },
         Call::Compare => accepted_comparison(input, &mut seen),
@@ -146,13 +169,13 @@ pub fn expected(input: &Input) -> Seen {
             fill(&mut seen.lent[3], &day.unit);
             fill(&mut seen.lent[4], &day.holding);
             fill(&mut seen.lent[5], &day.store);
-            seen.out = vec![day.periods() as u64, day.opening as u64, day.closing as u64];
+            fill(&mut seen.out, &[day.periods() as u64, day.opening as u64, day.closing as u64]);
         }
-        Call::Lookup => seen.out = plain::walk(&input.file).unwrap().places[input.period - 1].map(|v| v as u64).into(),
+        Call::Lookup => fill(&mut seen.out, &plain::walk(&input.file).unwrap().places[input.period - 1].map(|v| v as u64)),
         Call::Write => {
             let file = plain::file_of(&input.day);
             fill(&mut seen.lent[0], &file);
-            seen.out = vec![file.len() as u64];
+            fill(&mut seen.out, &[file.len() as u64]);
         }
     }
     seen
@@ -163,24 +186,24 @@ fn day(input: &Input) -> Day<'_> {
     Day { demand, capacity, setup, unit, holding, store, opening: *opening, closing: *closing }
 }
 
-/// A path's call, with or without its code.
-type PathCall = fn(Day, Memory, &mut [u64; 2]) -> u64;
+/// A path's call with its code, whose answer has N numbers.
+type PathCall<const N: usize> = fn(Day, Memory, &mut [u64; N]) -> u64;
 
-fn run_path(call: PathCall, input: &Input) -> Seen {
+fn run_path<const N: usize>(call: PathCall<N>, input: &Input) -> Seen {
     let mut costs: Vec<u64> = pattern(0, input.lent[0]);
     let mut choices: Vec<u16> = pattern(1, input.lent[1]);
     let mut slots: Vec<u16> = pattern(2, input.lent[2]);
-    let mut answer = out();
+    let mut answer = out(N);
     let memory = Memory { costs: lent(&mut costs), choices: lent(&mut choices), slots: lent(&mut slots) };
-    let code = call(day(input), memory, &mut answer);
+    let code = call(day(input), memory, array(&mut answer));
     Seen { code, out: wide(&answer), lent: vec![wide(&costs), wide(&choices), wide(&slots)] }
 }
 
 fn run_free(input: &Input) -> Seen {
     let mut costs: Vec<u64> = pattern(0, input.lent[0]);
     let mut slots: Vec<u16> = pattern(1, input.lent[1]);
-    let mut answer = out();
-    let code = codes::free(day(input), lent(&mut costs), lent(&mut slots), &mut answer);
+    let mut answer = out(2);
+    let code = codes::free(day(input), lent(&mut costs), lent(&mut slots), array(&mut answer));
     Seen { code, out: wide(&answer), lent: vec![wide(&costs), wide(&slots)] }
 }
 
@@ -192,7 +215,7 @@ fn run_read(input: &Input) -> Seen {
     let mut unit: Vec<u32> = pattern(3, l[3]);
     let mut holding: Vec<u32> = pattern(4, l[4]);
     let mut store: Vec<u16> = pattern(5, l[5]);
-    let mut day = out();
+    let mut day = out(3);
     let filled = TablesMut {
         demand: lent(&mut demand),
         capacity: lent(&mut capacity),
@@ -201,7 +224,7 @@ fn run_read(input: &Input) -> Seen {
         holding: lent(&mut holding),
         store: lent(&mut store),
     };
-    let code = codes::read(&input.file, filled, &mut day);
+    let code = codes::read(&input.file, filled, array(&mut day));
     Seen { code, out: wide(&day), lent: vec![wide(&demand), wide(&capacity), wide(&setup), wide(&unit), wide(&holding), wide(&store)] }
 }
 
@@ -214,25 +237,25 @@ pub fn actual(given: &Input) -> Seen {
         Call::Equal => run_path(codes::equal, input),
         Call::Free => run_free(input),
         Call::Weigh => {
-            let mut answer = out();
-            let code = codes::weigh(day(input), &input.plans[0], &mut answer);
+            let mut answer = out(2);
+            let code = codes::weigh(day(input), &input.plans[0], array(&mut answer));
             Seen { code, out: wide(&answer), lent: vec![] }
         }
         Call::Compare => {
-            let mut difference = out();
-            let code = codes::compare(day(input), &input.plans[0], &input.plans[1], &mut difference);
+            let mut difference = out(1);
+            let code = codes::compare(day(input), &input.plans[0], &input.plans[1], array(&mut difference));
             Seen { code, out: wide(&difference), lent: vec![] }
         }
         Call::Read => run_read(input),
         Call::Lookup => {
-            let mut part = out();
-            let code = codes::lookup(&input.file, input.period, &mut part);
+            let mut part = out(2);
+            let code = codes::lookup(&input.file, input.period, array(&mut part));
             Seen { code, out: wide(&part), lent: vec![] }
         }
         Call::Write => {
             let mut bytes: Vec<u8> = pattern(0, input.lent[0]);
-            let mut count = out();
-            let code = codes::write(day(input), lent(&mut bytes), &mut count);
+            let mut count = out(1);
+            let code = codes::write(day(input), lent(&mut bytes), array(&mut count));
             Seen { code, out: wide(&count), lent: vec![wide(&bytes)] }
         }
     };
@@ -246,34 +269,54 @@ pub fn full_agrees(input: &Input, seen: &Seen) -> bool {
         return true;
     }
     let full = actual(&Input::exact(Call::Full, &input.day, [&[]; 2]));
-    let plan = |seen: &Seen| seen.lent.last().unwrap()[AROUND..][..input.day.periods()].to_vec();
-    full.code == 0 && full.out == seen.out && plan(&full) == plan(seen)
+    let n = input.day.periods();
+    full.code == 0 && full.values() == &seen.values()[..2] && full.plan(n) == seen.plan(n)
+}
+
+/// Whether the equal path's slots, counted amount by amount, have in each run the loads that go by what it makes, and over the day those of
+/// its answer.
+pub fn loads_counted(input: &Input, seen: &Seen) -> bool {
+    if input.call != Call::Equal || seen.code != 0 {
+        return true;
+    }
+    let (capacity, plan) = (input.day.capacity[0], seen.plan(input.day.periods()));
+    let by_run = plain::runs(&input.day, &plan).into_iter().all(|run| {
+        let amounts = &plan[run];
+        plain::counted(capacity, amounts) == plain::run_loads(capacity, amounts.iter().map(|&x| x as u64).sum())
+    });
+    let Loads { full, part } = plain::counted(capacity, &plan);
+    by_run && seen.values()[2..] == [full, part]
+}
+
+/// What the crate says of an input by a path with two work areas.
+fn path_result<T>(path: fn(Day, Memory) -> Result<T, Refusal>, input: &Input) -> Result<T, Refusal> {
+    let (mut costs, mut choices, mut slots) = (vec![7; input.lent[0]], vec![7; input.lent[1]], vec![7; input.lent[2]]);
+    path(day(input), Memory { costs: &mut costs, choices: &mut choices, slots: &mut slots })
 }
 
 /// The same input through the crate's results, which are to say what code and out-array say.
 pub fn results_agree(input: &Input, seen: &Seen) -> bool {
     let refusal = Refusal { number: seen.code % 256, period: seen.code / 256 };
     let accepted = seen.code == 0;
-    let planned = || if accepted { Ok(yakkurem::Totals { cost: seen.out[0], setups: seen.out[1] }) } else { Err(refusal) };
-    let path = |call: fn(Day, Memory) -> Result<yakkurem::Totals, Refusal>| {
-        let (mut costs, mut choices, mut slots) = (vec![7u64; input.lent[0]], vec![7u16; input.lent[1]], vec![7u16; input.lent[2]]);
-        let result = call(day(input), Memory { costs: &mut costs, choices: &mut choices, slots: &mut slots });
-        result == planned()
-    };
+    let values = seen.values();
+    let planned = || if accepted { Ok(Totals { cost: values[0], setups: values[1] }) } else { Err(refusal) };
     match input.call {
-        Call::Full => path(yakkurem::full),
-        Call::Uncapped => path(yakkurem::uncapped),
-        Call::Equal => path(yakkurem::equal),
+        Call::Full => path_result(yakkurem::full, input) == planned(),
+        Call::Uncapped => path_result(yakkurem::uncapped, input) == planned(),
+        Call::Equal => {
+            let loads = || yakkurem::Loads { full: values[2], part: values[3] };
+            path_result(yakkurem::equal, input) == planned().map(|totals| EqualTotals { totals, loads: loads() })
+        }
         Call::Free => {
             let (mut costs, mut slots) = (vec![7; input.lent[0]], vec![7; input.lent[1]]);
             yakkurem::free(day(input), &mut costs, &mut slots) == planned()
         }
         Call::Weigh => match yakkurem::weigh(day(input), &input.plans[0]) {
-            Ok(totals) => accepted && seen.out == [totals.cost, totals.setups],
+            Ok(totals) => accepted && values == [totals.cost, totals.setups],
             Err(why) => why == said(seen.code),
         },
         Call::Compare => match yakkurem::compare(day(input), &input.plans[0], &input.plans[1]) {
-            Ok(difference) => accepted && seen.out == [difference as u64],
+            Ok(difference) => accepted && values == [difference as u64],
             Err(why) => why == said(seen.code),
         },
         Call::Read => {
@@ -288,14 +331,14 @@ pub fn results_agree(input: &Input, seen: &Seen) -> bool {
                 holding: &mut holding,
                 store: &mut store,
             };
-            let day = Filled { periods: seen.out[0], opening: seen.out[1] as u16, closing: seen.out[2] as u16 };
+            let day = Filled { periods: values[0], opening: values[1] as u16, closing: values[2] as u16 };
             yakkurem::read(&input.file, filled) == if accepted { Ok(day) } else { Err(refusal) }
         }
         Call::Lookup => match yakkurem::lookup(&input.file, input.period) {
             Ok(body) => accepted && std::ptr::eq(body, plain::body(&input.file, &plain::walk(&input.file).unwrap(), input.period)),
             Err(why) => why == refusal,
         },
-        Call::Write => yakkurem::write(day(input), &mut vec![0; input.lent[0]]) == if accepted { Ok(seen.out[0]) } else { Err(refusal) },
+        Call::Write => yakkurem::write(day(input), &mut vec![0; input.lent[0]]) == if accepted { Ok(values[0]) } else { Err(refusal) },
     }
 }
 

@@ -51,7 +51,7 @@ fn costs() -> [(Vec<u32>, Vec<u32>); 8] {
 }
 
 /// Needs of 96 periods, `total` in all: even; in every twelfth period; all in the last.
-fn needs(total: usize) -> [Vec<u16>; 3] {
+pub fn needs(total: usize) -> [Vec<u16>; 3] {
     let even = |n: usize, i: usize| (total * (i + 1) / n - total * i / n) as u16;
     [
         (0..N).map(|i| even(N, i)).collect(),

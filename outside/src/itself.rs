@@ -1,6 +1,6 @@
 //! The plain implementation against itself and the papers, before anything is compared with it.
 use crate::input::{self, Call, Input, Size, With, CALLS};
-use crate::plain::{self, Day, Planned, Refusal, Totals};
+use crate::plain::{self, Day, Loads, Planned, Refusal, Totals, Verdict};
 use crate::random::Random;
 
 /// A day and its plan with cost and setups, or the number and period of the refusal. One value of b, p or h stands for all periods.
@@ -116,6 +116,58 @@ const LIMITED: &[(&[u16], Row)] = &[
     (&[1, 1, 9], Row { demand: &[0, 0, 2], capacity: &[2, 2, 2], setup: &[0], unit: &[0], holding: &[0], ends: (0, 0), claim: Ok((&[1, 0, 1], 0, 2)) }),
     (&[9, 1, 9], Row { demand: &[0, 0, 2], capacity: &[2, 2, 2], setup: &[0], unit: &[0], holding: &[0], ends: (0, 0), claim: Ok((&[1, 0, 1], 0, 2)) }),
 ];
+
+/// A plan of a day with one capacity: where its runs end, and its full and part loads.
+struct Loaded {
+    demand: &'static [u16],
+    capacity: u16,
+    /// A and Z
+    ends: (u16, u16),
+    plan: &'static [u16],
+    run_ends: &'static [usize],
+    loads: (u64, u64),
+}
+
+#[rustfmt::skip]
+const LOADED: &[Loaded] = &[
+    // marked days: a remainder of 0 is no part load, a capacity of 0 loads nothing; a full load and a part load in one run, and in two
+    Loaded { demand: &[2, 3], capacity: 5, ends: (0, 0), plan: &[5, 0], run_ends: &[2], loads: (1, 0) },
+    Loaded { demand: &[0, 0], capacity: 0, ends: (0, 0), plan: &[0, 0], run_ends: &[1, 2], loads: (0, 0) },
+    Loaded { demand: &[0, 4], capacity: 3, ends: (0, 0), plan: &[1, 3], run_ends: &[2], loads: (1, 1) },
+    Loaded { demand: &[2, 2, 3], capacity: 4, ends: (0, 0), plan: &[4, 0, 3], run_ends: &[2, 3], loads: (1, 1) },
+    // two runs that make 3 of 5 each: not 6 ÷ 5; and as one run
+    Loaded { demand: &[3, 2, 0, 1], capacity: 5, ends: (0, 0), plan: &[3, 3, 0, 0], run_ends: &[1, 4], loads: (0, 2) },
+    Loaded { demand: &[3, 2, 0, 1], capacity: 5, ends: (0, 0), plan: &[5, 1, 0, 0], run_ends: &[4], loads: (1, 1) },
+    // an idle run first, and last
+    Loaded { demand: &[0, 0, 0, 4], capacity: 3, ends: (0, 0), plan: &[0, 3, 1, 0], run_ends: &[1, 4], loads: (1, 1) },
+    Loaded { demand: &[6, 1, 0], capacity: 7, ends: (0, 0), plan: &[7, 0, 0], run_ends: &[2, 3], loads: (1, 0) },
+    // from the opening charge: it lasts to the end, runs out at a period's end, runs out inside a period; nothing else is needed
+    Loaded { demand: &[1, 1, 4], capacity: 1, ends: (3, 0), plan: &[1, 1, 1], run_ends: &[3], loads: (3, 0) },
+    Loaded { demand: &[1, 1, 2], capacity: 2, ends: (2, 0), plan: &[0, 0, 2], run_ends: &[2, 3], loads: (1, 0) },
+    Loaded { demand: &[1, 2, 2], capacity: 3, ends: (2, 0), plan: &[0, 3, 0], run_ends: &[3], loads: (1, 0) },
+    Loaded { demand: &[2, 3], capacity: 9, ends: (5, 0), plan: &[0, 0], run_ends: &[2], loads: (0, 0) },
+    // to the closing charge: made in one run with the need before it, or in one of its own; from one end of the day to the other
+    Loaded { demand: &[2, 0], capacity: 2, ends: (0, 2), plan: &[2, 2], run_ends: &[1, 2], loads: (2, 0) },
+    Loaded { demand: &[1, 0], capacity: 2, ends: (0, 2), plan: &[2, 1], run_ends: &[2], loads: (1, 1) },
+    Loaded { demand: &[2, 3], capacity: 3, ends: (1, 1), plan: &[2, 3], run_ends: &[2], loads: (1, 1) },
+    Loaded { demand: &[0, 0], capacity: 4, ends: (7, 7), plan: &[0, 0], run_ends: &[2], loads: (0, 0) },
+];
+
+fn check_loads() {
+    for row in LOADED {
+        let n = row.demand.len();
+        let costs = vec![1; n];
+        let (demand, store) = (row.demand.to_vec(), vec![plain::NO_LIMIT; n]);
+        let (opening, closing) = row.ends;
+        let capacity = vec![row.capacity; n];
+        let day = Day { demand, capacity, setup: costs.clone(), unit: costs.clone(), holding: costs, store, opening, closing };
+        assert!(matches!(plain::verdict(&day, row.plan), Verdict::Holds(_)), "{day:?}");
+        let run_ends: Vec<usize> = plain::runs(&day, row.plan).iter().map(|run| run.end).collect();
+        assert_eq!(run_ends, row.run_ends, "{day:?}");
+        let (full, part) = row.loads;
+        assert_eq!(plain::loads(&day, row.plan), Loads { full, part }, "{day:?}");
+    }
+}
 
 fn all(values: &[u32], n: usize) -> Vec<u32> {
     if values.len() == n {
@@ -283,6 +335,7 @@ pub fn check(random: &mut Random, calls: &[Call], with: With, days: usize) {
         check_row(&day, row);
     }
     check_files();
+    check_loads();
     for _ in 0..days {
         let call = random.pick(&paths);
         let mut day = input::day(random, call, Size::Tiny, with);
@@ -304,7 +357,10 @@ fn check_day(day: &Day) {
         assert_eq!(plain::shortage(day), first, "{day:?}");
     }
     if let Some(planned) = found {
-        assert_eq!(plain::verdict(day, &planned.plan), plain::Verdict::Holds(planned.totals));
+        assert_eq!(plain::verdict(day, &planned.plan), Verdict::Holds(planned.totals));
+        if plain::unequal(day).is_none() && plain::low_store(day).is_none() {
+            assert_eq!(plain::loads(day, &planned.plan), plain::counted(day.capacity[0], &planned.plan), "{day:?}");
+        }
         let Planned { plan, totals } = plain::recursion(&net(day)).unwrap();
         assert_eq!((plan, totals.cost + standing(day)), (planned.plan, planned.totals.cost), "{day:?}");
     }

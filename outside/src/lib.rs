@@ -3,6 +3,7 @@ pub mod ends;
 pub mod free;
 pub mod holding;
 pub mod input;
+pub mod loads;
 pub mod plain;
 pub mod random;
 pub mod store;

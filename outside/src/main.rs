@@ -9,7 +9,7 @@ mod published;
 mod shrink;
 
 use input::{Call, Input, Size, With, CALLS, EARLIER};
-use outside::{ends, free, holding, input, plain, random, store};
+use outside::{ends, free, holding, input, loads, plain, random, store};
 use random::Random;
 use std::iter::once;
 use std::process::exit;
@@ -32,6 +32,8 @@ struct Run {
     refused: [usize; LAST + 1],
     /// by the rule: above capacity, short, over, above store
     broken: [usize; 4],
+    /// of the equal path's plans
+    plan_runs: loads::Runs,
 }
 
 impl Run {
@@ -45,6 +47,9 @@ impl Run {
             0 => {
                 self.accepted += 1;
                 self.short_paths += usize::from(input.call.is_short_path());
+                if input.call == Call::Equal {
+                    self.plan_runs.add(&input.day, &expected.plan(input.day.periods()));
+                }
             }
             number if number <= LAST as u64 => self.refused[number as usize] += 1,
             number => self.broken[number as usize - 101] += 1,
@@ -158,6 +163,14 @@ impl Run {
         }
     }
 
+    /// Days with one capacity that come to whole loads, or nearly.
+    fn loads(&mut self, size: Size, times: usize) {
+        for _ in 0..times {
+            let input = loads::made_up(&mut self.random, size);
+            self.try_input(&input);
+        }
+    }
+
     /// The calls on such made-up days, after the plain implementation against itself; `part` of the full count of each.
     fn made_up(&mut self, calls: &[Call], with: With, part: usize) {
         self.with = with;
@@ -175,10 +188,22 @@ impl Run {
             self.damaged(call, 400 / part);
         }
     }
+
+    fn print_counts(&self) {
+        let refused = (1..=LAST).map(|number| format!("{number}: {}", self.refused[number])).collect::<Vec<_>>().join(", ");
+        println!("accepted {}, refused {refused}", self.accepted);
+        let [above, short, over, full] = self.broken;
+        println!("broken plans: {above} above capacity, {short} short, {over} over at the end, {full} above store");
+        println!("uncapped, equal and free path: {} plans, each the full path's on the same day", self.short_paths);
+        let loads::Runs { plans, opening, closing, whole, both, part, idle } = self.plan_runs;
+        println!("equal path: {plans} plans, {opening} with an opening charge, {closing} with a closing charge");
+        println!("their runs: {whole} of full loads, {both} with a part load too, {part} with a part load alone, {idle} that make nothing");
+    }
 }
 
 fn differs(input: &Input, expected: &compare::Seen) -> bool {
-    compare::actual(input) != *expected || !compare::full_agrees(input, expected)
+    let seen = compare::actual(input);
+    seen != *expected || !compare::full_agrees(input, expected) || !compare::loads_counted(input, &seen)
 }
 
 fn fails(input: &Input) -> bool {
@@ -186,19 +211,29 @@ fn fails(input: &Input) -> bool {
     differs(input, &expected) || !compare::results_agree(input, &expected)
 }
 
+/// The first cell that differs, counted from 0; those before and after the part lie below 0 and past its end.
+fn show_cell(part: &str, expected: &[u64], seen: &[u64]) {
+    if let Some(i) = (0..expected.len()).find(|&i| expected[i] != seen[i]) {
+        println!("{part}, cell {}: expected {}, seen {}", i as i64 - compare::AROUND as i64, expected[i], seen[i]);
+    }
+}
+
 fn report(input: &Input) -> ! {
     let smallest = shrink::shrink(input, fails);
     let (expected, seen) = (compare::expected(&smallest), compare::actual(&smallest));
     println!("failed: {}", shrink::show(&smallest));
-    println!("expected code {} (number {}, period {}), out {:?}", expected.code, expected.code % 256, expected.code / 256, expected.out);
-    println!("seen     code {} (number {}, period {}), out {:?}", seen.code, seen.code % 256, seen.code / 256, seen.out);
+    for (which, said) in [("expected", &expected), ("seen    ", &seen)] {
+        println!("{which} code {} (number {}, period {}), out {:?}", said.code, said.code % 256, said.code / 256, said.values());
+    }
+    show_cell("out-array", &expected.out, &seen.out);
     for (part, (e, s)) in expected.lent.iter().zip(&seen.lent).enumerate() {
-        if let Some(i) = (0..e.len()).find(|&i| e[i] != s[i]) {
-            println!("lent part {part}, cell {}: expected {}, seen {}", i as i64 - 8, e[i], s[i]);
-        }
+        show_cell(&format!("lent part {part}"), e, s);
     }
     if !compare::full_agrees(&smallest, &expected) {
         println!("the full path says otherwise on this day than what is expected");
+    }
+    if expected.code == 0 && !compare::loads_counted(&smallest, &seen) {
+        println!("the slots, counted, have other loads than the answer says, or than some run may have");
     }
     exit(1);
 }
@@ -226,8 +261,8 @@ fn main() {
         Some(word) => word.parse().expect("the seed is a number"),
     };
     let start = Instant::now();
-    let (random, refused, broken) = (Random::new(seed), [0; LAST + 1], [0; 4]);
-    let mut run = Run { random, with: With::NOTHING, inputs: 0, accepted: 0, short_paths: 0, refused, broken };
+    let (random, refused, broken, plan_runs) = (Random::new(seed), [0; LAST + 1], [0; 4], loads::Runs::default());
+    let mut run = Run { random, with: With::NOTHING, inputs: 0, accepted: 0, short_paths: 0, refused, broken, plan_runs };
     run.made_up(EARLIER, With::NOTHING, 1);
     for call in [Call::Read, Call::Lookup] {
         run.try_inputs(&long_files(call));
@@ -263,12 +298,12 @@ fn main() {
     for file in store::files() {
         run.try_inputs(&ends::on_file(&file));
     }
-    let refused = (1..=LAST).map(|number| format!("{number}: {}", run.refused[number])).collect::<Vec<_>>().join(", ");
+    run.loads(Size::Tiny, 3000);
+    run.loads(Size::Middle, 600);
+    run.loads(Size::Long, 120);
+    run.try_inputs(&loads::inputs());
     println!("outside: seed {seed}, {} inputs of {} calls as the plain implementation has them", run.inputs, CALLS.len());
-    let [above, short, over, full] = run.broken;
-    println!("accepted {}, refused {refused}", run.accepted);
-    println!("broken plans: {above} above capacity, {short} short, {over} over at the end, {full} above store");
-    println!("uncapped, equal and free path: {} plans, each the full path's on the same day", run.short_paths);
+    run.print_counts();
     println!("published instances: {} inputs, each with the published cost, doubled", published.len());
     eprintln!("{} seconds", start.elapsed().as_secs());
 }

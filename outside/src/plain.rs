@@ -1,5 +1,7 @@
-//! Documents 01 and 02 (requests 2.1 to 2.5) and the report in plain code, written from these alone: what every call should answer.
+//! Documents 01 and 02 (requests 2.1 to 2.6) and the report in plain code, written from these alone: what every call should answer.
 //! Names are lot sizing's; document 01 says need for demand, start for setup, upkeep for holding.
+use std::iter::once;
+use std::ops::Range;
 
 /// A day: one entry a period in each table, and the charge at both its ends, A and Z.
 #[derive(Clone, Debug, Default, PartialEq)]
@@ -300,6 +302,48 @@ pub fn unit_by_unit(day: &Day) -> Option<Planned> {
     }
     let totals = totals(day, &plan);
     Some(Planned { plan, totals })
+}
+
+// Request 2.6: how many full-load periods.
+
+/// In how many periods something is made: all that can be, or less.
+#[derive(Clone, Copy, Debug, Default, PartialEq, Eq)]
+pub struct Loads {
+    pub full: u64,
+    pub part: u64,
+}
+
+/// The runs of a plan that holds, as periods counted from 0: each ends where the store is empty, or with the day.
+pub fn runs(day: &Day, plan: &[u16]) -> Vec<Range<usize>> {
+    let n = day.periods();
+    let ends: Vec<usize> = (1..=n).filter(|&i| i == n || day.left(i, sum_to(plan, i)) == 0).collect();
+    let begins = once(0).chain(ends.iter().copied());
+    begins.zip(&ends).map(|(begin, &end)| begin..end).collect()
+}
+
+/// The loads of a run that makes so much with one capacity: W ÷ c rounded down full ones, and a part load for a remainder above 0.
+pub fn run_loads(capacity: u16, made: u64) -> Loads {
+    match capacity as u64 {
+        0 => Loads::default(),
+        c => Loads { full: made / c, part: u64::from(made % c > 0) },
+    }
+}
+
+/// The loads over a day with one capacity: those of all runs.
+pub fn loads(day: &Day, plan: &[u16]) -> Loads {
+    let mut all = Loads::default();
+    for run in runs(day, plan) {
+        let Loads { full, part } = run_loads(day.capacity[0], plan[run].iter().map(|&x| x as u64).sum());
+        all.full += full;
+        all.part += part;
+    }
+    all
+}
+
+/// The loads counted amount by amount.
+pub fn counted(capacity: u16, amounts: &[u16]) -> Loads {
+    let count = |what: fn(u16, u16) -> bool| amounts.iter().filter(|&&x| x > 0 && what(x, capacity)).count() as u64;
+    Loads { full: count(|x, c| x == c), part: count(|x, c| x < c) }
 }
 
 // The papers' conditions, each by itself; where tables differ in length, entries past an end count as 0.

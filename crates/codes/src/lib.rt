@@ -1,11 +1,12 @@
 //! What a C program sees of an answer: one code, and its numbers in the call's out-array (include/yakkurem.h).
 ghost use mathlib.Core.Path.{_≡_};
 ghost use Rattle.day.specs.Refusals.{numberOf, periodOf};
-ghost use Rattle.day.specs.Figures.{answerFigures};
+ghost use Rattle.day.specs.Figures.{answerFigures, equalFigures};
 ghost use Rattle.dayfile.specs.Answers.{readFigures, writeFigures};
 ghost use Rattle.weigher.specs.Answers.{weighedFigures, comparedFigures, ruleNumber};
 ghost use Rattle.codes.specs.Codes.{codeOf, seen, seenOf};
 use day::Answer;
+use day::EqualAnswer;
 use day::Refusal;
 use dayfile::ReadAnswer;
 use dayfile::WriteAnswer;
@@ -42,6 +43,19 @@ pub fn planned(a: Answer, answer: &mut [u64; 2]) -> u64
         Answer::Refused(r) => refused(r),
         Answer::Planned(t) => {
             *answer = [t.cost, t.setups];
+            0
+        }
+    }
+}
+
+// Of the equal path's answer: the plan's loads too.
+pub fn planned_equal(a: EqualAnswer, answer: &mut [u64; 4]) -> u64
+    ensures { λ r. ⌜ seen r (now (answer .exit)) ≡ seenOf (now (answer .entry)) (equalFigures a) ⌝ }
+{
+    match a {
+        EqualAnswer::Refused(r) => refused(r),
+        EqualAnswer::Planned(t, l) => {
+            *answer = [t.cost, t.setups, l.full, l.part];
             0
         }
     }

@@ -1,6 +1,6 @@
 -- An answer in the documents' figures: the number and the period of what it refuses, and the values that it gives.
 -- Each answer's figures are defined in its own crate; those of a path's answer here, and the promise of a call that answers with its tests.
--- Main definitions: `Figures`, `answerFigures`, `Checks`; main statements: `same-values`, `checks-is`, `is-checks`. Assumes nothing.
+-- Main definitions: `Figures`, `answerFigures`, `equalFigures`, `Checks`; main statements: `same-values`, `checks-is`, `is-checks`. Assumes nothing.
 use mathlib.Core.Path.{_≡_, refl, sym, ap, subst}
 use mathlib.Core.List.{List, [], _∷_}
 use mathlib.Core.Option.{Option, none, some}
@@ -10,6 +10,8 @@ use Rattle.day.specs.declared.Check.{Check}
 use Rattle.day.specs.declared.Check.the-variants.{Passed, Refused}
 use Rattle.day.specs.declared.Answer.{Answer}
 use Rattle.day.specs.declared.Answer.the-variants as answer
+use Rattle.day.specs.declared.EqualAnswer.{EqualAnswer}
+use Rattle.day.specs.declared.EqualAnswer.the-variants as equalAnswer
 use Rattle.day.specs.Refusals.{numberOf, periodOf, Gives, checked}
 use Rattle.day.specs.Tests.{gives-is, is-gives}
 
@@ -29,6 +31,11 @@ refusedWith r = record { number = numberOf r; period = periodOf r; values = none
 abbrev pub answerFigures : Answer → Figures ℕ
 answerFigures (answer.Refused r) = refusedWith r
 answerFigures (answer.Planned t) = acceptedWith (t .cost ∷ t .setups ∷ [])
+
+-- the equal path: the plan's loads too
+abbrev pub equalFigures : EqualAnswer → Figures ℕ
+equalFigures (equalAnswer.Refused r) = refusedWith r
+equalFigures (equalAnswer.Planned t l) = acceptedWith (t .cost ∷ t .setups ∷ l .full ∷ l .part ∷ [])
 
 -- accepted answers with the same figures give the same values
 pub same-values : {A : Type 0} {l m : List A} → acceptedWith l ≡ acceptedWith m → l ≡ m

@@ -13,9 +13,10 @@ pub mod Tests
 pub mod File
 -- Answers in figures.
 pub mod Figures
--- What a path needs, answers, and leaves in lent memory; the paths.
+-- What a path needs, answers, and leaves in lent memory; the paths; runs and loads, which the equal path counts.
 pub mod Outcome
 pub mod Paths
+pub mod Loads
 -- Lent tables and memory at both moments of a call, as contracts speak of them.
 pub mod Lent
 -- The marked days: a plain search over all plans, the table, its theorem.

@@ -3,7 +3,6 @@
 -- A plan is a function from periods to amounts; only its values in the day's periods count.
 -- Main definitions: `KeepsTo`, `Feasible`, `Optimal`. Assumes nothing.
 use mathlib.Core.Path.{_≡_}
-use mathlib.Core.Logic.{_⊎_}
 use Prim.Native.Nat.{ℕ, zero, suc, _+_, _-_, _*_, _≤_, _<_}
 use Rattle.day.specs.Sums.{at, sumTo}
 use Rattle.day.specs.Day.{Day, periods, demandTo, required}
@@ -71,16 +70,3 @@ pub record Precedes (costs : (ℕ → ℕ) → ℕ) (n : ℕ) (x y : ℕ → ℕ
 pub record Optimal (d : Day) (x : ℕ → ℕ) : Type 0 where
   pub feasible : Feasible d x
   pub first : (y : ℕ → ℕ) → Feasible d y → Precedes (cost d) (periods d) x y
-
--- a run (the report's regeneration interval, where A and Z are 0): the periods a + 1 to b lie between two moments with empty store, the charge
--- being above 0 in between; it also begins and ends with the day
-pub record Run (d : Day) (x : ℕ → ℕ) (a b : ℕ) : Type 0 where
-  pub ahead : a < b
-  pub inside : b ≤ periods d
-  pub begins : (a ≡ 0) ⊎ (inventory d x a ≡ 0)
-  pub ends : (b ≡ periods d) ⊎ (inventory d x b ≡ 0)
-  pub above : (i : ℕ) → a < i → i < b → 0 < inventory d x i
-
--- a part-loaded period makes something, and less than its capacity
-abbrev pub PartLoaded : Day → (ℕ → ℕ) → ℕ → Type 0
-PartLoaded d x k = (0 < x k) × (x k < at (d .capacity) k)

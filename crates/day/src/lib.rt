@@ -102,3 +102,15 @@ pub enum Answer {
     Refused(Refusal),
     Planned(Totals),
 }
+
+// How many periods of a plan are full-load periods, and how many are part-loaded (document 02, 2.6).
+pub struct Loads {
+    pub full: u64,
+    pub part: u64,
+}
+
+// What the equal path answers: as every path, and the plan's loads.
+pub enum EqualAnswer {
+    Refused(Refusal),
+    Planned(Totals, Loads),
+}

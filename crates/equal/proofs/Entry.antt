@@ -1,21 +1,25 @@
--- Laws of the call: what passed tests leave for the work, and what the work leaves is what an accepted call leaves.
+-- Laws of the call: what passed tests leave for the work, what the work leaves is what an accepted call leaves, and the count of its plan's loads.
 -- Assumes nothing.
 use mathlib.Core.Path.{_≡_, refl, sym, ap, subst, _∙_}
 use mathlib.Core.List.{List, _++_}
+use mathlib.Core.Option.{none}
 use Prim.Native.Nat.{ℕ, _-_, _≤_, _<_}
 use native.Mathlib.Omega.{arith}
 use lib.ListN.{length, drop, replicate, List·getD-append}
 use borrow.Rule.Slice.PartMut.{midOf, putMid, mid-len, same-len-mid, drop-put}
 use Rattle.day.specs.declared.Totals.{Totals}
+use Rattle.day.specs.declared.Loads.{Loads}
+use Rattle.day.specs.declared.EqualAnswer.the-variants.{Planned}
 use Rattle.day.specs.Sums.{at}
 use Rattle.day.specs.Day.{Day, periods}
 use Rattle.day.specs.Plan.{Optimal}
 use Rattle.day.specs.Refusals.{unequal, lowStore}
 use Rattle.day.specs.Tests.{first-two}
-use Rattle.day.specs.Outcome.{Memory, memoryOf, sizesOf, Cleared, Accepted}
+use Rattle.day.specs.Outcome.{Memory, memoryOf, sizesOf, refusal, Cleared, Accepted}
 use Rattle.day.specs.Paths.{equal}
+use Rattle.day.specs.Loads.{loadsThrough, CountsLoads}
 use Rattle.path_checks.specs.declared.Needed.{Needed}
-use Rattle.checks.specs.Passed.{Admitted, equal-passed}
+use Rattle.checks.specs.Passed.{Admitted, admitted, equal-passed}
 use Rattle.path_checks.specs.Needed.{NeededBy}
 use Rattle.weigher.specs.Verdict.{totalsOf}
 use Rattle.weigher.specs.Walk.{FeasiblePlan, path-plan}
@@ -129,3 +133,18 @@ module _ (d : Day) (m : Memory) (ok : Admitted equal d (sizesOf m)) (r : Needed)
             costs = rw (needed .costs) at (back-cleared (r .costs) (m .costs) costs e costs-inside costs′ clear);
             choices = rw (needed .choices) at (back-cleared (r .choices) (m .choices) choices f choices-inside choices′ clear′);
           }
+
+-- What is counted once the work is done: the loads of the plan in the slots.
+module _ (d : Day) (m after : Memory) (t : Totals) (passed : refusal equal d (sizesOf m) ≡ none) (done : Accepted equal d t m after) where
+  ok : Admitted equal d (sizesOf m)
+  ok = admitted equal d (sizesOf m) passed
+
+  each : length (d .capacity) ≡ periods d
+  each = ok .day .limits .lengths .capacity
+
+  pub countable : length (d .capacity) ≤ length (after .slots)
+  countable = omega (arith, each, ok .room .slots, done .size)
+
+  pub loads-counted : (l : Loads) → l ≡ loadsThrough (at (d .capacity)) (at (after .slots)) (length (d .capacity))
+      → CountsLoads d (at (after .slots)) (Planned t l)
+  loads-counted l is = rw each at is

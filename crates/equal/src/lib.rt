@@ -1,17 +1,19 @@
 //! The equal path: Florian and Klein (report, section 3), for days with one capacity throughout whose stores can't bind.
-//! It tests, takes the net needs and the rates, finds the plan row by row, hands out the last row, clears its areas, and weighs the plan.
+//! It tests, takes the net needs and the rates, finds the plan row by row, hands out the last row, clears its areas, weighs the plan, and counts
+//! its loads.
 ghost use lib.ListN.{length};
 ghost use Rattle.day.specs.Day.{dayOf};
 ghost use Rattle.day.specs.Lent.{dayBefore, memoryBefore, memoryAfter};
-ghost use Rattle.day.specs.Outcome.{sizes, Accepted, Runs};
+ghost use Rattle.day.specs.Outcome.{sizes, Accepted};
 ghost use Rattle.day.specs.Paths.{equal};
+ghost use Rattle.day.specs.Loads.{EqualRuns};
 ghost use Rattle.checks.specs.Passed.{Admitted};
 ghost use Rattle.theory.specs.Problem.{problemWith};
 ghost use Rattle.equal_rows.specs.Rows.{areas};
 ghost use Rattle.equal.specs.Solved.{Solvable, PlanFound};
-use day::Answer;
 use day::Check;
 use day::Ends;
+use day::EqualAnswer;
 use day::PathKind;
 use day::Totals;
 
@@ -93,7 +95,7 @@ fn work(
     weigher::totals(demand, capacity, setup, unit, holding, store, slots, ends)
 }
 
-// The plan of a day with one capacity throughout whose stores can't bind, into the first n slots.
+// The plan of a day with one capacity throughout whose stores can't bind, into the first n slots; the answer counts its loads.
 pub fn plan(
     demand: &[u16],
     capacity: &[u16],
@@ -105,8 +107,8 @@ pub fn plan(
     choices: &mut [u16],
     slots: &mut [u16],
     ends: Ends,
-) -> Answer
-    ensures { λ r. ⌜ Runs equal
+) -> EqualAnswer
+    ensures { λ r. ⌜ EqualRuns
         (dayBefore demand capacity setup unit holding store ends)
         (memoryBefore costs choices slots)
         r
@@ -125,9 +127,9 @@ pub fn plan(
         slots.len(),
         ends,
     ) {
-        return Answer::Refused(r);
+        return EqualAnswer::Refused(r);
     }
-    Answer::Planned(work(
+    let totals = work(
         demand,
         capacity,
         setup,
@@ -138,5 +140,6 @@ pub fn plan(
         choices,
         slots,
         ends,
-    ))
+    );
+    EqualAnswer::Planned(totals, loads::count(capacity, slots))
 }

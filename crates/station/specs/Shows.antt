@@ -1,13 +1,14 @@
 -- What a C program sees of a call: some answer that the call may give, by its code and its out-array (include/yakkurem.h).
--- Main definitions: `Shows`, and of each kind of call `PathShows`, `ReadShows`, `LookupShows`, `WriteShows`. Assumes nothing.
+-- Main definitions: `Shows`, and of each kind of call `PathShows`, `EqualShows`, `ReadShows`, `LookupShows`, `WriteShows`. Assumes nothing.
 use mathlib.Core.Path.{_≡_}
 use mathlib.Core.List.{List}
 use Prim.Native.Nat.{ℕ}
 use denote.Ref.{RefT, now}
 use denote.Triple.Both.{Both}
 use Rattle.day.specs.declared.Ends.{Ends}
-use Rattle.day.specs.Figures.{Figures, answerFigures}
+use Rattle.day.specs.Figures.{Figures, answerFigures, equalFigures}
 use Rattle.day.specs.Outcome.{Path, Memory, Runs}
+use Rattle.day.specs.Loads.{EqualRuns}
 use Rattle.day.specs.Lent.{Lent, dayBefore, tablesBefore, tablesAfter}
 use Rattle.dayfile.specs.Answers.{Reading, Writing, lookupFigures, readFigures, writeFigures}
 use Rattle.codes.specs.Codes.{seen, seenOf}
@@ -25,6 +26,10 @@ pub record Shows {A B : Type 0} (Given : A → Type 0) (figures : A → Figures 
 abbrev pub PathShows : Path → (demand capacity setup unit holding store : Lent) → Ends → (before after : Memory) → (answer : Lent) → ℕ → Type 0
 PathShows P demand capacity setup unit holding store ends before after answer r =
     Shows (λ a. Runs P (dayBefore demand capacity setup unit holding store ends) before a after) answerFigures answer r
+
+abbrev pub EqualShows : (demand capacity setup unit holding store : Lent) → Ends → (before after : Memory) → (answer : Lent) → ℕ → Type 0
+EqualShows demand capacity setup unit holding store ends before after answer r =
+    Shows (λ a. EqualRuns (dayBefore demand capacity setup unit holding store ends) before a after) equalFigures answer r
 
 abbrev pub ReadShows : (file demand capacity setup unit holding store day : Lent) → ℕ → Type 0
 ReadShows file demand capacity setup unit holding store day r =

@@ -1,9 +1,9 @@
 //! The library's calls as a C program has them: the answer as one code, its numbers in an out-array (include/yakkurem.h).
-ghost use Rattle.day.specs.Paths.{full, uncapped, equal, free};
+ghost use Rattle.day.specs.Paths.{full, uncapped, free};
 ghost use Rattle.day.specs.Day.{endsWith};
 ghost use Rattle.day.specs.Lent.{dayBefore, memoryBefore, memoryAfter, cellsBefore, cellsAfter};
 ghost use Rattle.weigher.specs.Answers.{Weighs, Compares, weighedFigures, comparedFigures};
-ghost use Rattle.station.specs.Shows.{Shows, PathShows, ReadShows, LookupShows, WriteShows};
+ghost use Rattle.station.specs.Shows.{Shows, PathShows, EqualShows, ReadShows, LookupShows, WriteShows};
 use day::Check;
 use day::Ends;
 
@@ -79,7 +79,7 @@ pub extern "C" fn yakkurem_uncapped(
     codes::planned(a, answer)
 }
 
-// The plan of a day with one capacity throughout whose stores can't bind; the answer is its cost and setups.
+// The plan of a day with one capacity throughout whose stores can't bind; the answer is its cost, setups, full-load and part-loaded periods.
 #[no_mangle]
 pub extern "C" fn yakkurem_equal(
     demand: &[u16],
@@ -93,10 +93,10 @@ pub extern "C" fn yakkurem_equal(
     costs: &mut [u64],
     choices: &mut [u16],
     slots: &mut [u16],
-    answer: &mut [u64; 2],
+    answer: &mut [u64; 4],
 ) -> u64
     ensures { λ r. ⌜
-        PathShows equal demand capacity setup unit holding store (endsWith opening closing)
+        EqualShows demand capacity setup unit holding store (endsWith opening closing)
         (memoryBefore costs choices slots) (memoryAfter costs choices slots) answer r ⌝ }
 {
     let ends = Ends { opening, closing };
@@ -112,7 +112,7 @@ pub extern "C" fn yakkurem_equal(
         slots,
         ends,
     );
-    codes::planned(a, answer)
+    codes::planned_equal(a, answer)
 }
 
 // The plan of a day without setup cost whose stores can't bind; the answer is its cost and setups. No choice area is lent.

@@ -7,6 +7,7 @@ use Rattle.day.specs.declared.Refusal.{Refusal}
 use Rattle.day.specs.declared.Totals.{Totals}
 use Rattle.day.specs.declared.Answer.{Answer}
 use Rattle.day.specs.declared.Answer.the-variants.{Refused, Planned}
+use Rattle.day.specs.declared.EqualAnswer.{EqualAnswer}
 use Rattle.day.specs.Sums.{at, sum-ext}
 use Rattle.day.specs.Day.{Day, periods}
 use Rattle.day.specs.Plan.{setupAt}
@@ -15,6 +16,7 @@ use Rattle.day.specs.Tests.{gives-is}
 use Rattle.day.specs.Figures.{first-value, second-value}
 use Rattle.day.specs.Outcome.{Memory, sizesOf, Path, Roomy, dayRefusal, roomy-refusal, Counts, Runs}
 use Rattle.day.specs.Paths.{full, uncapped, equal, free}
+use Rattle.day.specs.Loads.{pathAnswer, EqualRuns}
 use Rattle.day.specs.Search.{cost-alike}
 use Rattle.theory.specs.Demands.{plan-unique}
 
@@ -57,17 +59,19 @@ paths-agree P Q d m m′ r after q after′ room room′ kind kind′ a b =
         let same = plan-unique d (at (after .slots)) (at (after′ .slots)) (a .1 .plan) (b .1 .plan) in
         (same, same-totals d (at (after .slots)) (at (after′ .slots)) t u same (a .1 .counts) (b .1 .counts))
 
-module _ (d : Day) (m m′ : Memory) (r : Answer) (after : Memory) (q : Answer) (after′ : Memory)
-    (room′ : Roomy full d (sizesOf m′)) (b : Runs full d m′ q after′) where
+module _ (d : Day) (m m′ after : Memory) (q : Answer) (after′ : Memory) (room′ : Roomy full d (sizesOf m′)) (b : Runs full d m′ q after′) where
   -- Of a day whose stores can't bind (document 02, 2.5).
   -- Demand 3: where capacities can't either, the uncapped path accepts exactly when the full path does, with the same plan, cost and setups.
-  pub uncapped-agrees : Roomy uncapped d (sizesOf m) → binding d ≡ none → lowStore d ≡ none → Runs uncapped d m r after → Agree d r after q after′
-  uncapped-agrees room kind loose a = paths-agree uncapped full d m m′ r after q after′ room room′ (rw (kind, loose) refl) refl a b
+  pub uncapped-agrees : (r : Answer) → Roomy uncapped d (sizesOf m) → binding d ≡ none → lowStore d ≡ none
+      → Runs uncapped d m r after → Agree d r after q after′
+  uncapped-agrees r room kind loose a = paths-agree uncapped full d m m′ r after q after′ room room′ (rw (kind, loose) refl) refl a b
 
-  -- Demand 3: and so does the equal path where capacities are equal.
-  pub equal-agrees : Roomy equal d (sizesOf m) → unequal d ≡ none → lowStore d ≡ none → Runs equal d m r after → Agree d r after q after′
-  equal-agrees room kind loose a = paths-agree equal full d m m′ r after q after′ room room′ (rw (kind, loose) refl) refl a b
+  -- Demand 3: and so does the equal path where capacities are equal; the full path counts no loads.
+  pub equal-agrees : (r : EqualAnswer) → Roomy equal d (sizesOf m) → unequal d ≡ none → lowStore d ≡ none
+      → EqualRuns d m r after → Agree d (pathAnswer r) after q after′
+  equal-agrees r room kind loose a = paths-agree equal full d m m′ (pathAnswer r) after q after′ room room′ (rw (kind, loose) refl) refl (a .runs) b
 
   -- Demand 3, by document 02, 2.3: and so does the free path where setups cost nothing.
-  pub free-agrees : Roomy free d (sizesOf m) → paidSetup d ≡ none → lowStore d ≡ none → Runs free d m r after → Agree d r after q after′
-  free-agrees room kind loose a = paths-agree free full d m m′ r after q after′ room room′ (rw (kind, loose) refl) refl a b
+  pub free-agrees : (r : Answer) → Roomy free d (sizesOf m) → paidSetup d ≡ none → lowStore d ≡ none
+      → Runs free d m r after → Agree d r after q after′
+  free-agrees r room kind loose a = paths-agree free full d m m′ r after q after′ room room′ (rw (kind, loose) refl) refl a b

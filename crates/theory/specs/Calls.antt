@@ -1,38 +1,32 @@
 -- Demands 2 and 3 of the paths themselves, over their contracts.
 -- Main statements: `planned-iff`, `refused-first` (demand 2), `cheapest-first` (demand 3), which stand for the full path as `full-planned-iff`,
--- `full-refused-first`, `full-cheapest-first`; `equal-run-one`, `equal-run-others` (document 01, "Three paths, one plan": runs); `free-in-turn-ends`,
--- `free-in-turn` (document 02, 2.3: the rule). Assumes nothing.
-use mathlib.Core.Path.{_≡_, refl, sym, _∙_, subst}
+-- `full-refused-first`, `full-cheapest-first`; `free-in-turn-ends`, `free-in-turn` (document 02, 2.3: the rule).
+-- Assumes nothing.
+use mathlib.Core.Path.{_≡_, refl, sym, _∙_}
 use mathlib.Core.List.{[], _∷_}
-use mathlib.Core.Logic.{_⊎_, inl, inr, ⊎-elim, _↔_}
+use mathlib.Core.Logic.{_⊎_, _↔_}
 use mathlib.Core.Option.{none, some, Option·none-ne-some}
-use Prim.Native.Nat.{ℕ, suc, _≤_, _<_}
-use native.Mathlib.Decide.{decLe}
-use native.Mathlib.Nat.{eq-or-lt-of-le, eq-zero-or-pos}
+use Prim.Native.Nat.{ℕ, _≤_, _<_}
 use native.Mathlib.Omega.{arith}
 use Rattle.day.specs.declared.Refusal.{Refusal}
 use Rattle.day.specs.declared.Totals.{Totals}
 use Rattle.day.specs.declared.Answer.{Answer}
 use Rattle.day.specs.declared.Answer.the-variants.{Refused, Planned}
-use Rattle.day.specs.Sums.{at, sumTo, sum-grows}
-use Rattle.day.specs.Day.{Day, periods, total, netTo, net-before, net-end}
-use Rattle.day.specs.Plan.{Feasible, Run, PartLoaded, cost}
+use Rattle.day.specs.Sums.{at}
+use Rattle.day.specs.Day.{Day, periods, total}
+use Rattle.day.specs.Plan.{Feasible, cost}
 use Rattle.day.specs.InTurn.{ServedTo}
-use Rattle.day.specs.Refusals.{first, dayTests, shortage, FirstShort, unequal, paidSetup, lowStore}
+use Rattle.day.specs.Refusals.{first, dayTests, shortage, FirstShort, paidSetup, lowStore}
 use Rattle.day.specs.Tests.{gives-is, first-passed, first-one, first-two}
 use Rattle.day.specs.Figures.{first-value}
 use Rattle.day.specs.Outcome.{Memory, sizesOf, Path, Roomy, refusal, roomy-refusal, Runs}
-use Rattle.day.specs.Paths.{full, equal, free}
-use Rattle.checks.specs.Passed.{DayLimits, day-passes, equal-passed, free-passed, Admitted, admitted}
-use Rattle.theory.specs.Model.{Model, OptimalTo}
+use Rattle.day.specs.Paths.{full, free}
+use Rattle.checks.specs.Passed.{DayLimits, day-passes, free-passed, Admitted, admitted}
 use Rattle.theory.specs.Order.{LastSmaller, smaller-means}
-use Rattle.theory.specs.Cut.{feasible-less}
-use Rattle.theory.specs.Exchange.{Regeneration, interval-one, last-run}
 use Rattle.theory.specs.FreeSetups.{Free}
-use Rattle.theory.specs.Problem.{modelOf, model-rising, model-unlimited}
-use Rattle.theory.specs.Net.{problemOf, limits-fit, floor-is}
+use Rattle.theory.specs.Problem.{modelOf}
+use Rattle.theory.specs.Net.{problemOf, limits-fit}
 use Rattle.theory.specs.Store.{Loose, limits-loose}
-use Rattle.theory.specs.Base.{loose-plan}
 use Rattle.theory.specs.InTurn.{in-turn-optimal, in-turn-serves}
 use Rattle.theory.specs.Demands.{plan-unique, shortage-iff, shortage-names}
 
@@ -82,68 +76,6 @@ module _ (d : Day) (m : Memory) (limits : DayLimits d) (room : Roomy full d (siz
 pub full-cheapest-first : (d : Day) (m : Memory) (t : Totals) (after : Memory) → Runs full d m (Planned t) after
     → CheapestFirst d (at (after .slots)) (t .cost)
 full-cheapest-first = cheapest-first full
-
--- In a run of the equal path's plan at most one period is part-loaded; the others make 0 or c.
-module _ (d : Day) (m : Memory) (t : Totals) (after : Memory) (runs : Runs equal d m (Planned t) after)
-    (a b : ℕ) (run : Run d (at (after .slots)) a b) where
-  abbrev x : ℕ → ℕ
-  x = at (after .slots)
-
-  abbrev M : Model
-  M = modelOf (problemOf d)
-
-  abbrev n : ℕ
-  n = periods d
-
-  inside : b ≤ n
-  inside = run .inside
-
-  loose : Loose d
-  loose = let ok = admitted equal d (sizesOf m) (runs .0) in limits-loose (unequal d) (ok .day) (ok .own)
-
-  floor-here : (i : ℕ) → i ≤ n → M .floor i ≡ netTo d i
-  floor-here = floor-is d (loose .fits .nonempty)
-
-  best : OptimalTo M n (M .floor n) x
-  best =
-      subst (λ (X : ℕ). OptimalTo M n X x) (sym (floor-here n (omega arith) ∙ net-end d)) (loose-plan d loose x .0 (runs .1 .plan))
-
-  -- the run's last moment at which nothing was made ahead: the model's interval up to the run's end begins there
-  last : (c : ℕ) × Regeneration M x c b
-  last =
-      last-run M (model-rising (problemOf d)) (sumTo x b) x b (omega (arith, run .ahead)) (feasible-less M b n (M .floor n) x inside (best .feasible))
-
-  -- Before it A lasted, and nothing was made in the run.
-  later : (k : ℕ) → a ≤ k → 0 < x k → last .0 ≤ k
-  later k ak makes = go (decLe (last .0) k)
-    where
-      c : ℕ
-      c = last .0
-
-      go : Dec (c ≤ k) → c ≤ k
-      go (yes h) = h
-      go (no h) =
-          let ahead = last .1 .ahead in
-          let floor = floor-here c (omega arith) ∙ net-before d c (omega arith) in
-          absurd (omega (arith, last .1 .empty, run .above c (omega arith) ahead, sum-grows x (suc k) c (omega arith)))
-
-  pub equal-run-one : (i j : ℕ) → a ≤ i → i < b → a ≤ j → j < b → PartLoaded d x i → PartLoaded d x j → i ≡ j
-  equal-run-one i j ai ib aj jb p q =
-      interval-one M (model-rising (problemOf d)) (model-unlimited (problemOf d)) n x best (last .0) b (last .1) i j
-      (later i ai (p .0)) ib (later j aj (q .0)) jb
-      (record { inside = omega arith; some = p .0; room = p .1 })
-      (record { inside = omega arith; some = q .0; room = q .1 })
-
-  pub equal-run-others : (k : ℕ) → a ≤ k → k < b → ¬ PartLoaded d x k → (x k ≡ 0) ⊎ (x k ≡ at (d .capacity) 0)
-  equal-run-others k ak kb h =
-      let here : k < n = omega arith in
-      let kind = admitted equal d (sizesOf m) (runs .0) .own in
-      let c = equal-passed d (first-two (unequal d) (lowStore d) kind .0) k here in
-      ⊎-elim inl
-      (λ (some : 0 < x k).
-      ⊎-elim (λ (e : x k ≡ at (d .capacity) k). inr (e ∙ c)) (λ (room : x k < at (d .capacity) k). absurd (h (some, room)))
-      (eq-or-lt-of-le (runs .1 .plan .feasible .within k here)))
-      (eq-zero-or-pos (x k))
 
 -- Document 02, 2.3: an accepted day of the free path has no setup cost, and stores that can't bind;
 module _ (d : Day) (m : Memory) (t : Totals) (after : Memory) (runs : Runs free d m (Planned t) after) where

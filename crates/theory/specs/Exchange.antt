@@ -1,6 +1,6 @@
 -- The exchange of one unit between two periods, and what it says of the optimal plan, for any capacities (report, section 3).
 -- A fractional period is document 01's part-loaded one, and a regeneration interval its run (of the net needs: finer while A lasts).
--- Main statements: `exchange`, `interval-one`: in a regeneration interval of the optimal plan at most one period is fractional. Assumes nothing.
+-- Main statements: `exchange`, `interval-one`: in a regeneration interval of the optimal plan no two periods are fractional. Assumes nothing.
 use mathlib.Core.Path.{_≡_, sym, ap}
 use mathlib.Core.Logic.{_≢_, ⊎-elim}
 use native.Mathlib.Nat.{eq-or-lt-of-le}
@@ -223,16 +223,13 @@ pub record Regeneration (M : Model) (x : ℕ → ℕ) (a b : ℕ) : Type 0 where
   pub empty : sumTo x a ≡ M .floor a
   pub never : (m : ℕ) → a < m → m < b → M .floor m < sumTo x m
 
--- In a regeneration interval of the optimal plan at most one period is fractional.
+-- Between two moments, where the inventory is never empty once something is made, no two periods of the optimal plan are fractional.
 pub interval-one : (M : Model) → Rising M → Unlimited M → (n : ℕ) (x : ℕ → ℕ) → OptimalTo M n (M .floor n) x
-    → (a b : ℕ) → Regeneration M x a b
-    → (i j : ℕ) → a ≤ i → i < b → a ≤ j → j < b → Fractional M n x i → Fractional M n x j → i ≡ j
-interval-one M rising unlimited n x best a b run i j ai ib aj jb pi pj = go (decLt i j) (decLt j i)
-  where
-    go : Dec (i < j) → Dec (j < i) → i ≡ j
-    go (yes l) d = absurd (exchange M rising unlimited n x best i j l pi pj (λ m u v. run .never m (omega arith) (omega arith)))
-    go (no g) (yes l) = absurd (exchange M rising unlimited n x best j i l pj pi (λ m u v. run .never m (omega arith) (omega arith)))
-    go (no g) (no f) = omega arith
+    → (a b : ℕ) → ((m : ℕ) → a < m → m < b → 0 < sumTo x m → M .floor m < sumTo x m)
+    → (i j : ℕ) → a ≤ i → i < j → j < b → Fractional M n x i → Fractional M n x j → ⊥
+interval-one M rising unlimited n x best a b never i j ai ij jb pi pj =
+    exchange M rising unlimited n x best i j ij pi pj
+    (λ m u v. never m (omega arith) (omega arith) (omega (arith, sum-grows x (suc i) m u, pi .some)))
 
 -- the last moment before n at which the inventory was empty
 pub last-run : (M : Model) → Rising M → (X : ℕ) (x : ℕ → ℕ) (n : ℕ) → 0 < n → FeasibleTo M n X x → (a : ℕ) × Regeneration M x a n

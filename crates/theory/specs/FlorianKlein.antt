@@ -1,20 +1,21 @@
 -- The equal path (report, section 3; Florian and Klein): where all capacities are c, a regeneration interval of the optimal plan is made in full
 -- loads and at most one fractional load, what its demand leaves over when it is divided by c. Row m is the plan of (m, N m), with its cost.
 -- Main statement: `florianKlein-cover`. Assumes nothing.
-use mathlib.Core.Path.{_≡_, refl, sym, ap, _∙_}
+use mathlib.Core.Path.{_≡_, refl, sym, ap₂, _∙_}
 use mathlib.Core.Option.{Option, none, some}
-use mathlib.Core.Logic.{_⊎_, inl, inr, ⊎-elim, _≢_}
-use Prim.Native.Nat.{ℕ, zero, suc, _+_, _-_, _*_, _%_, _≤_, _<_}
-use native.Mathlib.Nat.{eq-or-lt-of-le, eq-zero-or-pos, le-of-suc-le-suc}
+use mathlib.Core.Logic.{_⊎_, inl, inr, ⊎-elim}
+use Prim.Native.Nat.{ℕ, zero, suc, _+_, _-_, _%_, _≤_, _<_}
+use native.Mathlib.Nat.{eq-or-lt-of-le, eq-zero-or-pos}
 use native.Mathlib.Decide.{ℕ-discrete}
 use native.Mathlib.Omega.{arith}
-use lib.Arith.{digits-mod, le-zero}
 use Rattle.day.specs.Sums.{sumTo}
+use Rattle.day.specs.Loads.{madeIn}
 use Rattle.theory.specs.Model.{Model, Rising, Unlimited, costTo, OptimalTo}
 use Rattle.theory.specs.Stages.{Solution, Answers}
 use Rattle.theory.specs.Recursion.{both?}
 use Rattle.theory.specs.Reachable.{high, Covered}
 use Rattle.theory.specs.Exchange.{Fractional, Regeneration, interval-one}
+use Rattle.theory.specs.FullLoads.{FewParts, few-loads}
 use Rattle.theory.specs.Candidates.{Some}
 use Rattle.theory.specs.Regeneration.{Kinds, tail, sum-tail, Right, Fits, cover}
 
@@ -40,22 +41,20 @@ Equal M c n = (k : ℕ) → k < n → M .capacity k ≡ c
 abbrev pub byLoads : Model → ℕ → ℕ → ℕ → Kinds
 byLoads M c l m = loads c ((M .floor m - M .floor l) % c)
 
--- what is 0 or c from a to b sums to a multiple of c
-multiple : (x : ℕ → ℕ) (c a b : ℕ)
-    → a ≤ b
-    → ((j : ℕ) → a ≤ j → j < b → (x j ≡ 0) ⊎ (x j ≡ c))
-    → (q : ℕ) × (sumTo x b ≡ sumTo x a + q * c)
-multiple x c a zero l h = (0, rw (le-zero l) (omega arith))
-multiple x c a (suc b) l h =
-    ⊎-elim
-    (λ (e : a ≡ suc b). (0, rw e (omega arith)))
-    (λ lt.
-    let r = multiple x c a b (le-of-suc-le-suc lt) (λ j p q. h j p (omega arith)) in
-    ⊎-elim
-    (λ (e : x b ≡ 0). (r .0, omega (arith, r .1)))
-    (λ (e : x b ≡ c). (suc (r .0), omega (arith, r .1)))
-    (h b (le-of-suc-le-suc lt) (omega arith)))
-    (eq-or-lt-of-le l)
+-- Where the inventory is never empty once something is made, no two periods of the optimal plan are part-loaded.
+pub few-parts : (M : Model) → Rising M → Unlimited M → (n c : ℕ) → 0 < c → Equal M c n → (x : ℕ → ℕ) → OptimalTo M n (M .floor n) x
+    → (a b : ℕ) → a < b → b ≤ n → ((m : ℕ) → a < m → m < b → 0 < sumTo x m → M .floor m < sumTo x m) → FewParts (M .capacity) x a b
+few-parts M rising unlimited n c pos caps x best a b ahead inside never =
+    let first = caps 0 (omega arith) in
+    record {
+      some-capacity = omega arith;
+      same = λ k l. caps k (omega arith) ∙ sym first;
+      within = λ k l. best .feasible .within k (omega arith);
+      one = λ i j ai ij jb p q.
+          interval-one M rising unlimited n x best a b never i j ai ij jb
+          (record { inside = omega arith; some = p .0; room = p .1 })
+          (record { inside = omega arith; some = q .0; room = q .1 });
+    }
 
 module _ (M : Model) (rising : Rising M) (unlimited : Unlimited M) (c m : ℕ) (caps : Equal M c m)
     (x : ℕ → ℕ) (best : OptimalTo M m (M .floor m) x) (a : ℕ) (run : Regeneration M x a m) where
@@ -71,22 +70,24 @@ module _ (M : Model) (rising : Rising M) (unlimited : Unlimited M) (c m : ℕ) (
       (eq-or-lt-of-le (best .feasible .within k l)))
       (eq-zero-or-pos (x k))
 
-  others : (k : ℕ) → a ≤ k → k < m → Fractional M m x k → (j : ℕ) → a ≤ j → j < m → j ≢ k → (x j ≡ 0) ⊎ (x j ≡ c)
-  others k l h part j p q n =
-      ⊎-elim inl (λ r. ⊎-elim inr (λ t. absurd (n (interval-one M rising unlimited m x best a m run j k p q l h t part))) r) (kind j q)
-
   abbrev W : ℕ
   W = M .floor m - M .floor a
 
+  few : (b k : ℕ) → a < b → b ≤ m → Fractional M m x k → FewParts (M .capacity) x a b
+  few b k ahead inside part =
+      few-parts M rising unlimited m c (omega (arith, part .room, caps k (part .inside))) caps x best a b ahead inside
+      (λ e u v _. run .never e u (omega arith))
+
+  -- what the fractional period leaves over of the periods up to it, it leaves over of all
   part-is : (k : ℕ) → a ≤ k → k < m → Fractional M m x k → (x k ≡ W % c) × ((sumTo x (suc k) - M .floor a) % c ≡ W % c)
   part-is k l h part =
-      let p = multiple x c a k l (λ j u v. others k l h part j u (omega arith) (omega arith)) in
-      let q = multiple x c (suc k) m h (λ j u v. others k l h part j (omega arith) v (omega arith)) in
-      let less : x k < c = omega (arith, part .room, caps k h) in
-      let all : (p .0 + q .0) * c + x k ≡ W = omega (arith, p .1, q .1, run .empty, best .feasible .total) in
-      let so : p .0 * c + x k ≡ sumTo x (suc k) - M .floor a = omega (arith, p .1, run .empty) in
-      let e : x k ≡ W % c = sym (digits-mod (p .0 + q .0) less) ∙ ap (λ (v : ℕ). v % c) all in
-      (e, sym (ap (λ (v : ℕ). v % c) so) ∙ digits-mod (p .0) less ∙ e)
+      let first = caps 0 (omega arith) in
+      let all = few-loads (M .capacity) x a m (few m k (omega arith) (omega arith) part) (omega arith) .1 k l h (part .some, part .room) in
+      let so = few-loads (M .capacity) x a (suc k) (few (suc k) k (omega arith) h part) (omega arith) .1 k l (omega arith) (part .some, part .room) in
+      let w : madeIn x a m ≡ W = omega (arith, run .empty, best .feasible .total) in
+      let v : sumTo x (suc k) - M .floor a ≡ madeIn x a (suc k) = omega (arith, run .empty) in
+      let e = all ∙ ap₂ _%_ w first in
+      (e, ap₂ _%_ v (sym first) ∙ sym so ∙ e)
 
   run-loads : (k : ℕ) → k < m - a → Load c (W % c) (sumTo (tail a x) (suc k)) (x (a + k))
   run-loads k h =

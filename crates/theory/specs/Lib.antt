@@ -20,7 +20,8 @@ pub mod Regeneration
 -- What the uncapped path computes (Wagner and Whitin).
 pub mod Uncapped
 pub mod WagnerWhitin
--- What the equal path computes (Florian and Klein).
+-- How many full loads; what the equal path computes (Florian and Klein).
+pub mod FullLoads
 pub mod FlorianKlein
 pub mod Loads
 -- What the free path computes (the greedy rule), and why.
@@ -30,7 +31,7 @@ pub mod FreeSetups
 pub mod Batches
 pub mod Counted
 -- What the loops run on; the days of documents 01 and 02 as such problems, and their store limits; the rule of 2.3 on them; demands 2 and 3;
--- agreement of paths; the demands of the calls.
+-- agreement of paths; the demands of the calls, and 2.6 of the equal path.
 pub mod Problem
 pub mod Net
 pub mod Store
@@ -39,3 +40,4 @@ pub mod InTurn
 pub mod Demands
 pub mod Agreement
 pub mod Calls
+pub mod EqualLoads

@@ -2,6 +2,8 @@
 ghost use Prim.Native.Nat.{_≤_};
 use day::Answer;
 use day::Ends;
+use day::EqualAnswer;
+use day::Loads;
 use day::Totals;
 use trial_text::cells;
 use trial_text::cells::MARK;
@@ -77,6 +79,29 @@ fn needed(path: Path, demand: &[u16], ends: Ends) -> Cells
     )
 }
 
+// What a call answered; the loads where it gives them, else none.
+struct Answered {
+    answer: Answer,
+    loads: Loads,
+}
+
+fn without_loads(answer: Answer) -> Answered {
+    Answered {
+        answer,
+        loads: Loads { full: 0, part: 0 },
+    }
+}
+
+fn with_loads(answer: EqualAnswer) -> Answered {
+    match answer {
+        EqualAnswer::Refused(r) => without_loads(Answer::Refused(r)),
+        EqualAnswer::Planned(t, loads) => Answered {
+            answer: Answer::Planned(t),
+            loads,
+        },
+    }
+}
+
 // What a call answered, and whether it left every lent cell as document 01 says.
 pub struct Outcome {
     pub answer: Answer,
@@ -96,9 +121,9 @@ fn plan(
     choices: &mut [u16],
     slots: &mut [u16],
     ends: Ends,
-) -> Answer {
+) -> Answered {
     match path {
-        Path::Full => full::plan(
+        Path::Full => without_loads(full::plan(
             demand,
             capacity,
             setup,
@@ -109,8 +134,8 @@ fn plan(
             choices,
             slots,
             ends,
-        ),
-        Path::Uncapped => uncapped::plan(
+        )),
+        Path::Uncapped => without_loads(uncapped::plan(
             demand,
             capacity,
             setup,
@@ -121,8 +146,8 @@ fn plan(
             choices,
             slots,
             ends,
-        ),
-        Path::Equal => equal::plan(
+        )),
+        Path::Equal => with_loads(equal::plan(
             demand,
             capacity,
             setup,
@@ -133,8 +158,8 @@ fn plan(
             choices,
             slots,
             ends,
-        ),
-        Path::Free => free::plan(
+        )),
+        Path::Free => without_loads(free::plan(
             demand,
             capacity,
             setup,
@@ -144,7 +169,7 @@ fn plan(
             costs,
             slots,
             ends,
-        ),
+        )),
     }
 }
 
@@ -162,17 +187,27 @@ fn print_plan(t: Totals, plan: &[u16]) {
     print::number(b" starts ", t.setups);
 }
 
-fn print_answer(line: &[u8], path: Path, answer: Answer, slots: &[u16], n: usize, kept: bool) {
+// Only the equal path counts them.
+fn print_loads(path: Path, loads: Loads) {
+    if let Path::Equal = path {
+        print::number(b" full-load ", loads.full);
+        print::number(b" part-loaded ", loads.part);
+    }
+}
+
+fn print_answer(line: &[u8], path: Path, given: Answered, slots: &[u16], n: usize, kept: bool) {
     if line.len() == 0 {
         return;
     }
     print::text(text::name(line));
     name_of(path);
+    let answer = given.answer;
     match answer {
         Answer::Refused(r) => print::refusal(r),
         Answer::Planned(t) => {
             let end = text::least(n, slots.len());
             print_plan(t, &slots[0..end]);
+            print_loads(path, given.loads);
         }
     }
     print::unless(kept);
@@ -212,7 +247,7 @@ pub fn run(
     slots: &mut [u16],
     ends: Ends,
 ) -> Outcome {
-    let answer = plan(
+    let given = plan(
         path,
         demand,
         capacity,
@@ -225,6 +260,7 @@ pub fn run(
         slots,
         ends,
     );
+    let answer = given.answer;
     let n = planned(answer, demand.len());
     let kept = as_left(
         costs,
@@ -233,7 +269,7 @@ pub fn run(
         cleared(path, answer, demand, ends),
         n,
     );
-    print_answer(line, path, answer, slots, n, kept);
+    print_answer(line, path, given, slots, n, kept);
     Outcome { answer, kept }
 }
 

@@ -65,7 +65,7 @@ pub fn uncapped(day: Day, memory: Memory, answer: &mut [u64; 2]) -> u64 {
     call_path!(yakkurem_uncapped, day, memory, answer)
 }
 
-pub fn equal(day: Day, memory: Memory, answer: &mut [u64; 2]) -> u64 {
+pub fn equal(day: Day, memory: Memory, answer: &mut [u64; 4]) -> u64 {
     call_path!(yakkurem_equal, day, memory, answer)
 }
 

@@ -1,6 +1,7 @@
 //! Safe calls of the proved planner. The meaning of each is in include/yakkurem.h; this crate turns codes into results.
 //!
-//! Names are lot sizing's. The documents': demand is need, setup is start cost, holding is upkeep, setups are starts.
+//! Names are lot sizing's. The documents': demand is need, setup is start cost, holding is upkeep, setups are starts, loads are full-load and
+//! part-loaded periods.
 pub mod codes;
 
 /// A day: one entry a period in each table, the charge at its beginning, and the charge that it is to hand on.
@@ -48,6 +49,24 @@ pub struct Memory<'a> {
 pub struct Totals {
     pub cost: u64,
     pub setups: u64,
+}
+
+/// How a plan loads a cell of one capacity.
+#[derive(Clone, Copy, Debug, PartialEq, Eq)]
+pub struct Loads {
+    /// the periods that make the capacity, which is above 0
+    pub full: u64,
+    /// those that make something, and less
+    pub part: u64,
+}
+
+/// What the equal path says of its plan. Where the capacity c is above 0, a run (between two moments of empty store, or an end of the day) that
+/// makes W has W ÷ c full loads, rounded down, and one part load if the remainder is above 0; the loads are the sums over the runs.
+#[derive(Clone, Copy, Debug, PartialEq, Eq)]
+pub struct EqualTotals {
+    pub totals: Totals,
+    /// none where the capacity is 0
+    pub loads: Loads,
 }
 
 /// The documents' number of a refusal, and the period that it names; 0 where it names none.
@@ -111,11 +130,14 @@ pub fn uncapped(day: Day, memory: Memory) -> Result<Totals, Refusal> {
     }
 }
 
-/// The plan of a day with one capacity throughout, after Florian and Klein.
-pub fn equal(day: Day, memory: Memory) -> Result<Totals, Refusal> {
-    let mut answer = [0; 2];
+/// The plan of a day with one capacity throughout, after Florian and Klein, and how it loads the cell.
+pub fn equal(day: Day, memory: Memory) -> Result<EqualTotals, Refusal> {
+    let mut answer = [0; 4];
     match codes::equal(day, memory, &mut answer) {
-        0 => Ok(totals(answer)),
+        0 => {
+            let [cost, setups, full, part] = answer;
+            Ok(EqualTotals { totals: Totals { cost, setups }, loads: Loads { full, part } })
+        }
         code => Err(refusal(code)),
     }
 }
