@@ -37,10 +37,15 @@ static void read_file(void) {
         file, file_length, need, PERIODS, capacity, PERIODS, start, PERIODS, unit, PERIODS, upkeep, PERIODS, store, PERIODS, answer);
 }
 
+static void test_load(void) {
+    code = yakkurem_test_load(
+        7, n, need, PERIODS, capacity, PERIODS, start, PERIODS, unit, PERIODS, upkeep, PERIODS, store, PERIODS);
+}
+
 static const struct { const char *name; void (*call)(void); } calls[] = {
     {"yakkurem_full", full}, {"yakkurem_uncapped", uncapped}, {"yakkurem_equal", equal}, {"yakkurem_free", free_path},
     {"yakkurem_weigh", weigh}, {"yakkurem_compare", compare}, {"yakkurem_write", write_file}, {"yakkurem_read", read_file},
-    {"yakkurem_lookup", lookup},
+    {"yakkurem_lookup", lookup}, {"yakkurem_test_load", test_load},
 };
 enum { CALLS = sizeof calls / sizeof *calls };
 

@@ -123,6 +123,15 @@ uint64_t yakkurem_lookup(const uint8_t *file, size_t bytes, size_t period, uint6
  * closing is above 0, so at most 1832; count is how many. Later bytes keep their contents. Refusals in order: 1, 2, 3, 6. */
 uint64_t yakkurem_write(YAKKUREM_DAY, uint8_t *out, size_t bytes, uint64_t count[1]);
 
+/* Draws a test load: a made-up day of n periods that anyone can draw again from its seed. Each draw sets the seed to
+ * (1664525 * seed + 1013904223) modulo 4294967296 and takes its upper 16 bits; per period five draws, in order need modulo
+ * 41, capacity modulo 61, start modulo 30001, unit modulo 1201, upkeep modulo 21. With seed 0 the first need is 13. Accepted,
+ * the first n cells of the tables hold what was drawn, with stores of 65535, and later cells keep their contents; opening and closing
+ * of the day are 0. There is no out-array. Refusals in order: 1, 6. Such a day is within all limits, but need not have a plan. */
+uint64_t yakkurem_test_load(
+    uint32_t seed, size_t n, uint16_t *need, size_t needs, uint16_t *capacity, size_t capacities, uint32_t *start, size_t starts,
+    uint32_t *unit, size_t units, uint32_t *upkeep, size_t upkeeps, uint16_t *store, size_t stores);
+
 #undef YAKKUREM_DAY
 #undef YAKKUREM_MEMORY
 

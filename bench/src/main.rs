@@ -4,14 +4,10 @@ mod methods;
 #[allow(dead_code)]
 #[path = "../../outside/src/plain.rs"]
 mod plain;
-#[allow(dead_code)]
-#[path = "../../outside/src/random.rs"]
-mod random;
 
 use plain::{Day, Path};
-use random::Random;
 use std::hint::black_box;
-use yakkurem::Memory;
+use yakkurem::{Memory, TablesMut};
 
 const ROUNDS: usize = 9;
 
@@ -29,28 +25,54 @@ impl Areas {
     }
 }
 
-/// A day of n periods with need `total` in all, no charge at its ends, no store limits, one capacity, and costs of a common size.
-fn day(n: usize, total: u64, capacity: u16) -> Day {
-    let mut random = Random::new(total + capacity as u64 + n as u64);
-    let mut table = |low: u64, high: u64| (0..n).map(|_| random.between(low, high) as u32).collect::<Vec<u32>>();
-    let mut demand = vec![(total / n as u64) as u16; n];
-    demand[n - 1] += (total % n as u64) as u16;
-    for i in (1..n).step_by(2) {
-        // uneven, and still within the capacity summed so far
-        let moved = demand[i - 1] / 2;
-        demand[i - 1] -= moved;
-        demand[i] += moved;
-    }
-    let (setup, unit, holding) = (table(1000, 9000), table(5, 15), table(1, 9));
-    Day { demand, capacity: vec![capacity; n], setup, unit, holding, store: vec![plain::NO_LIMIT; n], opening: 0, closing: 0 }
+/// The test load of request 2.7 that a seed gives, drawn by the library.
+fn drawn(seed: u32, n: usize) -> Day {
+    let mut day = Day {
+        demand: vec![0; n],
+        capacity: vec![0; n],
+        setup: vec![0; n],
+        unit: vec![0; n],
+        holding: vec![0; n],
+        store: vec![0; n],
+        opening: 0,
+        closing: 0,
+    };
+    let Day { demand, capacity, setup, unit, holding, store, .. } = &mut day;
+    yakkurem::test_load(seed, n, TablesMut { demand, capacity, setup, unit, holding, store }).expect("1 to 96 periods");
+    day
 }
 
-/// The same without starting cost, and with so little upkeep that it pays to make some of the need in periods before.
-fn free_day(n: usize, total: u64, capacity: u16) -> Day {
-    let day = day(n, total, capacity);
-    let holding = day.holding.iter().map(|h| h % 2).collect();
-    Day { setup: vec![0; n], holding, ..day }
+/// The first seed whose load of 96 periods has a plan. A shorter load is the front of a longer one, so it has a plan too.
+fn first_seed() -> u32 {
+    (0..).find(|&seed| plain::shortage(&drawn(seed, 96)).is_none()).expect("a load with a plan")
 }
+
+/// Capacities as drawn, or one for every period in their place.
+#[derive(Clone, Copy)]
+enum Capacity {
+    Drawn,
+    One(u16),
+}
+
+impl Capacity {
+    fn set_in(self, day: Day) -> Day {
+        match self {
+            Capacity::Drawn => day,
+            Capacity::One(capacity) => Day { capacity: vec![capacity; day.periods()], ..day },
+        }
+    }
+}
+
+impl std::fmt::Display for Capacity {
+    fn fmt(&self, f: &mut std::fmt::Formatter) -> std::fmt::Result {
+        match self {
+            Capacity::Drawn => write!(f, "drawn"),
+            Capacity::One(capacity) => write!(f, "{capacity}"),
+        }
+    }
+}
+
+const CAPACITIES: [Capacity; 4] = [Capacity::Drawn, Capacity::One(60), Capacity::One(500), Capacity::One(65_535)];
 
 fn library(path: Path, day: &Day, areas: &mut Areas) -> u64 {
     let Day { demand, capacity, setup, unit, holding, store, .. } = day;
@@ -149,21 +171,21 @@ fn alone(path: Path, day: &Day) -> Spread {
 }
 
 /// The full path on days whose battery is full now and then: the smaller it is, the fewer totals can be reached.
-fn with_store() {
+fn with_store(seed: u32) {
     println!("\n## Days with a store limit\n");
     println!(
-        "The full path; n is 96, and the limit is the same in every period. The other paths refuse such days (16). Beside it the same day \
-         without a limit.\n"
+        "The full path; n is 96, and one limit takes the place of the 65,535 in every period. The other paths refuse such days (16). Beside \
+         it the same day without a limit.\n"
     );
-    println!("| R | Capacity | Limit | Without | With | To the plain program | To recursion (5) |");
-    println!("|---|---|---|---|---|---|---|");
-    for (total, limits) in [(500, [10, 50, 250]), (4096, [100, 250, 1000])] {
-        for (capacity, limit) in [60, 65_535].into_iter().flat_map(|capacity| limits.map(|limit| (capacity, limit))) {
-            let unlimited = day(96, total, capacity);
+    println!("| Capacity | Limit | Without | With | To the plain program | To recursion (5) |");
+    println!("|---|---|---|---|---|---|");
+    for capacity in [Capacity::One(60), Capacity::One(65_535)] {
+        for limit in [10, 50, 250, 1000] {
+            let unlimited = capacity.set_in(drawn(seed, 96));
             let limited = Day { store: vec![limit; 96], ..unlimited.clone() };
             let (time, plain, letter) = compare(Path::Full, &limited);
             println!(
-                "| {total} | {capacity} | {limit} | {} | {} | {} | {} |",
+                "| {capacity} | {limit} | {} | {} | {} | {} |",
                 alone(Path::Full, &unlimited).time(),
                 time.time(),
                 plain.ratio(),
@@ -176,19 +198,20 @@ fn with_store() {
 const PATHS: [(Path, &str); 3] = [(Path::Full, "full"), (Path::Uncapped, "uncapped"), (Path::Equal, "equal")];
 
 /// The free path beside those that may serve the same days: what a station would take without it.
-fn without_starts() {
+fn without_starts(seed: u32) {
     println!("\n## Days without starting cost\n");
-    println!("The library's paths on the same days; the ratios are the free path's. It serves at most 2 × n batches, whatever R is.\n");
-    println!("| n | R | Capacity | full | uncapped | free | To the plain program | To recursion (5) |");
-    println!("|---|---|---|---|---|---|---|---|");
-    let of_96 = [500, 4096].into_iter().flat_map(|total| [60, 500, 65_535].map(|capacity| (96, total, capacity)));
-    let shorter = [12, 24, 48].into_iter().flat_map(|n| [60, 65_535].map(|capacity| (n, 500, capacity)));
-    for (n, total, capacity) in of_96.chain(shorter) {
-        let day = free_day(n, total, capacity);
-        let uncapped = if (capacity as u64) < total { "–".to_string() } else { alone(Path::Uncapped, &day).time() };
+    println!(
+        "Test loads of 96 periods and fewer, with every start cost 0; the ratios are the free path's, and a dash says that a capacity may \
+         bind. It serves at most 2 × n batches, whatever R is.\n"
+    );
+    println!("| n | Capacity | full | uncapped | free | To the plain program | To recursion (5) |");
+    println!("|---|---|---|---|---|---|---|");
+    for (n, capacity) in [96, 48, 24, 12].into_iter().flat_map(|n| CAPACITIES.map(|capacity| (n, capacity))) {
+        let day = Day { setup: vec![0; n], ..capacity.set_in(drawn(seed, n)) };
+        let uncapped = if plain::binding(&day).is_none() { alone(Path::Uncapped, &day).time() } else { "–".to_string() };
         let (time, plain, letter) = compare(Path::Free, &day);
         println!(
-            "| {n} | {total} | {capacity} | {} | {uncapped} | {} | {} | {} |",
+            "| {n} | {capacity} | {} | {uncapped} | {} | {} | {} |",
             alone(Path::Full, &day).time(),
             time.time(),
             plain.ratio(),
@@ -197,60 +220,77 @@ fn without_starts() {
     }
 }
 
-fn main() {
-    println!("# Benchmarks\n");
-    println!(
-        "Written by `bench/run`: the library's paths beside plain Rust programs of the same methods (`bench/src/methods.rs`) and beside \
-         recursion (5) by its letter (`outside/src/plain.rs`), which knows no bounds on the totals. Same process, same days, both built for \
-         release; all work on lent memory that was not cleared before a call. The library also tests the tables and clears its areas; the \
-         plain programs do neither. Recursion (5) by its letter allocates its rows. The days have no charge at their ends, so R is T, and but \
-         for one table no store limits.\n"
-    );
-    println!(
-        "Times are the thread's processor time on x86-64 Linux. A figure is the median of {ROUNDS} rounds, with the smallest and the \
-         largest: that spread is the machine's noise. A ratio below 1 means that the library is faster.\n"
-    );
-    println!("## Days of 96 periods\n");
-    println!("| Path | R | Capacity | Library | To the plain program | To recursion (5) |");
-    println!("|---|---|---|---|---|---|");
-    for (path, name) in PATHS {
-        for total in [500, 4096] {
-            for capacity in [60, 500, 65_535] {
-                if path == Path::Uncapped && (capacity as u64) < total {
-                    continue;
-                }
-                let (time, plain, letter) = compare(path, &day(96, total, capacity));
-                println!("| {name} | {total} | {capacity} | {} | {} | {} |", time.time(), plain.ratio(), letter.ratio());
-            }
-        }
-    }
-    without_starts();
-    with_store();
-    println!("\n## Growth with n\n\nR is 500.\n");
-    println!("| n | full, capacity 60 | uncapped | equal, capacity 60 |");
-    println!("|---|---|---|---|");
+/// The paths on longer and longer days.
+fn with_n(seed: u32) {
+    println!("\n## Growth with n\n");
+    println!("| n | R | full, capacity 60 | uncapped | equal, capacity 60 |");
+    println!("|---|---|---|---|---|");
     for n in [12, 24, 48, 96] {
-        let capped = day(n, 500, 60);
-        let unbound = day(n, 500, 65_535);
+        let [capped, unbound] = [60, 65_535].map(|capacity| Capacity::One(capacity).set_in(drawn(seed, n)));
         println!(
-            "| {n} | {} | {} | {} |",
+            "| {n} | {} | {} | {} | {} |",
+            capped.total(),
             alone(Path::Full, &capped).time(),
             alone(Path::Uncapped, &unbound).time(),
             alone(Path::Equal, &capped).time()
         );
     }
-    println!("\n## Growth with R\n\nn is 96.\n");
-    println!("| R | full, capacity 60 | full, capacity 65,535 | uncapped | equal, capacity 60 |");
+}
+
+/// The paths on days with more and more need.
+fn with_need(seed: u32) {
+    println!("\n## Growth with R\n\nn is 96; the needs are those drawn times ¼, ½, 1 and 2, rounded down.\n");
+    println!("| R | full, capacity 80 | full, capacity 65,535 | uncapped | equal, capacity 80 |");
     println!("|---|---|---|---|---|");
-    for total in [512, 1024, 2048, 4096] {
-        let capped = day(96, total, 60);
-        let unbound = day(96, total, 65_535);
+    for quarters in [1, 2, 4, 8] {
+        let [capped, unbound] = [80, 65_535].map(|capacity| {
+            let day = Capacity::One(capacity).set_in(drawn(seed, 96));
+            Day { demand: day.demand.iter().map(|need| need * quarters / 4).collect(), ..day }
+        });
         println!(
-            "| {total} | {} | {} | {} | {} |",
+            "| {} | {} | {} | {} | {} |",
+            capped.total(),
             alone(Path::Full, &capped).time(),
             alone(Path::Full, &unbound).time(),
             alone(Path::Uncapped, &unbound).time(),
             alone(Path::Equal, &capped).time()
         );
     }
+}
+
+fn main() {
+    let seed = first_seed();
+    println!("# Benchmarks\n");
+    println!(
+        "Written by `bench/run`: the library's paths beside plain Rust programs of the same methods (`bench/src/methods.rs`) and beside \
+         recursion (5) by its letter (`outside/src/plain.rs`), which knows no bounds on the totals. Same process, same days, both built for \
+         release; all work on lent memory that was not cleared before a call. The library also tests the tables and clears its areas; the \
+         plain programs do neither. Recursion (5) by its letter allocates its rows.\n"
+    );
+    println!(
+        "The days are test loads of request 2.7, drawn by `yakkurem_test_load` with seed {seed}, the first whose load of 96 periods has a \
+         plan. Where a table names a capacity, a store limit, other start costs or other needs, these take the place of the drawn ones; all else \
+         is as drawn. The days have no charge at their ends, so R is T, and but for one table no store limits.\n"
+    );
+    println!(
+        "Times are the thread's processor time on x86-64 Linux. A figure is the median of {ROUNDS} rounds, with the smallest and the \
+         largest: that spread is the machine's noise. A ratio below 1 means that the library is faster.\n"
+    );
+    println!("## Days of 96 periods\n\nR is {}.\n", drawn(seed, 96).total());
+    println!("| Path | Capacity | Library | To the plain program | To recursion (5) |");
+    println!("|---|---|---|---|---|");
+    for (path, name) in PATHS {
+        for capacity in CAPACITIES {
+            let day = capacity.set_in(drawn(seed, 96));
+            if path == Path::Uncapped && plain::binding(&day).is_some() || path == Path::Equal && plain::unequal(&day).is_some() {
+                continue;
+            }
+            let (time, plain, letter) = compare(path, &day);
+            println!("| {name} | {capacity} | {} | {} | {} |", time.time(), plain.ratio(), letter.ratio());
+        }
+    }
+    without_starts(seed);
+    with_store(seed);
+    with_n(seed);
+    with_need(seed);
 }

@@ -16,9 +16,9 @@ pub struct Seen {
 pub const AROUND: usize = 8;
 
 impl Seen {
-    /// The numbers in the out-array.
+    /// The numbers in the out-array, where the call has one.
     pub fn values(&self) -> &[u64] {
-        &self.out[AROUND..self.out.len() - AROUND]
+        self.out.get(AROUND..self.out.len().saturating_sub(AROUND)).unwrap_or(&[])
     }
 
     /// The plan of a path, in its slots.
@@ -65,6 +65,18 @@ fn array<T, const N: usize>(cells: &mut [T]) -> &mut [T; N] {
     lent(cells).try_into().unwrap()
 }
 
+/// Six lent tables of such lengths, as they are before a call that fills them.
+pub fn tables_before(l: &[usize]) -> Vec<Vec<u64>> {
+    vec![
+        wide::<u16>(&pattern(0, l[0])),
+        wide::<u16>(&pattern(1, l[1])),
+        wide::<u32>(&pattern(2, l[2])),
+        wide::<u32>(&pattern(3, l[3])),
+        wide::<u32>(&pattern(4, l[4])),
+        wide::<u16>(&pattern(5, l[5])),
+    ]
+}
+
 /// The parts that a call is lent, as they are before it.
 fn before(input: &Input) -> Vec<Vec<u64>> {
     let l = &input.lent;
@@ -73,14 +85,7 @@ fn before(input: &Input) -> Vec<Vec<u64>> {
             vec![wide::<u64>(&pattern(0, l[0])), wide::<u16>(&pattern(1, l[1])), wide::<u16>(&pattern(2, l[2]))]
         }
         Call::Free => vec![wide::<u64>(&pattern(0, l[0])), wide::<u16>(&pattern(1, l[1]))],
-        Call::Read => vec![
-            wide::<u16>(&pattern(0, l[0])),
-            wide::<u16>(&pattern(1, l[1])),
-            wide::<u32>(&pattern(2, l[2])),
-            wide::<u32>(&pattern(3, l[3])),
-            wide::<u32>(&pattern(4, l[4])),
-            wide::<u16>(&pattern(5, l[5])),
-        ],
+        Call::Read => tables_before(l),
         Call::Write => vec![wide::<u8>(&pattern(0, l[0]))],
         Call::Weigh | Call::Compare | Call::Lookup => vec![],
     }
@@ -91,6 +96,16 @@ fn fill<T: Cell>(part: &mut [u64], cells: &[T]) {
     for (i, &cell) in cells.iter().enumerate() {
         part[AROUND + i] = cell.wide();
     }
+}
+
+/// Writes a day at the front of six lent tables.
+pub fn fill_tables(lent: &mut [Vec<u64>], day: &plain::Day) {
+    fill(&mut lent[0], &day.demand);
+    fill(&mut lent[1], &day.capacity);
+    fill(&mut lent[2], &day.setup);
+    fill(&mut lent[3], &day.unit);
+    fill(&mut lent[4], &day.holding);
+    fill(&mut lent[5], &day.store);
 }
 
 const NO_PLAN: &str = "no plan, and no shortage";
@@ -163,12 +178,7 @@ pub fn expected(input: &Input) -> Seen {
         Call::Compare => accepted_comparison(input, &mut seen),
         Call::Read => {
             let day = plain::day_in(&input.file, &plain::walk(&input.file).unwrap());
-            fill(&mut seen.lent[0], &day.demand);
-            fill(&mut seen.lent[1], &day.capacity);
-            fill(&mut seen.lent[2], &day.setup);
-            fill(&mut seen.lent[3], &day.unit);
-            fill(&mut seen.lent[4], &day.holding);
-            fill(&mut seen.lent[5], &day.store);
+            fill_tables(&mut seen.lent, &day);
             fill(&mut seen.out, &[day.periods() as u64, day.opening as u64, day.closing as u64]);
         }
         Call::Lookup => fill(&mut seen.out, &plain::walk(&input.file).unwrap().places[input.period - 1].map(|v| v as u64)),
@@ -207,25 +217,29 @@ fn run_free(input: &Input) -> Seen {
     Seen { code, out: wide(&answer), lent: vec![wide(&costs), wide(&slots)] }
 }
 
-fn run_read(input: &Input) -> Seen {
-    let l = &input.lent;
+/// A call that fills six tables of such lengths: its code, and the tables after it.
+pub fn run_tables(l: &[usize], call: impl FnOnce(TablesMut) -> u64) -> (u64, Vec<Vec<u64>>) {
     let mut demand: Vec<u16> = pattern(0, l[0]);
     let mut capacity: Vec<u16> = pattern(1, l[1]);
     let mut setup: Vec<u32> = pattern(2, l[2]);
     let mut unit: Vec<u32> = pattern(3, l[3]);
     let mut holding: Vec<u32> = pattern(4, l[4]);
     let mut store: Vec<u16> = pattern(5, l[5]);
-    let mut day = out(3);
-    let filled = TablesMut {
+    let code = call(TablesMut {
         demand: lent(&mut demand),
         capacity: lent(&mut capacity),
         setup: lent(&mut setup),
         unit: lent(&mut unit),
         holding: lent(&mut holding),
         store: lent(&mut store),
-    };
-    let code = codes::read(&input.file, filled, array(&mut day));
-    Seen { code, out: wide(&day), lent: vec![wide(&demand), wide(&capacity), wide(&setup), wide(&unit), wide(&holding), wide(&store)] }
+    });
+    (code, vec![wide(&demand), wide(&capacity), wide(&setup), wide(&unit), wide(&holding), wide(&store)])
+}
+
+fn run_read(input: &Input) -> Seen {
+    let mut day = out(3);
+    let (code, lent) = run_tables(&input.lent, |tables| codes::read(&input.file, tables, array(&mut day)));
+    Seen { code, out: wide(&day), lent }
 }
 
 /// What the library does. The tables, plans and file that it only reads are to be as they were.

@@ -1,4 +1,4 @@
-//! Inputs of every call: valid ones of several sizes, at the limits, and damaged so that a wanted refusal's condition holds.
+//! Inputs of every call but the test load (test_load.rs): valid ones of several sizes, at the limits, and damaged so that a wanted refusal's condition holds.
 use crate::plain::{self, Day, Path};
 use crate::random::Random;
 use std::iter::repeat;

@@ -7,6 +7,7 @@ mod compare;
 mod itself;
 mod published;
 mod shrink;
+mod test_load;
 
 use input::{Call, Input, Size, With, CALLS, EARLIER};
 use outside::{ends, free, holding, input, loads, plain, random, store};
@@ -14,6 +15,7 @@ use random::Random;
 use std::iter::once;
 use std::process::exit;
 use std::time::Instant;
+use test_load::TestLoad;
 
 const SEED: u64 = 1979;
 
@@ -53,6 +55,17 @@ impl Run {
             }
             number if number <= LAST as u64 => self.refused[number as usize] += 1,
             number => self.broken[number as usize - 101] += 1,
+        }
+    }
+
+    fn try_test_load(&mut self, load: &TestLoad) {
+        if load.fails() {
+            report_test_load(load);
+        }
+        self.inputs += 1;
+        match load.expected().code {
+            0 => self.accepted += 1,
+            number => self.refused[number as usize] += 1,
         }
     }
 
@@ -218,17 +231,29 @@ fn show_cell(part: &str, expected: &[u64], seen: &[u64]) {
     }
 }
 
-fn report(input: &Input) -> ! {
-    let smallest = shrink::shrink(input, fails);
-    let (expected, seen) = (compare::expected(&smallest), compare::actual(&smallest));
-    println!("failed: {}", shrink::show(&smallest));
-    for (which, said) in [("expected", &expected), ("seen    ", &seen)] {
+/// What was to be seen, and what was; the first cell of each part that differs.
+fn show_seen(expected: &compare::Seen, seen: &compare::Seen) {
+    for (which, said) in [("expected", expected), ("seen    ", seen)] {
         println!("{which} code {} (number {}, period {}), out {:?}", said.code, said.code % 256, said.code / 256, said.values());
     }
     show_cell("out-array", &expected.out, &seen.out);
     for (part, (e, s)) in expected.lent.iter().zip(&seen.lent).enumerate() {
         show_cell(&format!("lent part {part}"), e, s);
     }
+}
+
+fn report_test_load(load: &TestLoad) -> ! {
+    let smallest = load.smallest();
+    println!("failed: {smallest:?}");
+    show_seen(&smallest.expected(), &smallest.actual());
+    exit(1);
+}
+
+fn report(input: &Input) -> ! {
+    let smallest = shrink::shrink(input, fails);
+    let (expected, seen) = (compare::expected(&smallest), compare::actual(&smallest));
+    println!("failed: {}", shrink::show(&smallest));
+    show_seen(&expected, &seen);
     if !compare::full_agrees(&smallest, &expected) {
         println!("the full path says otherwise on this day than what is expected");
     }
@@ -302,8 +327,16 @@ fn main() {
     run.loads(Size::Middle, 600);
     run.loads(Size::Long, 120);
     run.try_inputs(&loads::inputs());
-    println!("outside: seed {seed}, {} inputs of {} calls as the plain implementation has them", run.inputs, CALLS.len());
+    test_load::check_draws();
+    let test_loads = test_load::loads(&mut run.random);
+    for load in &test_loads {
+        run.try_test_load(load);
+    }
+    let on_test_loads = test_load::inputs(&mut run.random);
+    run.try_inputs(&on_test_loads);
+    println!("outside: seed {seed}, {} inputs of {} calls as the plain implementation has them", run.inputs, CALLS.len() + 1);
     run.print_counts();
+    println!("test loads: {} inputs, and {} of the other calls on days so drawn", test_loads.len(), on_test_loads.len());
     println!("published instances: {} inputs, each with the published cost, doubled", published.len());
     eprintln!("{} seconds", start.elapsed().as_secs());
 }

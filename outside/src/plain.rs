@@ -1,4 +1,4 @@
-//! Documents 01 and 02 (requests 2.1 to 2.6) and the report in plain code, written from these alone: what every call should answer.
+//! Documents 01 and 02 (requests 2.1 to 2.7) and the report in plain code, written from these alone: what every call should answer.
 //! Names are lot sizing's; document 01 says need for demand, start for setup, upkeep for holding.
 use std::iter::once;
 use std::ops::Range;
@@ -628,4 +628,30 @@ pub fn lookup_refusals(file: &[u8], period: usize) -> Vec<Refusal> {
 /// What the writer refuses, in order.
 pub fn write_refusals(day: &Day, out: usize) -> Vec<Refusal> {
     [bad_count(day.periods()), bad_lengths(day), bad_value(day), too_few(out, file_length(day))].into_iter().flatten().collect()
+}
+
+// The test load of request 2.7.
+
+/// The made-up day that a seed gives.
+pub fn test_load(seed: u32, n: usize) -> Day {
+    let mut state = seed as u64;
+    let mut draw = |modulus: u64| {
+        state = (1_664_525 * state + 1_013_904_223) % 4_294_967_296;
+        (state >> 16) % modulus
+    };
+    let mut day = Day::default();
+    for _ in 0..n {
+        day.demand.push(draw(41) as u16);
+        day.capacity.push(draw(61) as u16);
+        day.setup.push(draw(30_001) as u32);
+        day.unit.push(draw(1201) as u32);
+        day.holding.push(draw(21) as u32);
+        day.store.push(NO_LIMIT);
+    }
+    day
+}
+
+/// What a test load refuses, in order; `shortest` is the length of the shortest of the lent tables.
+pub fn test_load_refusals(n: usize, shortest: usize) -> Vec<Refusal> {
+    [bad_count(n), too_few(shortest, n)].into_iter().flatten().collect()
 }

@@ -4,7 +4,7 @@ use crate::plain::{self, Day};
 use std::time::{Duration, Instant};
 
 /// Smaller numbers to try in place of one.
-fn smaller(v: u64) -> Vec<u64> {
+pub fn smaller(v: u64) -> Vec<u64> {
     let mut tries = vec![];
     for w in [0, 1, v / 2, v.saturating_sub(1)] {
         if w < v && !tries.contains(&w) {

@@ -1,12 +1,15 @@
 -- What a C program sees of a call's answer: one code, and the call's out-array (include/yakkurem.h).
--- Main definitions: `codeOf`; `seenOf`, what is seen of an answer's figures. Main statement: `code-splits` takes a code apart.
--- Assumes nothing.
+-- Main definitions: `codeOf`; `seenOf`, what is seen of an answer's figures; `checkCode`, of a call without an out-array.
+-- Main statement: `code-splits` takes a code apart. Assumes nothing.
 use mathlib.Core.Path.{_≡_, _∙_}
 use mathlib.Core.List.{List}
 use mathlib.Core.Option.{Option, none, some}
 use Prim.Native.Nat.{ℕ, _+_, _*_, _/_, _%_, _<_}
 use native.Mathlib.Nat.{add-mul-mod-self-left, mod-eq-of-lt, add-mul-div-left, div-eq-of-lt, zero-add}
 use native.Mathlib.Omega.{arith}
+use Rattle.day.specs.declared.Check.{Check}
+use Rattle.day.specs.declared.Check.the-variants.{Passed, Refused}
+use Rattle.day.specs.Refusals.{numberOf, periodOf}
 use Rattle.day.specs.Figures.{Figures}
 
 -- the code of a number and a period; 0 is the code of an accepted call, which has neither
@@ -35,3 +38,8 @@ outOf before (some values) = values
 
 abbrev pub seenOf : {A : Type 0} → List A → Figures A → Seen A
 seenOf before f = seen (codeOf (f .number) (f .period)) (outOf before (f .values))
+
+-- where there is no out-array: the code of what the call's tests say
+abbrev pub checkCode : Check → ℕ
+checkCode Passed = codeOf 0 0
+checkCode (Refused r) = codeOf (numberOf r) (periodOf r)

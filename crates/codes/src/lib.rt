@@ -4,8 +4,9 @@ ghost use Rattle.day.specs.Refusals.{numberOf, periodOf};
 ghost use Rattle.day.specs.Figures.{answerFigures, equalFigures};
 ghost use Rattle.dayfile.specs.Answers.{readFigures, writeFigures};
 ghost use Rattle.weigher.specs.Answers.{weighedFigures, comparedFigures, ruleNumber};
-ghost use Rattle.codes.specs.Codes.{codeOf, seen, seenOf};
+ghost use Rattle.codes.specs.Codes.{codeOf, seen, seenOf, checkCode};
 use day::Answer;
+use day::Check;
 use day::EqualAnswer;
 use day::Refusal;
 use dayfile::ReadAnswer;
@@ -27,6 +28,16 @@ pub fn refused(r: Refusal) -> u64
     ensures { λ c. ⌜ c ≡ codeOf (numberOf r) (periodOf r) ⌝ }
 {
     code(r.number(), r.period())
+}
+
+// Of a call that answers with its tests alone: it has no out-array.
+pub fn checked(c: Check) -> u64
+    ensures { λ r. ⌜ r ≡ checkCode c ⌝ }
+{
+    match c {
+        Check::Passed => 0,
+        Check::Refused(r) => refused(r),
+    }
 }
 
 fn broken(rule: Rule, period: u16) -> u64

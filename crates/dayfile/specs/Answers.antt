@@ -3,29 +3,20 @@
 use mathlib.Core.Path.{_≡_}
 use mathlib.Core.Option.{Option, none, some}
 use mathlib.Core.List.{List, [], _∷_, _++_}
-use Prim.Native.Nat.{ℕ, _+_, _-_, _≤_, min}
-use lib.ListN.{length, take, drop}
+use Prim.Native.Nat.{ℕ, _+_, _-_}
+use lib.ListN.{length, drop}
 use denote.Ref.{RefT, now}
-use Rattle.day.specs.Sums.{at, listOf}
-use Rattle.day.specs.declared.Ends.{Ends}
-use Rattle.day.specs.Day.{Day, dayOf, tablesOf, periods}
+use Rattle.day.specs.Sums.{at}
+use Rattle.day.specs.Day.{Day, tablesOf, periods}
 use Rattle.day.specs.File.{bodyLength, body, recordAt, number2, number4, periodsIn, walk, noSuchPeriod, chargeIn, field, storeIn, dayIn, fileOf}
 use Rattle.day.specs.Refusals.{Gives, first, badCount, badSlots, badValue, tableTests}
 use Rattle.day.specs.declared.Refusal.{Refusal}
 use Rattle.day.specs.Figures.{Figures, acceptedWith, refusedWith}
+use Rattle.tables.specs.Filled.{shortest, withFirst}
 use Rattle.dayfile.specs.declared.ReadAnswer.{ReadAnswer}
 use Rattle.dayfile.specs.declared.ReadAnswer.the-variants.{Refused, Periods}
 use Rattle.dayfile.specs.declared.WriteAnswer.{WriteAnswer}
 use Rattle.dayfile.specs.declared.WriteAnswer.the-variants as Write
-
--- each table has at least n cells
-pub record Cells (n : ℕ) (tables : Day) : Type 0 where
-  pub demand : n ≤ length (tables .demand)
-  pub capacity : n ≤ length (tables .capacity)
-  pub setup : n ≤ length (tables .setup)
-  pub unit : n ≤ length (tables .unit)
-  pub holding : n ≤ length (tables .holding)
-  pub store : n ≤ length (tables .store)
 
 -- what opens every call on a file: the walk (10, 11, 12), then 1
 abbrev pub fileTests : List ℕ → List (Option Refusal)
@@ -61,33 +52,19 @@ lookupFigures s i = partFigures (badLookup s i) s i
 abbrev pub badRead : List ℕ → ℕ → Option Refusal
 badRead s cells = first (fileTests s ++ (badSlots cells (periodsIn s) ∷ badValue (dayIn s) ∷ []))
 
--- how many cells each table has at least
-abbrev pub shortest : Day → ℕ
-shortest tables =
-    min (length (tables .demand))
-    (min (length (tables .capacity))
-    (min (length (tables .setup)) (min (length (tables .unit)) (min (length (tables .holding)) (length (tables .store))))))
-
--- a table whose first k cells take f 0, .. f (k - 1), and whose later cells stay
-abbrev pub withFirst : (ℕ → ℕ) → ℕ → List ℕ → List ℕ
-withFirst f k l = listOf f k ++ drop k l
-
--- tables whose first k cells take the numbers of the file's first k periods
-abbrev pub withPeriods : List ℕ → ℕ → Day → Day
-withPeriods s k tables =
-    tablesOf
-    (withFirst (field number2 0 s) k (tables .demand))
-    (withFirst (field number2 2 s) k (tables .capacity))
-    (withFirst (field number4 4 s) k (tables .setup))
-    (withFirst (field number4 8 s) k (tables .unit))
-    (withFirst (field number4 12 s) k (tables .holding))
-    (withFirst (storeIn s) k (tables .store))
-
--- and of all its periods: the file's day at the tables' front
+-- tables whose first cells take the numbers of the file's periods: its day at their front
 abbrev pub withDay : List ℕ → Day → Day
-withDay s tables = withPeriods s (periodsIn s) tables
+withDay s tables =
+    let n = periodsIn s in
+    tablesOf
+    (withFirst (field number2 0 s) n (tables .demand))
+    (withFirst (field number2 2 s) n (tables .capacity))
+    (withFirst (field number4 4 s) n (tables .setup))
+    (withFirst (field number4 8 s) n (tables .unit))
+    (withFirst (field number4 12 s) n (tables .holding))
+    (withFirst (storeIn s) n (tables .store))
 
--- a day's tables at the front of the lent ones, whose later cells stay; and the tables' first n cells as a day, with its ends
+-- a day's tables at the front of the lent ones, whose later cells stay
 abbrev pub withTables : Day → Day → Day
 withTables d tables =
     let n = periods d in
@@ -98,17 +75,6 @@ withTables d tables =
     (d .unit ++ drop n (tables .unit))
     (d .holding ++ drop n (tables .holding))
     (d .store ++ drop n (tables .store))
-
-abbrev pub firstOf : ℕ → Day → Ends → Day
-firstOf n tables ends =
-    dayOf
-    (take n (tables .demand))
-    (take n (tables .capacity))
-    (take n (tables .setup))
-    (take n (tables .unit))
-    (take n (tables .holding))
-    (take n (tables .store))
-    ends
 
 -- a reading's answer in figures: the count of periods, A, Z
 abbrev pub readFigures : ReadAnswer → Figures ℕ

@@ -17,8 +17,7 @@ use lib.Arith.{le-zero}
 use lib.Dec.{eqb, leb, ltb}
 use lib.ListN.{length, take, drop, length-take, length-drop}
 use borrow.Author.Tests.{eqb-true, leb-true, ltb-true, lt-ltb, le-ltb, le-leb, eq-eqb, not-true, not-false}
-use lib.Seq.{take-at}
-use Rattle.day.specs.Sums.{at, listOf, length-listOf}
+use Rattle.day.specs.Sums.{at, length-listOf}
 use Rattle.day.specs.declared.Ends.{Ends}
 use Rattle.day.specs.Day.{Day, endsOf, maxPeriods, maxStore}
 use Rattle.day.specs.declared.Refusal.the-variants.{UnknownKind}
@@ -28,7 +27,8 @@ use Rattle.day.specs.Tests.{not-refused, neither}
 use Rattle.day.specs.File.{periodKind, chargeKind, storeKind, isKind, bodyLength, body, next, number2, isRecord, isPeriod, bothZero, isCharges, headEnd}
 use Rattle.day.specs.File.{recordAt, PeriodAt, Layout, orZero, periodsIn, unknownKind, misplaced, truncated, wrongEnd, badEnd, walk, field, storeIn, dayIn}
 use Rattle.checks.specs.Passed.{SameLengths, Readable}
-use Rattle.dayfile.specs.Answers.{withFirst, withDay, withTables, firstOf}
+use Rattle.tables.specs.Filled.{firstOf, with-front}
+use Rattle.dayfile.specs.Answers.{withDay, withTables}
 use Rattle.dayfile.specs.Passed.{each-passed}
 
 -- a whole record of kind x: the file reaches to its end
@@ -211,9 +211,6 @@ pub day-readable : (s : List ℕ) → periodsIn s ≤ maxPeriods → Readable (d
 day-readable s l = record { few = rw length-listOf l; lengths = day-lengths s }
 
 -- tables that a reading filled: the file's day stands at their front
-with-front : (f : ℕ → ℕ) (n : ℕ) (l : List ℕ) → take n (withFirst f n l) ≡ listOf f n
-with-front f n l = take-at (listOf f n) (drop n l) n (length-listOf f n)
-
 pub day-in-front : (s : List ℕ) (n : ℕ) (ends : Ends) (before after : Day)
     → n ≡ periodsIn s → ends ≡ endsOf (dayIn s) → after ≡ withDay s before
     → firstOf n after ends ≡ dayIn s

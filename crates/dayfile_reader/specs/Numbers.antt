@@ -2,7 +2,7 @@
 use mathlib.Core.List.{List}
 use Prim.Native.Nat.{ℕ}
 use Rattle.day.specs.File.{number2, number4, limitIn}
-use Rattle.dayfile_reader.specs.declared.Numbers.{Numbers}
+use Rattle.tables.specs.declared.Numbers.{Numbers}
 
 abbrev pub numbersIn : ℕ → List ℕ → Numbers
 numbersIn kind b = record {

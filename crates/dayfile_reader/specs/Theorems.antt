@@ -1,24 +1,16 @@
 -- What demand 2 asks of the reader: what it gives is what the layout says (`reader-gives`). Assumes nothing.
-use mathlib.Core.Path.{_≡_, refl, _∙_}
+use mathlib.Core.Path.{_≡_, refl}
 use mathlib.Core.List.{List}
-use Prim.Native.Nat.{ℕ, _≤_, _<_}
-use lib.ListN.{length, drop, List·getD-append}
-use lib.Seq.{drop-at}
-use Rattle.day.specs.Sums.{at, listOf, at-listOf, length-listOf}
+use Prim.Native.Nat.{ℕ}
 use Rattle.day.specs.declared.Ends.{Ends}
 use Rattle.day.specs.Day.{Day}
 use Rattle.day.specs.File.{number2, number4, Layout, periodsIn, chargeIn, field, storeIn}
 use Rattle.dayfile.specs.declared.ReadAnswer.the-variants.{Periods}
-use Rattle.dayfile.specs.Answers.{withFirst, Reading}
+use Rattle.tables.specs.Filled.{FrontFilled, front-filled}
+use Rattle.dayfile.specs.Answers.{Reading}
 use Rattle.dayfile.specs.Passed.{read-given}
 use Rattle.dayfile.specs.Layout.{laid-out}
-use Rattle.dayfile_reader.specs.Tables.{read-passed, with-length}
-
--- one table after a reading: its first n cells hold what the file has for each period, the later cells what they held
-pub record TableRead (n : ℕ) (number : ℕ → ℕ) (before after : List ℕ) : Type 0 where
-  pub entry : (k : ℕ) → k < n → at after k ≡ number k
-  pub rest : drop n after ≡ drop n before
-  pub size : length after ≡ length before
+use Rattle.dayfile_reader.specs.Tables.{read-passed}
 
 -- an accepted reading: the file is laid out as the documents say, with n periods, and A, Z, r, c, b, p, h, s come from their places;
 -- where there is no head, A and Z are both 0, and where a record holds no store limit, that is 65,535
@@ -26,19 +18,12 @@ pub record Read (s : List ℕ) (n : ℕ) (ends : Ends) (before after : Day) : Ty
   pub layout : Layout s n
   pub opening : ends .opening ≡ chargeIn 0 s
   pub closing : ends .closing ≡ chargeIn 2 s
-  pub demand : TableRead n (field number2 0 s) (before .demand) (after .demand)
-  pub capacity : TableRead n (field number2 2 s) (before .capacity) (after .capacity)
-  pub setup : TableRead n (field number4 4 s) (before .setup) (after .setup)
-  pub unit : TableRead n (field number4 8 s) (before .unit) (after .unit)
-  pub holding : TableRead n (field number4 12 s) (before .holding) (after .holding)
-  pub store : TableRead n (storeIn s) (before .store) (after .store)
-
-table-read : (n : ℕ) (f : ℕ → ℕ) (before : List ℕ) → n ≤ length before → TableRead n f before (withFirst f n before)
-table-read n f before l = record {
-  entry = λ k lt. List·getD-append (listOf f n) (drop n before) 0 k (rw length-listOf lt) ∙ at-listOf f n k lt;
-  rest = drop-at (listOf f n) (drop n before) n (length-listOf f n);
-  size = with-length f n before l;
-}
+  pub demand : FrontFilled n (field number2 0 s) (before .demand) (after .demand)
+  pub capacity : FrontFilled n (field number2 2 s) (before .capacity) (after .capacity)
+  pub setup : FrontFilled n (field number4 4 s) (before .setup) (after .setup)
+  pub unit : FrontFilled n (field number4 8 s) (before .unit) (after .unit)
+  pub holding : FrontFilled n (field number4 12 s) (before .holding) (after .holding)
+  pub store : FrontFilled n (storeIn s) (before .store) (after .store)
 
 pub reader-gives : (s : List ℕ) (n : ℕ) (ends : Ends) (before after : Day) → Reading s before (Periods n ends) after → Read s n ends before after
 reader-gives s n ends before after w =
@@ -49,10 +34,10 @@ reader-gives s n ends before after w =
       layout = laid-out s (c .walked);
       opening = refl;
       closing = refl;
-      demand = table-read (periodsIn s) (field number2 0 s) (before .demand) (c .cells .demand);
-      capacity = table-read (periodsIn s) (field number2 2 s) (before .capacity) (c .cells .capacity);
-      setup = table-read (periodsIn s) (field number4 4 s) (before .setup) (c .cells .setup);
-      unit = table-read (periodsIn s) (field number4 8 s) (before .unit) (c .cells .unit);
-      holding = table-read (periodsIn s) (field number4 12 s) (before .holding) (c .cells .holding);
-      store = table-read (periodsIn s) (storeIn s) (before .store) (c .cells .store);
+      demand = front-filled (periodsIn s) (field number2 0 s) (before .demand) (c .cells .demand);
+      capacity = front-filled (periodsIn s) (field number2 2 s) (before .capacity) (c .cells .capacity);
+      setup = front-filled (periodsIn s) (field number4 4 s) (before .setup) (c .cells .setup);
+      unit = front-filled (periodsIn s) (field number4 8 s) (before .unit) (c .cells .unit);
+      holding = front-filled (periodsIn s) (field number4 12 s) (before .holding) (c .cells .holding);
+      store = front-filled (periodsIn s) (storeIn s) (before .store) (c .cells .store);
     })

@@ -1,29 +1,20 @@
 //! The reader (document 01, "Day file"; document 02, 2.1, 2.5): the periods of a file into six lent tables. What it does is `Reading` of the crate dayfile.
 ghost use mathlib.Core.Path.{_≡_};
-ghost use Prim.Native.Nat.{_+_, _≤_, min};
+ghost use Prim.Native.Nat.{_≤_};
 ghost use lib.ListN.{length};
 ghost use Rattle.day.specs.Day.{tablesOf, endsOf, maxPeriods};
 ghost use Rattle.day.specs.Refusals.{checked, badValue};
 ghost use Rattle.day.specs.File.{bodyLength, limitIn, periodsIn, dayIn};
 ghost use Rattle.day.specs.Lent.{tablesBefore, tablesAfter};
-ghost use Rattle.dayfile.specs.Answers.{Cells, withDay, badRead, Reading};
+ghost use Rattle.tables.specs.Filled.{Cells};
+ghost use Rattle.dayfile.specs.Answers.{withDay, badRead, Reading};
 ghost use Rattle.dayfile_reader.specs.Numbers.{numbersIn};
-ghost use Rattle.dayfile_reader.specs.Tables.{stored};
 use day::Check;
 use day::Ends;
 use day::Refusal;
 use dayfile::ReadAnswer;
 use dayfile::layout;
-
-// The numbers of one period.
-struct Numbers {
-    demand: u16,
-    capacity: u16,
-    setup: u32,
-    unit: u32,
-    holding: u32,
-    store: u16,
-}
+use tables::Numbers;
 
 // The store limit of a period record: only kind 4 holds one.
 fn store_limit(kind: u8, body: &[u8]) -> u16
@@ -69,28 +60,6 @@ fn ends(file: &[u8]) -> Ends
     }
 }
 
-// One cell of each table takes a period's number.
-fn put(
-    k: usize,
-    numbers: Numbers,
-    demand: &mut [u16],
-    capacity: &mut [u16],
-    setup: &mut [u32],
-    unit: &mut [u32],
-    holding: &mut [u32],
-    store: &mut [u16],
-)
-    requires { ⌜ Cells (k + 1) (tablesOf (now demand) (now capacity) (now setup) (now unit) (now holding) (now store)) ⌝ }
-    ensures { λ _. ⌜ tablesAfter demand capacity setup unit holding store ≡ stored k numbers (tablesBefore demand capacity setup unit holding store) ⌝ }
-{
-    demand[k] = numbers.demand;
-    capacity[k] = numbers.capacity;
-    setup[k] = numbers.setup;
-    unit[k] = numbers.unit;
-    holding[k] = numbers.holding;
-    store[k] = numbers.store;
-}
-
 // The first n cells of each table take the numbers of the file's n periods; later cells stay.
 fn fill(
     file: &[u8],
@@ -114,7 +83,7 @@ fn fill(
     while k < n {
         let start = at + 1;
         let end = layout::next(file, at);
-        put(
+        tables::put(
             k,
             decode(file[at], &file[start..end]),
             demand,
@@ -175,28 +144,6 @@ fn tests(file: &[u8], n: usize, cells: usize) -> Check
     values(file, n)
 }
 
-fn least(a: usize, b: usize) -> usize
-    ensures { λ r. ⌜ r ≡ min a b ⌝ }
-{
-    if a < b { a } else { b }
-}
-
-fn shortest(
-    demand: usize,
-    capacity: usize,
-    setup: usize,
-    unit: usize,
-    holding: usize,
-    store: usize,
-) -> usize
-    ensures { λ r. ⌜ r ≡ min demand (min capacity (min setup (min unit (min holding store)))) ⌝ }
-{
-    least(
-        demand,
-        least(capacity, least(setup, least(unit, least(holding, store)))),
-    )
-}
-
 // Reads a file: 10, 11, 12, then 1, 6, 3. Accepted, the tables' first cells take the numbers of its periods, whose count is given,
 // with the day's ends.
 pub fn read(
@@ -213,7 +160,7 @@ pub fn read(
         ⌝ }
 {
     let n = layout::periods(file);
-    let cells = shortest(
+    let cells = tables::shortest(
         demand.len(),
         capacity.len(),
         setup.len(),

@@ -24,7 +24,8 @@ use Rattle.dayfile.specs.declared.ReadAnswer.{ReadAnswer}
 use Rattle.dayfile.specs.declared.ReadAnswer.the-variants as reader
 use Rattle.dayfile.specs.declared.WriteAnswer.{WriteAnswer}
 use Rattle.dayfile.specs.declared.WriteAnswer.the-variants as writer
-use Rattle.dayfile.specs.Answers.{fileTests, badRead, badWrite, shortest, firstOf, withTables, Reading, Writing}
+use Rattle.tables.specs.Filled.{shortest, firstOf}
+use Rattle.dayfile.specs.Answers.{fileTests, badRead, badWrite, withTables, Reading, Writing}
 use Rattle.dayfile.specs.Passed.{each-passed, read-given}
 use Rattle.dayfile.specs.Layout.{laid-out, counted, walk-clean, day-lengths, day-in-front, with-day}
 use Rattle.dayfile_writer.specs.RoundTrip.{Bytes, only-file, file-layout, reads-back}

@@ -24,7 +24,8 @@ use Rattle.day.specs.Paths.{full}
 use Rattle.checks.specs.Passed.{admitted}
 use Rattle.dayfile.specs.declared.ReadAnswer.{ReadAnswer}
 use Rattle.dayfile.specs.declared.ReadAnswer.the-variants as Read
-use Rattle.dayfile.specs.Answers.{shortest, badRead, firstOf, Reading}
+use Rattle.tables.specs.Filled.{shortest, firstOf}
+use Rattle.dayfile.specs.Answers.{badRead, Reading}
 use Rattle.dayfile.specs.Passed.{read-given}
 use Rattle.dayfile.specs.Layout.{day-in-front}
 use Rattle.dayfile_reader.specs.Tables.{read-passed}

@@ -1,17 +1,19 @@
 -- What a C program sees of a call: some answer that the call may give, by its code and its out-array (include/yakkurem.h).
--- Main definitions: `Shows`, and of each kind of call `PathShows`, `EqualShows`, `ReadShows`, `LookupShows`, `WriteShows`. Assumes nothing.
+-- Main definitions: `Shows`, and of each kind of call `PathShows`, `EqualShows`, `ReadShows`, `LookupShows`, `WriteShows`, `LoadShows`. Assumes nothing.
 use mathlib.Core.Path.{_≡_}
 use mathlib.Core.List.{List}
 use Prim.Native.Nat.{ℕ}
 use denote.Ref.{RefT, now}
 use denote.Triple.Both.{Both}
 use Rattle.day.specs.declared.Ends.{Ends}
+use Rattle.day.specs.declared.Check.{Check}
 use Rattle.day.specs.Figures.{Figures, answerFigures, equalFigures}
 use Rattle.day.specs.Outcome.{Path, Memory, Runs}
 use Rattle.day.specs.Loads.{EqualRuns}
 use Rattle.day.specs.Lent.{Lent, dayBefore, tablesBefore, tablesAfter}
 use Rattle.dayfile.specs.Answers.{Reading, Writing, lookupFigures, readFigures, writeFigures}
-use Rattle.codes.specs.Codes.{seen, seenOf}
+use Rattle.test_load.specs.Load.{Loading}
+use Rattle.codes.specs.Codes.{seen, seenOf, checkCode}
 
 abbrev pub LookupShows : (file : Lent) → ℕ → (part : Lent) → ℕ → Type 0
 LookupShows file i part r =
@@ -46,3 +48,9 @@ WriteShows demand capacity setup unit holding store ends out count r =
     writeFigures
     count
     r
+
+-- a test load has no out-array: some answer that it may give, by its code alone
+pub record LoadShows (seed n : ℕ) (demand capacity setup unit holding store : Lent) (r : ℕ) : Type 0 where
+  pub answer : Check
+  pub given : Loading seed n (tablesBefore demand capacity setup unit holding store) answer (tablesAfter demand capacity setup unit holding store)
+  pub shown : r ≡ checkCode answer

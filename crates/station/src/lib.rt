@@ -3,7 +3,7 @@ ghost use Rattle.day.specs.Paths.{full, uncapped, free};
 ghost use Rattle.day.specs.Day.{endsWith};
 ghost use Rattle.day.specs.Lent.{dayBefore, memoryBefore, memoryAfter, cellsBefore, cellsAfter};
 ghost use Rattle.weigher.specs.Answers.{Weighs, Compares, weighedFigures, comparedFigures};
-ghost use Rattle.station.specs.Shows.{Shows, PathShows, EqualShows, ReadShows, LookupShows, WriteShows};
+ghost use Rattle.station.specs.Shows.{Shows, PathShows, EqualShows, ReadShows, LookupShows, WriteShows, LoadShows};
 use day::Check;
 use day::Ends;
 
@@ -260,4 +260,22 @@ pub extern "C" fn yakkurem_write(
     let ends = Ends { opening, closing };
     let a = dayfile_writer::write(demand, capacity, setup, unit, holding, store, out, ends);
     codes::written(a, count)
+}
+
+// Fills tables with the test load of a seed. There is no out-array: the code is the whole answer.
+#[no_mangle]
+pub extern "C" fn yakkurem_test_load(
+    seed: u32,
+    n: usize,
+    demand: &mut [u16],
+    capacity: &mut [u16],
+    setup: &mut [u32],
+    unit: &mut [u32],
+    holding: &mut [u32],
+    store: &mut [u16],
+) -> u64
+    ensures { λ r. ⌜ LoadShows seed n demand capacity setup unit holding store r ⌝ }
+{
+    let a = test_load::fill(seed, n, demand, capacity, setup, unit, holding, store);
+    codes::checked(a)
 }

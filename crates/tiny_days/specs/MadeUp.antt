@@ -1,23 +1,17 @@
--- What a made-up day is: its numbers are draws of the generator in document 02, 2.7.
+-- What a made-up day is: its numbers are draws as those of a test load (document 02, 2.7).
 -- Main definition: `madeUp`. Assumes nothing.
 use mathlib.Core.Path.{_≡_}
 use mathlib.Core.List.{List, [], _∷_}
-use Prim.Native.Nat.{ℕ, _+_, _*_, _/_, _%_, _^_, _≤_}
+use Prim.Native.Nat.{ℕ, _+_, _%_, _≤_}
 use lib.ListN.{length}
 use Rattle.day.specs.declared.Ends.{Ends}
+use Rattle.test_load.specs.Draws.{nextSeed, upper}
 use Rattle.tiny_days.specs.declared.Capacities.{Capacities}
 use Rattle.tiny_days.specs.declared.Capacities.the-variants.{Any, Equal, Unbound}
 use Rattle.tiny_days.specs.declared.Stores.{Stores}
 use Rattle.tiny_days.specs.declared.Stores.the-variants.{Unlimited, Low, Ample}
 use Rattle.tiny_days.specs.declared.Drawn.{Drawn}
 use Rattle.tiny_days.specs.declared.Tiny.{Tiny}
-
--- the next seed; the number drawn with a seed
-abbrev pub nextOf : ℕ → ℕ
-nextOf seed = (1664525 * seed + 1013904223) % 2 ^ 32
-
-abbrev pub upperOf : ℕ → ℕ
-upperOf seed = seed / 2 ^ 16
 
 -- the capacity drawn for the period, the one drawn for the day, or 10, which all that a tiny day makes does not exceed
 abbrev pub capacityOf : Capacities → (drawn common : ℕ) → ℕ
@@ -34,32 +28,32 @@ storeOf Ample drawn = 10
 -- one period: five draws, for demand, capacity, setup, unit and holding cost in this order
 unfoldable pub drawnOf : ℕ → Capacities → ℕ → Drawn
 drawnOf seed capacities common =
-    let a = nextOf seed in
-    let b = nextOf a in
-    let c = nextOf b in
-    let d = nextOf c in
-    let e = nextOf d in
+    let a = nextSeed seed in
+    let b = nextSeed a in
+    let c = nextSeed b in
+    let d = nextSeed c in
+    let e = nextSeed d in
     record {
       seed = e;
-      demand = upperOf a % 3;
-      capacity = capacityOf capacities (upperOf b % 5) common;
-      setup = upperOf c % 4;
-      unit = upperOf d % 3;
-      holding = upperOf e % 3;
+      demand = upper a % 3;
+      capacity = capacityOf capacities (upper b % 5) common;
+      setup = upper c % 4;
+      unit = upper d % 3;
+      holding = upper e % 3;
     }
 
 -- both ends: a draw each, opening before closing
 abbrev pub endsFrom : (seed most : ℕ) → Ends
-endsFrom seed most = let a = nextOf seed in record { opening = upperOf a % (most + 1); closing = upperOf (nextOf a) % (most + 1) }
+endsFrom seed most = let a = nextSeed seed in record { opening = upper a % (most + 1); closing = upper (nextSeed a) % (most + 1) }
 
 -- the store limits: a draw each
 unfoldable pub storesFrom : ℕ → Stores → List ℕ
 storesFrom seed stores =
-    let a = nextOf seed in
-    let b = nextOf a in
-    let c = nextOf b in
-    let d = nextOf c in
-    storeOf stores (upperOf a % 6) ∷ storeOf stores (upperOf b % 6) ∷ storeOf stores (upperOf c % 6) ∷ storeOf stores (upperOf d % 6) ∷ []
+    let a = nextSeed seed in
+    let b = nextSeed a in
+    let c = nextSeed b in
+    let d = nextSeed c in
+    storeOf stores (upper a % 6) ∷ storeOf stores (upper b % 6) ∷ storeOf stores (upper c % 6) ∷ storeOf stores (upper d % 6) ∷ []
 
 -- four periods as tables, of which the first n cells count, with the store limits and the day's ends; the next day's seed is the one after the
 -- periods
@@ -80,14 +74,14 @@ tablesOf n a b c d store ends =
 -- a made-up day: a draw for the number of periods, one for the common capacity, then the periods, then the ends, then the store limits
 unfoldable pub madeUp : ℕ → Capacities → Stores → ℕ → Tiny
 madeUp seed capacities stores most =
-    let first = nextOf seed in
-    let second = nextOf first in
-    let common = upperOf second % 5 in
+    let first = nextSeed seed in
+    let second = nextSeed first in
+    let common = upper second % 5 in
     let a = drawnOf second capacities common in
     let b = drawnOf (a .seed) capacities common in
     let c = drawnOf (b .seed) capacities common in
     let d = drawnOf (c .seed) capacities common in
-    tablesOf (1 + upperOf first % 4) a b c d (storesFrom (nextOf (nextOf (d .seed))) stores) (endsFrom (d .seed) most)
+    tablesOf (1 + upper first % 4) a b c d (storesFrom (nextSeed (nextSeed (d .seed))) stores) (endsFrom (d .seed) most)
 
 -- the day that the seed gives; each of its tables has a cell for every period
 pub record MadeUp (seed : ℕ) (capacities : Capacities) (stores : Stores) (most : ℕ) (r : Tiny) : Type 0 where

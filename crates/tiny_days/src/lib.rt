@@ -1,21 +1,11 @@
-//! For the trials of the paths: made-up tiny days. A tiny day has one to four periods, in which it makes at most 10 in all.
+//! For the trials of the paths: made-up tiny days, by the draws of a test load. A tiny day has one to four periods, in which it makes at most 10
+//! in all.
 ghost use mathlib.Core.Path.{_≡_};
 ghost use Prim.Native.Nat.{_+_, _%_};
-ghost use Rattle.tiny_days.specs.MadeUp.{nextOf, upperOf, capacityOf, storeOf, drawnOf, endsFrom, storesFrom, MadeUp};
+ghost use Rattle.tiny_days.specs.MadeUp.{capacityOf, storeOf, drawnOf, endsFrom, storesFrom, MadeUp};
 use day::Ends;
-
-// One draw of the generator in document 02, 2.7: the next seed. The number drawn is its upper half.
-fn next(seed: u32) -> u32
-    ensures { λ r. ⌜ r ≡ nextOf seed ⌝ }
-{
-    ((1664525 * (seed as u64) + 1013904223) % 4294967296) as u32
-}
-
-fn upper(seed: u32) -> u16
-    ensures { λ r. ⌜ r ≡ upperOf seed ⌝ }
-{
-    (seed / 65536) as u16
-}
+use test_load::next_seed;
+use test_load::upper;
 
 // Which capacities a made-up day has: any, one throughout, or such as cannot bind.
 pub enum Capacities {
@@ -66,11 +56,11 @@ struct Drawn {
 fn draw(seed: u32, capacities: Capacities, common: u16) -> Drawn
     ensures { λ r. ⌜ r ≡ drawnOf seed capacities common ⌝ }
 {
-    let a = next(seed);
-    let b = next(a);
-    let c = next(b);
-    let d = next(c);
-    let e = next(d);
+    let a = next_seed(seed);
+    let b = next_seed(a);
+    let c = next_seed(b);
+    let d = next_seed(c);
+    let e = next_seed(d);
     Drawn {
         seed: e,
         demand: upper(a) % 3,
@@ -92,8 +82,8 @@ fn end_of(drawn: u16, most: u16) -> u16
 fn draw_ends(seed: u32, most: u16) -> Ends
     ensures { λ r. ⌜ r ≡ endsFrom seed most ⌝ }
 {
-    let a = next(seed);
-    let b = next(a);
+    let a = next_seed(seed);
+    let b = next_seed(a);
     Ends {
         opening: end_of(upper(a), most),
         closing: end_of(upper(b), most),
@@ -104,10 +94,10 @@ fn draw_ends(seed: u32, most: u16) -> Ends
 fn draw_stores(seed: u32, stores: Stores) -> [u16; 4]
     ensures { λ r. ⌜ r ≡ storesFrom seed stores ⌝ }
 {
-    let a = next(seed);
-    let b = next(a);
-    let c = next(b);
-    let d = next(c);
+    let a = next_seed(seed);
+    let b = next_seed(a);
+    let c = next_seed(b);
+    let d = next_seed(c);
     [
         store_of(stores, upper(a) % 6),
         store_of(stores, upper(b) % 6),
@@ -134,15 +124,15 @@ pub struct Tiny {
 pub fn make_up(seed: u32, capacities: Capacities, stores: Stores, most: u16) -> Tiny
     ensures { λ r. ⌜ MadeUp seed capacities stores most r ⌝ }
 {
-    let first = next(seed);
-    let second = next(first);
+    let first = next_seed(seed);
+    let second = next_seed(first);
     let common = upper(second) % 5;
     let a = draw(second, capacities, common);
     let b = draw(a.seed, capacities, common);
     let c = draw(b.seed, capacities, common);
     let d = draw(c.seed, capacities, common);
     let ends = draw_ends(d.seed, most);
-    let store = draw_stores(next(next(d.seed)), stores);
+    let store = draw_stores(next_seed(next_seed(d.seed)), stores);
     Tiny {
         seed: d.seed,
         n: 1 + (upper(first) % 4) as usize,

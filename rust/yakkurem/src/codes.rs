@@ -55,6 +55,11 @@ extern "C" {
         store: *mut u16, _: usize, day: *mut u64,
     ) -> u64;
     fn yakkurem_lookup(file: *const u8, _: usize, period: usize, part: *mut u64) -> u64;
+    fn yakkurem_test_load(
+        seed: u32, n: usize,
+        need: *mut u16, _: usize, capacity: *mut u16, _: usize, start: *mut u32, _: usize, unit: *mut u32, _: usize, upkeep: *mut u32, _: usize,
+        store: *mut u16, _: usize,
+    ) -> u64;
 }
 
 pub fn full(day: Day, memory: Memory, answer: &mut [u64; 2]) -> u64 {
@@ -98,4 +103,15 @@ pub fn lookup(file: &[u8], period: usize, part: &mut [u64; 2]) -> u64 {
 
 pub fn write(day: Day, out: &mut [u8], count: &mut [u64; 1]) -> u64 {
     call_with_day!(yakkurem_write, day, out.as_mut_ptr(), out.len(), count.as_mut_ptr())
+}
+
+#[rustfmt::skip]
+pub fn test_load(seed: u32, n: usize, tables: TablesMut) -> u64 {
+    let TablesMut { demand, capacity, setup, unit, holding, store } = tables;
+    unsafe {
+        yakkurem_test_load(
+            seed, n, demand.as_mut_ptr(), demand.len(), capacity.as_mut_ptr(), capacity.len(), setup.as_mut_ptr(), setup.len(),
+            unit.as_mut_ptr(), unit.len(), holding.as_mut_ptr(), holding.len(), store.as_mut_ptr(), store.len(),
+        )
+    }
 }

@@ -19,7 +19,7 @@ pub struct Day<'a> {
     pub closing: u16,
 }
 
-/// Tables that a reader fills.
+/// Tables that a reader or a test load fills.
 pub struct TablesMut<'a> {
     pub demand: &'a mut [u16],
     pub capacity: &'a mut [u16],
@@ -192,6 +192,14 @@ pub fn write(day: Day, out: &mut [u8]) -> Result<u64, Refusal> {
     let mut count = [0];
     match codes::write(day, out, &mut count) {
         0 => Ok(count[0]),
+        code => Err(refusal(code)),
+    }
+}
+
+/// Fills the tables with the test load of n periods that the seed gives: a made-up day without charge at its ends or store limits.
+pub fn test_load(seed: u32, n: usize, tables: TablesMut) -> Result<(), Refusal> {
+    match codes::test_load(seed, n, tables) {
+        0 => Ok(()),
         code => Err(refusal(code)),
     }
 }

@@ -1,6 +1,6 @@
 -- `dayfile_reader::fill` meets its contract. The loop's invariant: the first k cells of each table hold the numbers of the file's
 -- first k periods, and record k begins at `at`. The measure is how many periods are left. Assumes nothing.
-use mathlib.Core.Path.{_≡_, refl}
+use mathlib.Core.Path.{_≡_}
 use mathlib.Core.List.{List}
 use Prim.Native.Nat.{ℕ, _-_}
 use native.Mathlib.Omega.{arith}
@@ -8,7 +8,8 @@ use borrow.Author.Needs.{needs}
 use denote.Ref.{now}
 use Rattle.day.specs.Day.{tablesOf}
 use Rattle.dayfile.specs.Layout.{WholePeriod, body-part, body-whole}
-use Rattle.dayfile_reader.specs.Tables.{cells-same, cells-here, PeriodsRead, period-here, period-long, read-turn}
+use Rattle.tables.specs.Filled.{cells-here, filled-none}
+use Rattle.dayfile_reader.specs.Tables.{PeriodsRead, period-here, period-long, read-turn}
 use Rattle.dayfile_reader.proofs.fill.Statement.{statement}
 use Rattle.dayfile_reader.proofs.fill.Tie as tie
 
@@ -43,13 +44,7 @@ turn : (c : tie.In-loop Inv-loop μ-loop) → WholePeriod (file c) (c .before .l
 turn c = period-here _ _ _ _ _ _ (c .before .loop .inv) (start (c .before) .pre .0) (c .loop-test .taken)
 
 loop-holds : tie.Need-loop-holds Inv-loop μ-loop
-loop-holds c =
-    record {
-      done = omega arith;
-      here = c .head-end .ensures;
-      tables = refl;
-      cells = cells-same _;
-    }
+loop-holds c = record { here = c .head-end .ensures; filled = filled-none _ _ _ _ _ _ _ _ }
 
 index : tie.Need-shared-slice-read-decode Inv-loop μ-loop
 index c = omega (arith, turn (c .before .before) .whole)
@@ -75,7 +70,7 @@ decode-requires c κs =
 put-requires : tie.Need-put-requires Inv-loop μ-loop
 put-requires c κs =
     let i = at-turn (at-decode c) in
-    cells-here _ _ _ _ (i .loop-test .taken) (start (i .before) .pre .1) (i .before .loop .inv .cells)
+    cells-here _ _ _ _ _ (i .before .loop .inv .filled) (i .loop-test .taken) (start (i .before) .pre .1)
 
 add-k : tie.Need-add-k Inv-loop μ-loop
 add-k c =
@@ -94,14 +89,16 @@ loop-again c =
 returns : tie.Need-returns Inv-loop μ-loop
 returns c =
     let s = start (c .before) in
-    let e : c .before .loop .k ≡ s .args .n = omega arith in
-    rw (← s .pre .0, ← e) (c .before .loop .inv .tables)
+    let w = c .before .loop .inv .filled in
+    let e : c .before .loop .k ≡ s .args .n = omega (arith, w .done) in
+    rw (← s .pre .0, ← e) (w .tables)
 
 pub fill-spec : {M : Type 1} → statement M
 fill-spec =
     tie.close
     (tie.spec
     Inv-loop μ-loop (λ c κs. search needs) loop-holds add-start next-requires index sub-decode sub-decode part-decode-end decode-requires put-requires
-    add-k (λ c. omega arith) loop-again (λ c. c .before .loop .inv .cells .demand)
-    (λ c. c .before .loop .inv .cells .capacity) (λ c. c .before .loop .inv .cells .setup)
-    (λ c. c .before .loop .inv .cells .unit) (λ c. c .before .loop .inv .cells .holding) (λ c. c .before .loop .inv .cells .store) returns)
+    add-k (λ c. omega arith) loop-again
+    (λ c. c .before .loop .inv .filled .cells .demand) (λ c. c .before .loop .inv .filled .cells .capacity)
+    (λ c. c .before .loop .inv .filled .cells .setup) (λ c. c .before .loop .inv .filled .cells .unit)
+    (λ c. c .before .loop .inv .filled .cells .holding) (λ c. c .before .loop .inv .filled .cells .store) returns)

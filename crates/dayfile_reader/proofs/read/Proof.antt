@@ -8,7 +8,8 @@ use denote.Ref.{now}
 use Rattle.day.specs.Day.{Day, tablesOf}
 use Rattle.day.specs.Refusals.{checked}
 use Rattle.day.specs.Tests.{passed, refused, is-gives}
-use Rattle.dayfile.specs.Answers.{shortest, badRead}
+use Rattle.tables.specs.Filled.{shortest}
+use Rattle.dayfile.specs.Answers.{badRead}
 use Rattle.dayfile_reader.specs.Tables.{read-passed}
 use Rattle.dayfile_reader.proofs.read.Statement.{statement}
 use Rattle.dayfile_reader.proofs.read.Tie as tie

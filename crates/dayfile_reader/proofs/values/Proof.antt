@@ -10,7 +10,7 @@ use Rattle.day.specs.Day.{Day, tablesOf, endsOf}
 use Rattle.day.specs.Refusals.{checked, badValue}
 use Rattle.day.specs.File.{dayIn}
 use Rattle.checks.specs.Passed.{Readable}
-use Rattle.dayfile.specs.Answers.{firstOf}
+use Rattle.tables.specs.Filled.{firstOf}
 use Rattle.dayfile.specs.Layout.{day-readable, day-in-front}
 use Rattle.dayfile_reader.proofs.values.Statement.{statement}
 use Rattle.dayfile_reader.proofs.values.Tie as tie

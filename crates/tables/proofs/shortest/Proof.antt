@@ -1,7 +1,7 @@
--- `dayfile_reader::shortest` meets its contract: what the five calls give, put together. Assumes nothing.
+-- `tables::shortest` meets its contract: what the five calls give, put together. Assumes nothing.
 use borrow.Author.Needs.{needs}
-use Rattle.dayfile_reader.proofs.shortest.Statement.{statement}
-use Rattle.dayfile_reader.proofs.shortest.Tie as tie
+use Rattle.tables.proofs.shortest.Statement.{statement}
+use Rattle.tables.proofs.shortest.Tie as tie
 
 returns : tie.Need-returns
 returns c = cc

@@ -1,0 +1,2 @@
+-- Lent tables, filled from the front.
+pub mod Filled
