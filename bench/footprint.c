@@ -36,11 +36,15 @@ static void read_file(void) {
     code = yakkurem_read(
         file, file_length, need, PERIODS, capacity, PERIODS, start, PERIODS, unit, PERIODS, upkeep, PERIODS, store, PERIODS, answer);
 }
+static void price(void) {
+    code = 0;
+    answer[0] = yakkurem_price(UINT64_MAX);
+}
 
 static const struct { const char *name; void (*call)(void); } calls[] = {
     {"yakkurem_full", full}, {"yakkurem_uncapped", uncapped}, {"yakkurem_equal", equal}, {"yakkurem_free", free_path},
     {"yakkurem_weigh", weigh}, {"yakkurem_compare", compare}, {"yakkurem_write", write_file}, {"yakkurem_read", read_file},
-    {"yakkurem_lookup", lookup},
+    {"yakkurem_lookup", lookup}, {"yakkurem_price", price},
 };
 enum { CALLS = sizeof calls / sizeof *calls };
 

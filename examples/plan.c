@@ -1,5 +1,5 @@
 /* Plans a day with needs 2 and 3 that begins with a charge of 1 and hands on 1, and prints what is made in each period: by the full path;
- * with a battery that holds 2; and on mains, where no start costs anything, by the free path. */
+ * with a battery that holds 2; and on mains, where no start costs anything, by the free path. Last, what the depot charges for a cost. */
 #include <stdio.h>
 #include "yakkurem.h"
 
@@ -21,5 +21,7 @@ int main(void) {
         need, 2, capacity, 2, start, 2, unit, 2, upkeep, 2, small, 2, opening, closing, costs, 12, choices, 12, made, 2, answer);
     refused |= show(code, answer, made);
     code = yakkurem_free(need, 2, capacity, 2, none, 2, unit, 2, upkeep, 2, store, 2, opening, closing, costs, 2, made, 2, answer);
-    return show(code, answer, made) || refused;
+    refused |= show(code, answer, made);
+    printf("price %u\n", (unsigned)yakkurem_price(20000001));
+    return refused;
 }

@@ -4,5 +4,6 @@ pub mod free;
 pub mod holding;
 pub mod input;
 pub mod plain;
+pub mod price;
 pub mod random;
 pub mod store;

@@ -9,7 +9,7 @@ mod published;
 mod shrink;
 
 use input::{Call, Input, Size, With, CALLS, EARLIER};
-use outside::{ends, free, holding, input, plain, random, store};
+use outside::{ends, free, holding, input, plain, price, random, store};
 use random::Random;
 use std::iter::once;
 use std::process::exit;
@@ -203,6 +203,20 @@ fn report(input: &Input) -> ! {
     exit(1);
 }
 
+/// The depot's prices, from the smallest cost on; gives how many were compared.
+fn prices(random: &mut Random) -> usize {
+    price::check();
+    let costs = price::costs(random);
+    for &cost in &costs {
+        let (expected, seen) = (price::price(cost), yakkurem::price(cost));
+        if seen != expected {
+            println!("failed: price of {cost}\nexpected {expected}\nseen     {seen}");
+            exit(1);
+        }
+    }
+    costs.len()
+}
+
 /// A file of more records than the end's two bytes can count, alone and after another kind: the count is not taken modulo 65,536.
 fn long_files(call: Call) -> Vec<Input> {
     let mut inputs = vec![];
@@ -263,6 +277,7 @@ fn main() {
     for file in store::files() {
         run.try_inputs(&ends::on_file(&file));
     }
+    let priced = prices(&mut run.random);
     let refused = (1..=LAST).map(|number| format!("{number}: {}", run.refused[number])).collect::<Vec<_>>().join(", ");
     println!("outside: seed {seed}, {} inputs of {} calls as the plain implementation has them", run.inputs, CALLS.len());
     let [above, short, over, full] = run.broken;
@@ -270,5 +285,6 @@ fn main() {
     println!("broken plans: {above} above capacity, {short} short, {over} over at the end, {full} above store");
     println!("uncapped, equal and free path: {} plans, each the full path's on the same day", run.short_paths);
     println!("published instances: {} inputs, each with the published cost, doubled", published.len());
+    println!("prices: {priced} costs, each as the plain implementation has it");
     eprintln!("{} seconds", start.elapsed().as_secs());
 }

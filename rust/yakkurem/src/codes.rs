@@ -1,4 +1,4 @@
-//! The calls with their codes and out-arrays, as include/yakkurem.h has them. A slice goes over as its pointer and its length.
+//! The calls with their codes and out-arrays, as include/yakkurem.h has them; the price, which is no code. A slice goes over as its pointer and its length.
 //! The library reads and writes only inside these, keeps no pointer, and asks nothing of its caller: so every call is safe.
 use crate::{Day, Memory, TablesMut};
 
@@ -55,6 +55,7 @@ extern "C" {
         store: *mut u16, _: usize, day: *mut u64,
     ) -> u64;
     fn yakkurem_lookup(file: *const u8, _: usize, period: usize, part: *mut u64) -> u64;
+    fn yakkurem_price(cost: u64) -> u64;
 }
 
 pub fn full(day: Day, memory: Memory, answer: &mut [u64; 2]) -> u64 {
@@ -98,4 +99,8 @@ pub fn lookup(file: &[u8], period: usize, part: &mut [u64; 2]) -> u64 {
 
 pub fn write(day: Day, out: &mut [u8], count: &mut [u64; 1]) -> u64 {
     call_with_day!(yakkurem_write, day, out.as_mut_ptr(), out.len(), count.as_mut_ptr())
+}
+
+pub fn price(cost: u64) -> u64 {
+    unsafe { yakkurem_price(cost) }
 }

@@ -173,3 +173,8 @@ pub fn write(day: Day, out: &mut [u8]) -> Result<u64, Refusal> {
         code => Err(refusal(code)),
     }
 }
+
+/// What the depot charges for a cost in microlitres, in cents. Every cost has a price.
+pub fn price(cost: u64) -> u64 {
+    codes::price(cost)
+}
