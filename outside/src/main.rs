@@ -349,6 +349,7 @@ fn main() {
     let on_test_loads = test_load::inputs(&mut run.random);
     run.try_inputs(&on_test_loads);
     let priced = prices(&mut run.random);
+    // the calls of `CALLS` and the test load; prices are counted apart
     println!("outside: seed {seed}, {} inputs of {} calls as the plain implementation has them", run.inputs, CALLS.len() + 1);
     run.print_counts();
     println!("test loads: {} inputs, and {} of the other calls on days so drawn", test_loads.len(), on_test_loads.len());
