@@ -36,6 +36,10 @@ static void read_file(void) {
     code = yakkurem_read(
         file, file_length, need, PERIODS, capacity, PERIODS, start, PERIODS, unit, PERIODS, upkeep, PERIODS, store, PERIODS, answer);
 }
+static void price(void) {
+    code = 0;
+    answer[0] = yakkurem_price(UINT64_MAX);
+}
 
 static void test_load(void) {
     code = yakkurem_test_load(
@@ -45,7 +49,7 @@ static void test_load(void) {
 static const struct { const char *name; void (*call)(void); } calls[] = {
     {"yakkurem_full", full}, {"yakkurem_uncapped", uncapped}, {"yakkurem_equal", equal}, {"yakkurem_free", free_path},
     {"yakkurem_weigh", weigh}, {"yakkurem_compare", compare}, {"yakkurem_write", write_file}, {"yakkurem_read", read_file},
-    {"yakkurem_lookup", lookup}, {"yakkurem_test_load", test_load},
+    {"yakkurem_lookup", lookup}, {"yakkurem_test_load", test_load}, {"yakkurem_price", price},
 };
 enum { CALLS = sizeof calls / sizeof *calls };
 

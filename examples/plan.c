@@ -1,6 +1,7 @@
 /* Plans a day with needs 2 and 3 that begins with a charge of 1 and hands on 1, and prints what is made in each period: by the full path;
  * with a battery that holds 2; on mains, where no start costs anything, by the free path; and by the equal path with a cell that makes 3 at
- * most, which also counts the periods in which it makes 3, and those in which it makes less. Then it draws the needs of a test load. */
+ * most, which also counts the periods in which it makes 3, and those in which it makes less. Then it draws the needs of a
+ * test load, and says what the depot charges for a cost. */
 #include <stdio.h>
 #include "yakkurem.h"
 
@@ -29,5 +30,6 @@ int main(void) {
     if (code == 0) printf("full-load periods %u part-loaded %u\n", (unsigned)answer[2], (unsigned)answer[3]);
     code = yakkurem_test_load(0, 2, need, 2, capacity, 2, start, 2, unit, 2, upkeep, 2, store, 2);
     if (code == 0) printf("test load of seed 0: need %u %u\n", need[0], need[1]);
+    printf("price %u\n", (unsigned)yakkurem_price(20000001));
     return refused || code != 0;
 }

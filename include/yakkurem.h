@@ -18,7 +18,7 @@
  * at most 1000000; upkeep at most 500000. Opening and closing have no limit of their own. A store of 65535 stands for none:
  * no plan that holds leaves so much.
  *
- * Every call returns a code:
+ * Every call but yakkurem_price returns a code:
  *     0                                   accepted
  *     number + 256 * period               refused: the number is 1 to 16, the period 0 where none is named
  *     101 to 104 + 256 * period           a weighed plan breaks a rule: above capacity (101), short (102), charge over at the
@@ -131,6 +131,11 @@ uint64_t yakkurem_write(YAKKUREM_DAY, uint8_t *out, size_t bytes, uint64_t count
 uint64_t yakkurem_test_load(
     uint32_t seed, size_t n, uint16_t *need, size_t needs, uint16_t *capacity, size_t capacities, uint32_t *start, size_t starts,
     uint32_t *unit, size_t units, uint32_t *upkeep, size_t upkeeps, uint16_t *store, size_t stores);
+
+/* What the depot charges for a cost in microlitres, in cents: whole cans of 5 litres, of which cans 1 to 4 cost 2350 each, 5 to
+ * 12 cost 2190, 13 to 40 cost 2060 and later ones 1980; and freight of 75 per 1000 of that sum, to the nearest cent, halves
+ * up. It takes any cost, and refuses none: what it returns is the price, and no code. Plans are chosen by fuel alone. */
+uint64_t yakkurem_price(uint64_t cost);
 
 #undef YAKKUREM_DAY
 #undef YAKKUREM_MEMORY

@@ -5,5 +5,6 @@ pub mod holding;
 pub mod input;
 pub mod loads;
 pub mod plain;
+pub mod price;
 pub mod random;
 pub mod store;

@@ -10,7 +10,7 @@ mod shrink;
 mod test_load;
 
 use input::{Call, Input, Size, With, CALLS, EARLIER};
-use outside::{ends, free, holding, input, loads, plain, random, store};
+use outside::{ends, free, holding, input, loads, plain, price, random, store};
 use random::Random;
 use std::iter::once;
 use std::process::exit;
@@ -263,6 +263,20 @@ fn report(input: &Input) -> ! {
     exit(1);
 }
 
+/// The depot's prices, from the smallest cost on; gives how many were compared.
+fn prices(random: &mut Random) -> usize {
+    price::check();
+    let costs = price::costs(random);
+    for &cost in &costs {
+        let (expected, seen) = (price::price(cost), yakkurem::price(cost));
+        if seen != expected {
+            println!("failed: price of {cost}\nexpected {expected}\nseen     {seen}");
+            exit(1);
+        }
+    }
+    costs.len()
+}
+
 /// A file of more records than the end's two bytes can count, alone and after another kind: the count is not taken modulo 65,536.
 fn long_files(call: Call) -> Vec<Input> {
     let mut inputs = vec![];
@@ -334,9 +348,12 @@ fn main() {
     }
     let on_test_loads = test_load::inputs(&mut run.random);
     run.try_inputs(&on_test_loads);
+    let priced = prices(&mut run.random);
+    // the calls of `CALLS` and the test load; prices are counted apart
     println!("outside: seed {seed}, {} inputs of {} calls as the plain implementation has them", run.inputs, CALLS.len() + 1);
     run.print_counts();
     println!("test loads: {} inputs, and {} of the other calls on days so drawn", test_loads.len(), on_test_loads.len());
     println!("published instances: {} inputs, each with the published cost, doubled", published.len());
+    println!("prices: {priced} costs, each as the plain implementation has it");
     eprintln!("{} seconds", start.elapsed().as_secs());
 }

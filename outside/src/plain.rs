@@ -1,4 +1,4 @@
-//! Documents 01 and 02 (requests 2.1 to 2.7) and the report in plain code, written from these alone: what every call should answer.
+//! Documents 01 and 02 (requests 2.1 to 2.7; 2.8 is in price.rs) and the report in plain code, written from these alone: what every call should answer.
 //! Names are lot sizing's; document 01 says need for demand, start for setup, upkeep for holding.
 use std::iter::once;
 use std::ops::Range;

@@ -100,7 +100,7 @@ All P [] = Unit {0}
 All P (a ∷ rest) = P a × All P rest
 
 -- a test for every entry
-abbrev all? : {A : Type 0} {P : A → Type 0} → ((a : A) → Option (P a)) → (l : List A) → Option (All P l)
+abbrev pub all? : {A : Type 0} {P : A → Type 0} → ((a : A) → Option (P a)) → (l : List A) → Option (All P l)
 all? p [] = some tt
 all? p (a ∷ rest) = both (p a) (all? p rest)
 

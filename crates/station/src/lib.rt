@@ -1,8 +1,10 @@
 //! The library's calls as a C program has them: the answer as one code, its numbers in an out-array (include/yakkurem.h).
+ghost use mathlib.Core.Path.{_≡_};
 ghost use Rattle.day.specs.Paths.{full, uncapped, free};
 ghost use Rattle.day.specs.Day.{endsWith};
 ghost use Rattle.day.specs.Lent.{dayBefore, memoryBefore, memoryAfter, cellsBefore, cellsAfter};
 ghost use Rattle.weigher.specs.Answers.{Weighs, Compares, weighedFigures, comparedFigures};
+ghost use Rattle.price.specs.Price.{priceOf};
 ghost use Rattle.station.specs.Shows.{Shows, PathShows, EqualShows, ReadShows, LookupShows, WriteShows, LoadShows};
 use day::Check;
 use day::Ends;
@@ -278,4 +280,12 @@ pub extern "C" fn yakkurem_test_load(
 {
     let a = test_load::fill(seed, n, demand, capacity, setup, unit, holding, store);
     codes::checked(a)
+}
+
+// What the depot charges for a cost in microlitres, in cents. Every cost has a price, so this is no code.
+#[no_mangle]
+pub extern "C" fn yakkurem_price(cost: u64) -> u64
+    ensures { λ r. ⌜ r ≡ priceOf cost ⌝ }
+{
+    price::charge(cost)
 }

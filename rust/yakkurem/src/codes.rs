@@ -1,4 +1,4 @@
-//! The calls with their codes and out-arrays, as include/yakkurem.h has them. A slice goes over as its pointer and its length.
+//! The calls with their codes and out-arrays, as include/yakkurem.h has them; the price, which is no code. A slice goes over as its pointer and its length.
 //! The library reads and writes only inside these, keeps no pointer, and asks nothing of its caller: so every call is safe.
 use crate::{Day, Memory, TablesMut};
 
@@ -60,6 +60,7 @@ extern "C" {
         need: *mut u16, _: usize, capacity: *mut u16, _: usize, start: *mut u32, _: usize, unit: *mut u32, _: usize, upkeep: *mut u32, _: usize,
         store: *mut u16, _: usize,
     ) -> u64;
+    fn yakkurem_price(cost: u64) -> u64;
 }
 
 pub fn full(day: Day, memory: Memory, answer: &mut [u64; 2]) -> u64 {
@@ -114,4 +115,8 @@ pub fn test_load(seed: u32, n: usize, tables: TablesMut) -> u64 {
             unit.as_mut_ptr(), unit.len(), holding.as_mut_ptr(), holding.len(), store.as_mut_ptr(), store.len(),
         )
     }
+}
+
+pub fn price(cost: u64) -> u64 {
+    unsafe { yakkurem_price(cost) }
 }

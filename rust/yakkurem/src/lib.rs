@@ -203,3 +203,8 @@ pub fn test_load(seed: u32, n: usize, tables: TablesMut) -> Result<(), Refusal> 
         code => Err(refusal(code)),
     }
 }
+
+/// What the depot charges for a cost in microlitres, in cents. Every cost has a price.
+pub fn price(cost: u64) -> u64 {
+    codes::price(cost)
+}
