@@ -16,7 +16,8 @@ use Rattle.day.specs.declared.EqualAnswer.{EqualAnswer}
 use Rattle.day.specs.declared.EqualAnswer.the-variants.{Refused, Planned}
 use Rattle.day.specs.Sums.{at, sumTo}
 use Rattle.day.specs.Day.{Day, periods}
-use Rattle.day.specs.Plan.{inventory}
+use Rattle.day.specs.Plan.{inventory, cost, setups}
+use Rattle.day.specs.Figures.{acceptedWith, equalFigures}
 use Rattle.day.specs.Outcome.{Memory, Runs}
 use Rattle.day.specs.Paths.{equal}
 
@@ -111,10 +112,13 @@ abbrev pub pathAnswer : EqualAnswer → Answer
 pathAnswer (Refused r) = answer.Refused r
 pathAnswer (Planned t l) = answer.Planned t
 
--- the loads of an accepted answer are the plan's, over the day
+-- what an accepted answer gives is the plan's cost, setups, full-load and part-loaded periods over the day, by the answer's figures
 abbrev pub CountsLoads : Day → (ℕ → ℕ) → EqualAnswer → Type 0
 CountsLoads d x (Refused r) = Unit {0}
-CountsLoads d x (Planned t l) = l ≡ loadsThrough (at (d .capacity)) x (periods d)
+CountsLoads d x (Planned t l) =
+    let c = at (d .capacity) in
+    let n = periods d in
+    equalFigures (Planned t l) ≡ acceptedWith (cost d x ∷ setups n x ∷ fullTo c x n ∷ partTo c x n ∷ [])
 
 -- the contract of the equal path: that of every path, and the loads of the plan in its slots
 pub record EqualRuns (d : Day) (before : Memory) (r : EqualAnswer) (after : Memory) : Type 0 where

@@ -15,6 +15,7 @@ use Rattle.day.specs.Day.{Day, periods}
 use Rattle.day.specs.Plan.{Optimal}
 use Rattle.day.specs.Refusals.{unequal, lowStore}
 use Rattle.day.specs.Tests.{first-two}
+use Rattle.day.specs.Figures.{first-value, second-value}
 use Rattle.day.specs.Outcome.{Memory, memoryOf, sizesOf, refusal, Cleared, Accepted}
 use Rattle.day.specs.Paths.{equal}
 use Rattle.day.specs.Loads.{loadsThrough, CountsLoads}
@@ -147,4 +148,4 @@ module _ (d : Day) (m after : Memory) (t : Totals) (passed : refusal equal d (si
 
   pub loads-counted : (l : Loads) → l ≡ loadsThrough (at (d .capacity)) (at (after .slots)) (length (d .capacity))
       → CountsLoads d (at (after .slots)) (Planned t l)
-  loads-counted l is = rw each at is
+  loads-counted l is = rw (is, each, first-value (done .counts), second-value (done .counts)) refl

@@ -16,6 +16,7 @@ use Rattle.day.specs.Day.{Day, periods, netTo, net-before, net-end}
 use Rattle.day.specs.Plan.{inventory}
 use Rattle.day.specs.Refusals.{unequal, lowStore}
 use Rattle.day.specs.Tests.{first-two}
+use Rattle.day.specs.Figures.{same-values}
 use Rattle.day.specs.Outcome.{Memory, sizesOf}
 use Rattle.day.specs.Paths.{equal}
 use Rattle.day.specs.Loads.{Run, RunLoads, Divided, begin, then, loadsOf, loadsThrough, fullAt, partAt, fullTo, partTo, oneIf, madeIn, idle-none, EqualRuns}
@@ -108,6 +109,14 @@ module _ (d : Day) (m : Memory) (t : Totals) (l : Loads) (after : Memory) (call 
   best =
       subst (λ (X : ℕ). OptimalTo M n X x) (sym (floor-here n (omega arith) ∙ net-end d)) (loose-plan d loose x .0 (call .runs .1 .plan))
 
+  -- the answer's loads, from its figures
+  counted : l ≡ loadsThrough c x n
+  counted =
+      let same = same-values (call .loads) in
+      let full : l .full ≡ fullTo c x n = cc in
+      let part : l .part ≡ partTo c x n = cc in
+      ap₂ (λ (f p : ℕ). record { full = f; part = p }) full part
+
   -- With a capacity above 0, in each run that makes W exactly W ÷ c rounded down periods make c, and exactly one is part-loaded if the remainder is
   -- above 0, none if it is 0.
   pub equal-run-loads : 0 < c 0 → (a b : ℕ) → Run d x a b → RunLoads c x a b
@@ -125,7 +134,7 @@ module _ (d : Day) (m : Memory) (t : Totals) (l : Loads) (after : Memory) (call 
 
   -- With a capacity of 0 both totals are 0.
   pub equal-no-loads : c 0 ≡ 0 → (l .full ≡ 0) × (l .part ≡ 0)
-  equal-no-loads nothing = rw (call .loads) (idle-loads n (omega arith))
+  equal-no-loads nothing = rw counted (idle-loads n (omega arith))
     where
       idle-loads : (i : ℕ) → i ≤ n → (fullTo c x i ≡ 0) × (partTo c x i ≡ 0)
       idle-loads zero h = (refl, refl)
@@ -136,7 +145,7 @@ module _ (d : Day) (m : Memory) (t : Totals) (l : Loads) (after : Memory) (call 
 
   -- The answer's totals are the sums over the runs that the day is divided into.
   pub equal-day-loads : 0 < c 0 → (v : Divided d x n) → l ≡ loadsOf v
-  equal-day-loads pos v = call .loads ∙ summed v
+  equal-day-loads pos v = counted ∙ summed v
     where
       part-more : (a b : ℕ) → Run d x a b
           → partTo c x b ≡ partTo c x a + oneIf (ltb 0 (madeIn x a b % c 0))
