@@ -39,7 +39,7 @@ pub fn count(n: usize) -> Check
 }
 
 // 2: every table is as long as the demand table
-fn lengths(
+pub fn lengths(
     demand: &[u16],
     capacity: &[u16],
     setup: &[u32],
@@ -142,7 +142,7 @@ pub fn total(demand: &[u16], ends: Ends) -> u64
 }
 
 // 4, 14
-fn totals(demand: &[u16], ends: Ends) -> Check
+pub fn totals(demand: &[u16], ends: Ends) -> Check
     requires { ⌜ length (now demand) ≤ maxPeriods ⌝ }
     ensures { λ r. ⌜ r ≡ checked (first (totalTests (dayOf (now (demand .entry)) [] [] [] [] [] ends))) ⌝ }
 {

@@ -10,7 +10,7 @@ use lib.ListN.{getD}
 use Rattle.day.specs.declared.Refusal.{Refusal}
 use Rattle.day.specs.declared.Refusal.the-variants.{PeriodCount, TableLength, AboveLimit, TotalDemand, ShortArea, FewSlots, Shortage}
 use Rattle.day.specs.declared.Refusal.the-variants.{UnequalCapacities, BindingCapacity}
-use Rattle.day.specs.declared.Refusal.the-variants.{UnknownKind, TruncatedFile, WrongEnd, NoSuchPeriod, SurplusInventory, PaidSetup, LowStore}
+use Rattle.day.specs.declared.Refusal.the-variants.{UnknownKind, TruncatedFile, WrongEnd, NoSuchPeriod, SurplusInventory, PaidSetup, LowStore, OpeningInventory, ReversedRange}
 use Rattle.day.specs.declared.Check.{Check}
 use Rattle.day.specs.declared.Check.the-variants.{Passed, Refused}
 use Rattle.day.specs.Refusals.{numberOf, periodOf, Gives, refuse, refuseAt, orNext, first, checked}
@@ -47,9 +47,11 @@ withNumber number i =
     ∷ NoSuchPeriod
     ∷ SurplusInventory
     ∷ PaidSetup i
+    ∷ LowStore i
+    ∷ OpeningInventory
     ∷ [])
     number
-    (LowStore i)
+    (ReversedRange i)
 
 number-fixes : (r : Refusal) → withNumber (numberOf r) (periodOf r) ≡ r
 unfolding withNumber
@@ -69,6 +71,8 @@ number-fixes NoSuchPeriod = refl
 number-fixes SurplusInventory = refl
 number-fixes (PaidSetup i) = refl
 number-fixes (LowStore i) = refl
+number-fixes OpeningInventory = refl
+number-fixes (ReversedRange i) = refl
 
 -- number and period fix a refusal: what is given is the first in order, and the other way round
 pub gives-is : {o : Option Refusal} {r : Refusal} → Gives o r → o ≡ some r

@@ -15,7 +15,17 @@ use day::Ends;
 use day::PathKind;
 use day::Refusal;
 
-// 5, 6: the cells and slots that are lent, and how many the call needs
+// 5: the cells that are lent, and how many the call needs
+pub fn areas(costs: usize, cost_cells: usize, choices: usize, choice_cells: usize) -> Check
+    ensures { λ r. ⌜ r ≡ checked (badAreas costs «cost_cells» choices «choice_cells») ⌝ }
+{
+    if costs < cost_cells || choices < choice_cells {
+        return Check::Refused(Refusal::ShortArea);
+    }
+    Check::Passed
+}
+
+// 5, 6: the slots too
 fn memory(
     costs: usize,
     cost_cells: usize,
@@ -26,8 +36,8 @@ fn memory(
 ) -> Check
     ensures { λ r. ⌜ r ≡ checked (first (badAreas costs «cost_cells» choices «choice_cells» ∷ badSlots slots n ∷ [])) ⌝ }
 {
-    if costs < cost_cells || choices < choice_cells {
-        return Check::Refused(Refusal::ShortArea);
+    if let Check::Refused(r) = areas(costs, cost_cells, choices, choice_cells) {
+        return Check::Refused(r);
     }
     if slots < n {
         return Check::Refused(Refusal::FewSlots);
@@ -36,7 +46,7 @@ fn memory(
 }
 
 // 7, for tables of one length: the first period after which A is above R + s, or what must have been made above the most that can have been
-fn shortage(demand: &[u16], capacity: &[u16], store: &[u16], ends: Ends) -> Check
+pub fn shortage(demand: &[u16], capacity: &[u16], store: &[u16], ends: Ends) -> Check
     requires { ⌜ length (now capacity) ≡ length (now demand) ⌝ }
     requires { ⌜ length (now store) ≡ length (now demand) ⌝ }
     requires { ⌜ length (now demand) ≤ maxPeriods ⌝ }
