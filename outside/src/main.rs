@@ -10,7 +10,7 @@ mod shrink;
 mod test_load;
 
 use input::{Call, Input, Size, With, CALLS, EARLIER};
-use outside::{ends, free, holding, input, loads, plain, price, random, store};
+use outside::{ends, free, holding, input, loads, plain, price, random, ranges, store};
 use random::Random;
 use std::iter::once;
 use std::process::exit;
@@ -20,7 +20,7 @@ use test_load::TestLoad;
 const SEED: u64 = 1979;
 
 /// The last number of a refusal.
-const LAST: usize = 16;
+const LAST: usize = 18;
 
 /// The inputs of one run, counted by their outcome.
 struct Run {
@@ -36,6 +36,8 @@ struct Run {
     broken: [usize; 4],
     /// of the equal path's plans
     plan_runs: loads::Runs,
+    /// tables of needs that lie between those of an accepted call
+    between: usize,
 }
 
 impl Run {
@@ -184,6 +186,35 @@ impl Run {
         }
     }
 
+    /// Both days by the full path: the easier costs no more.
+    fn easier(&mut self, pair: &[plain::Day; 2]) {
+        let [easier, harder] = pair.each_ref().map(|day| Input::exact(Call::Full, day, [&[]; 2]));
+        self.try_input(&easier);
+        self.try_input(&harder);
+        let [less, more] = [easier, harder].map(|input| compare::actual(&input).values()[0]);
+        assert!(less <= more, "{pair:?}");
+    }
+
+    /// Needs known as ranges, on a tiny day: every table between the two has a plan by the full path, at a cost between those given.
+    fn range(&mut self) {
+        let input = ranges::few(&mut self.random);
+        self.try_input(&input);
+        let seen = compare::actual(&input);
+        if seen.code != 0 {
+            return;
+        }
+        for needs in plain::tables_between(&input.lowest, &input.day.demand) {
+            let full = Input::exact(Call::Full, &input.day.with_needs(&needs), [&[]; 2]);
+            self.try_input(&full);
+            let cost = compare::actual(&full).values()[0];
+            if !(seen.values()[0]..=seen.values()[1]).contains(&cost) {
+                println!("failed: needs {needs:?} between\n  {}\nleast cost {cost}, seen {:?}", shrink::show(&input), seen.values());
+                exit(1);
+            }
+            self.between += 1;
+        }
+    }
+
     /// The calls on such made-up days, after the plain implementation against itself; `part` of the full count of each.
     fn made_up(&mut self, calls: &[Call], with: With, part: usize) {
         self.with = with;
@@ -194,12 +225,32 @@ impl Run {
             self.valid(call, Size::Middle, 400 / part);
             self.valid(call, Size::Long, 40 / part);
             // recursion (5) by its letter takes long there
-            let by_letter = matches!(call, Call::Full | Call::Uncapped | Call::Equal);
+            let by_letter = matches!(call, Call::Full | Call::Uncapped | Call::Equal | Call::Bounds);
             self.valid(call, Size::Limits, if by_letter { 4 } else { 100 } / part);
             self.changed(call, Size::Tiny, 800 / part);
             self.changed(call, Size::Long, 12 / part);
             self.damaged(call, 400 / part);
         }
+    }
+
+    /// Request 2.9; gives how many pairs of an easier and a harder day were planned.
+    fn ranges(&mut self) -> usize {
+        let calls = [Call::Bounds];
+        for (with, part) in [(With::NOTHING, 2), (With::ENDS, 2), (With::STORES, 2), (With::BOTH, 1)] {
+            self.made_up(&calls, with, part);
+        }
+        self.holding(Call::Bounds, 3);
+        for inputs in [itself::inputs(&calls), ends::limits(&calls), ranges::inputs()] {
+            self.try_inputs(&inputs);
+        }
+        for _ in 0..20_000 {
+            self.range();
+        }
+        let pairs = ranges::check(&mut self.random, 20_000);
+        for pair in &pairs {
+            self.easier(pair);
+        }
+        pairs.len()
     }
 
     fn print_counts(&self) {
@@ -288,7 +339,7 @@ fn long_files(call: Call) -> Vec<Input> {
             }
             file.extend([plain::END, 0, 1]);
             let lent = if call == Call::Read { vec![1; 6] } else { vec![] };
-            inputs.push(Input { call, day: plain::Day::default(), plans: vec![], file, period: 1, lent });
+            inputs.push(Input { call, day: plain::Day::default(), lowest: vec![], plans: vec![], file, period: 1, lent });
         }
     }
     inputs
@@ -301,7 +352,7 @@ fn main() {
     };
     let start = Instant::now();
     let (random, refused, broken, plan_runs) = (Random::new(seed), [0; LAST + 1], [0; 4], loads::Runs::default());
-    let mut run = Run { random, with: With::NOTHING, inputs: 0, accepted: 0, short_paths: 0, refused, broken, plan_runs };
+    let mut run = Run { random, with: With::NOTHING, inputs: 0, accepted: 0, short_paths: 0, refused, broken, plan_runs, between: 0 };
     run.made_up(EARLIER, With::NOTHING, 1);
     for call in [Call::Read, Call::Lookup] {
         run.try_inputs(&long_files(call));
@@ -328,7 +379,7 @@ fn main() {
     run.stores(Size::Long, 10);
     run.try_inputs(&free::inputs());
     run.try_inputs(&holding::dearest());
-    run.try_inputs(&itself::inputs());
+    run.try_inputs(&itself::inputs(&CALLS));
     run.try_inputs(&ends::limits(&CALLS));
     for file in ends::files() {
         run.try_inputs(&ends::on_file(&file));
@@ -349,10 +400,12 @@ fn main() {
     let on_test_loads = test_load::inputs(&mut run.random);
     run.try_inputs(&on_test_loads);
     let priced = prices(&mut run.random);
-    // the calls of `CALLS` and the test load; prices are counted apart
-    println!("outside: seed {seed}, {} inputs of {} calls as the plain implementation has them", run.inputs, CALLS.len() + 1);
+    let pairs = run.ranges();
+    // the calls of `CALLS`, the test load and needs known as ranges; prices are counted apart
+    println!("outside: seed {seed}, {} inputs of {} calls as the plain implementation has them", run.inputs, CALLS.len() + 2);
     run.print_counts();
     println!("test loads: {} inputs, and {} of the other calls on days so drawn", test_loads.len(), on_test_loads.len());
+    println!("needs known as ranges: {} tables between two, each with its least cost between theirs; {pairs} pairs of an easier day", run.between);
     println!("published instances: {} inputs, each with the published cost, doubled", published.len());
     println!("prices: {priced} costs, each as the plain implementation has it");
     eprintln!("{} seconds", start.elapsed().as_secs());

@@ -60,6 +60,7 @@ fn steps(input: &Input) -> Vec<Input> {
         next.day.unit = without(&day.unit, i);
         next.day.holding = without(&day.holding, i);
         next.day.store = without(&day.store, i);
+        next.lowest = without(&input.lowest, i);
         next.plans = input.plans.iter().map(|plan| without(plan, i)).collect();
         tries.push(next);
     }
@@ -96,6 +97,7 @@ fn steps(input: &Input) -> Vec<Input> {
     }
     values(input, |x| &mut x.day.store, |v| v as u16, lower, &mut tries);
     values(input, |x| &mut x.day.demand, |v| v as u16, smaller, &mut tries);
+    values(input, |x| &mut x.lowest, |v| v as u16, smaller, &mut tries);
     values(input, |x| &mut x.day.capacity, |v| v as u16, smaller, &mut tries);
     values(input, |x| &mut x.day.setup, |v| v as u32, smaller, &mut tries);
     values(input, |x| &mut x.day.unit, |v| v as u32, smaller, &mut tries);
@@ -142,7 +144,7 @@ pub fn shrink(input: &Input, fails: impl Fn(&Input) -> bool) -> Input {
 
 /// An input in document 01's form.
 pub fn show(input: &Input) -> String {
-    let Input { day, plans, file, period, lent, .. } = input;
+    let Input { day, lowest, plans, file, period, lent, .. } = input;
     let words = |numbers: Vec<u64>| numbers.iter().map(u64::to_string).collect::<Vec<_>>().join(" ");
     let words16 = |table: &[u16]| words(table.iter().map(|&v| v as u64).collect());
     let words32 = |table: &[u32]| words(table.iter().map(|&v| v as u64).collect());
@@ -159,6 +161,9 @@ pub fn show(input: &Input) -> String {
             day.opening,
             day.closing
         ));
+    }
+    if input.call == Call::Bounds {
+        lines.push(format!("lowest needs {}", words16(lowest)));
     }
     for plan in plans {
         lines.push(format!("plan {}", words16(plan)));
