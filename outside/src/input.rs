@@ -93,7 +93,8 @@ pub struct Input {
     pub file: Vec<u8>,
     /// the asked-for period
     pub period: usize,
-    /// lengths of what is lent: cost area, choice area (not for the free path) and slots (not for needs known as ranges); or the six tables to fill; or the bytes to write
+    /// lengths of what is lent: cost area, choice area (not for the free path) and slots (not for needs known as ranges); or the six tables to
+    /// fill; or the bytes to write
     pub lent: Vec<usize>,
 }
 

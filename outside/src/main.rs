@@ -405,7 +405,10 @@ fn main() {
     println!("outside: seed {seed}, {} inputs of {} calls as the plain implementation has them", run.inputs, CALLS.len() + 2);
     run.print_counts();
     println!("test loads: {} inputs, and {} of the other calls on days so drawn", test_loads.len(), on_test_loads.len());
-    println!("needs known as ranges: {} tables between two, each with its least cost between theirs; {pairs} pairs of an easier day", run.between);
+    println!(
+        "needs known as ranges: {} tables between two, each with its least cost between theirs; {pairs} pairs of an easier day",
+        run.between
+    );
     println!("published instances: {} inputs, each with the published cost, doubled", published.len());
     println!("prices: {priced} costs, each as the plain implementation has it");
     eprintln!("{} seconds", start.elapsed().as_secs());

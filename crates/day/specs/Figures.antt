@@ -1,6 +1,7 @@
 -- An answer in the documents' figures: the number and the period of what it refuses, and the values that it gives.
 -- Each answer's figures are defined in its own crate; those of answers that this crate declares here, and the promise of a call that answers with its tests.
--- Main definitions: `Figures`, `answerFigures`, `equalFigures`, `boundsFigures`, `Checks`; main statements: `same-values`, `checks-is`, `is-checks`. Assumes nothing.
+-- Main definitions: `Figures`, `answerFigures`, `equalFigures`, `boundsFigures`, `Checks`; main statements: `same-values`, `checks-is`, `is-checks`.
+-- Assumes nothing.
 use mathlib.Core.Path.{_≡_, refl, sym, ap, subst}
 use mathlib.Core.List.{List, [], _∷_}
 use mathlib.Core.Option.{Option, none, some}

@@ -34,13 +34,15 @@ returns : tie.Need-returns
 returns c =
     let p = c .before in
     let s = told p in
-    sooner _ _ (s .before .before .before .first .given .1) (s .second .given .1) (omega (arith, p .before .period .ensures, p .period2 .ensures, c .if1 .taken))
+    sooner _ _ (s .before .before .before .first .given .1) (s .second .given .1)
+    (omega (arith, p .before .period .ensures, p .period2 .ensures, c .if1 .taken))
 
 returns-2 : tie.Need-returns-2
 returns-2 c =
     let p = c .before in
     let s = told p in
-    later _ _ (s .before .before .before .first .given .1) (s .second .given .1) (omega (arith, p .before .period .ensures, p .period2 .ensures, c .if1 .left))
+    later _ _ (s .before .before .before .first .given .1) (s .second .given .1)
+    (omega (arith, p .before .period .ensures, p .period2 .ensures, c .if1 .left))
 
 returns-3 : tie.Need-returns-3
 returns-3 c = alone _ (c .before .before .before .first .given .1) (c .enum-told .given .1)

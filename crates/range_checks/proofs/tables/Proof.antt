@@ -72,8 +72,8 @@ returns-4 c =
     let p = called told in
     let size = one .before .if1 .left in
     let both = both-values (second p) (tables p) size (one .values .ensures) (two .values2 .ensures) (c .earlier .ensures) in
-    rw (counted (told .before .before .before), measured told, eq-eqb (length (second p)) (periods (tables p)) size, first-one (badValues (second p) (tables p)))
-    both
+    let long = eq-eqb (length (second p)) (periods (tables p)) size in
+    rw (counted (told .before .before .before), measured told, long, first-one (badValues (second p) (tables p))) both
 
 pub tables-spec : {M : Type 1} → statement M
 tables-spec =
