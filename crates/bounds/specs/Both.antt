@@ -69,34 +69,7 @@ module _ {lowest : List ℕ} {d : Day} {s : Sizes} (r : Ranged lowest d s) (supp
 
   low-limits : DayLimits low
   low-limits =
-      let g = r .day .limits in
-      let size = sym (r .size) in
-      record {
-        limits = record {
-          nonempty = omega (arith, g .nonempty);
-          few = omega (arith, g .few);
-          lengths = record {
-            capacity = g .lengths .capacity ∙ size;
-            setup = g .lengths .setup ∙ size;
-            unit = g .lengths .unit ∙ size;
-            holding = g .lengths .holding ∙ size;
-            store = g .lengths .store ∙ size;
-          };
-          within = λ k l.
-              let h : k < periods d = omega arith in
-              let w = g .within k h in
-              record {
-                demand = omega (arith, r .below k h, w .demand);
-                capacity = w .capacity;
-                setup = w .setup;
-                unit = w .unit;
-                holding = w .holding;
-                store = w .store;
-              };
-        };
-        small = omega (arith, total-le, r .empty, r .day .small);
-        used = omega (arith, r .empty);
-      }
+      record { limits = r .low; small = omega (arith, total-le, r .empty, r .day .small); used = omega (arith, r .empty) }
 
   -- both are admitted with the areas that were tested, or longer ones, and slots of the caller's own
   module _ (t : Sizes) (costs : s .costs ≤ t .costs) (choices : s .choices ≤ t .choices) (slots : periods d ≤ t .slots) where

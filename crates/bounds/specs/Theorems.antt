@@ -1,5 +1,5 @@
 -- What the answer on needs known as ranges says of every table between the two (document 02, 2.9), over the call's contract.
--- Main statements: `between-least`; `bounded-iff`, `refused-short` (demand 2); `least-one`, a day has one least cost. Assumes nothing.
+-- Main statements: `between-least`; `bounded-iff`, `refused-short` (demand 2). Assumes nothing.
 use mathlib.Core.Path.{_≡_, sym, _∙_}
 use mathlib.Core.List.{List, [], _∷_}
 use mathlib.Core.Logic.{_↔_}
@@ -20,15 +20,8 @@ use Rattle.day.specs.Ranges.{LeastCost, Between, rangeTests, rangeRefusal, Boun
 use Rattle.range_checks.specs.Passed.{range-passed, all-passed}
 use Rattle.theory.specs.Net.{Fits, limits-fit}
 use Rattle.theory.specs.Demands.{shortage-iff, shortage-names}
-use Rattle.theory.specs.Easier.{easier-least}
+use Rattle.theory.specs.Easier.{easier-least, least-one}
 use Rattle.bounds.specs.Both.{lower-easier}
-
--- a day has one least cost
-pub least-one : (d : Day) (c c′ : ℕ) → LeastCost d c → LeastCost d c′ → c ≡ c′
-least-one d c c′ a b =
-    let le = a .optimal .first (b .plan) (b .optimal .feasible) .cheap in
-    let ge = b .optimal .first (a .plan) (a .optimal .feasible) .cheap in
-    omega (arith, a .is, b .is)
 
 -- Every table of needs between the two, period by period, has a plan, and its least cost lies between the two that are given.
 pub between-least : (lowest : List ℕ) (d : Day) (before after : Memory) (b : Bounds) → Bounding lowest d before (Bounded b) after
@@ -36,13 +29,19 @@ pub between-least : (lowest : List ℕ) (d : Day) (before after : Memory) (b : B
 between-least lowest d before after b runs needs t =
     let r = all-passed lowest d (sizesOf before) (runs .0) .0 in
     let given = runs .1 in
-    let some = r .day .limits .nonempty in
-    let down = easier-least (withDemand needs d) d (lower-easier needs d (t .size) (t .below)) (r .empty) (r .empty) some (given .most) (given .high) in
+    let high = given .high in
+    let e = withDemand needs d in
+    let low = withDemand lowest d in
     let size = t .size in
-    let lower = lower-easier lowest (withDemand needs d) (r .size ∙ sym size) (λ k l. t .above k (omega arith)) in
-    let low = easier-least (withDemand lowest d) (withDemand needs d) lower (r .empty) (r .empty) (omega arith) (down .0) (down .1) in
-    let same = least-one (withDemand lowest d) (given .least) (low .0) (given .low) (low .1) in
-    (down .0, down .1, omega (arith, low .2, first-value (given .gives)), omega (arith, down .2, second-value (given .gives)))
+    let down = easier-least e d (lower-easier needs d size (t .below)) (r .empty) (r .empty) (r .day .limits .nonempty) (high .plan) (high .optimal .feasible) in
+    let c = down .1 in
+    let least = down .3 in
+    let lower = lower-easier lowest e (r .size ∙ sym size) (λ k l. t .above k (omega arith)) in
+    let up = easier-least low e lower (r .empty) (r .empty) (omega arith) (least .plan) (least .optimal .feasible) in
+    let most-is = least-one d (given .most) (down .0) high (down .2) in
+    let mid-is = least-one e c (up .0) least (up .2) in
+    let least-is = least-one low (given .least) (up .1) (given .low) (up .3) in
+    (c, least, omega (arith, up .4, first-value (given .gives)), omega (arith, down .4, second-value (given .gives)))
 
 -- the answer has the two costs
 abbrev pub IsBounded : BoundsAnswer → Type 0

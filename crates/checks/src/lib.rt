@@ -10,6 +10,7 @@ ghost use Rattle.day.specs.Sums.{Term, at, sumTo};
 ghost use Rattle.day.specs.Day.{dayOf, tablesOf, required, dueOf, total, maxPeriods, maxDemand, maxCapacity, maxSetup, maxRate, maxHalfRate, maxSum};
 ghost use Rattle.day.specs.Lent.{dayBefore, tablesBefore};
 ghost use Rattle.day.specs.Refusals.{checked, first, badCount, badLengths, badValue, tableTests, totalTests, dayTests};
+ghost use Rattle.day.specs.Tests.{inOrder};
 ghost use Rattle.checks.specs.Passed.{Readable};
 use day::Check;
 use day::Ends;
@@ -27,6 +28,16 @@ const MAX_RATE: u32 = 1_000_000;
 const MAX_HALF_RATE: u32 = 500_000;
 
 const MAX_TOTAL: u64 = 4096;
+
+// The answers of two tests in order.
+pub fn in_order(test: Check, next: Check) -> Check
+    ensures { λ r. ⌜ r ≡ inOrder test next ⌝ }
+{
+    if let Check::Refused(r) = test {
+        return Check::Refused(r);
+    }
+    next
+}
 
 // 1: the number of periods
 pub fn count(n: usize) -> Check

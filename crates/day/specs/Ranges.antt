@@ -13,9 +13,9 @@ use Rattle.day.specs.declared.BoundsAnswer.the-variants.{Refused, Bounde
 use Rattle.day.specs.Sums.{at}
 use Rattle.day.specs.Day.{Day, periods, total, withDemand}
 use Rattle.day.specs.Plan.{Optimal, cost}
-use Rattle.day.specs.Refusals.{Gives, first, pairTests, totalTests, badAreas, opened, reversed, shortage}
+use Rattle.day.specs.Refusals.{Gives, first, pairTests, totalTests, opened, reversed, shortage}
 use Rattle.day.specs.Figures.{acceptedWith, boundsFigures}
-use Rattle.day.specs.Outcome.{Memory, Sizes, sizesOf, Cleared}
+use Rattle.day.specs.Outcome.{Memory, Sizes, sizesOf, areaTest, Cleared}
 use Rattle.day.specs.Paths.{full}
 
 -- e has no higher need, start, unit cost, upkeep or Z than d, and no lower capacity or store limit, in any place
@@ -43,13 +43,9 @@ pub record Between (lowest needs highest : List ℕ) : Type 0 where
 
 -- 5, by what the full path needs for the highest needs; 17, 18
 abbrev pub boundTests : List ℕ → Day → Sizes → List (Option Refusal)
-boundTests lowest d s =
-    badAreas (s .costs) (full .costCells (periods d) (total d)) (s .choices) (full .choiceCells (periods d) (total d))
-    ∷ opened d
-    ∷ reversed lowest d
-    ∷ []
+boundTests lowest d s = areaTest full d s ∷ opened d ∷ reversed lowest d ∷ []
 
--- the call's tests before 7, in order: 1, 2 and 3 on both tables, 4, 14, then these
+-- the call's tests before 7, in order: 1; 2 and 3 on both tables; 4, 14, then these
 abbrev pub rangeTests : List ℕ → Day → Sizes → List (Option Refusal)
 rangeTests lowest d s = pairTests lowest d ++ (totalTests d ++ boundTests lowest d s)
 

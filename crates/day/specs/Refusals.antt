@@ -221,7 +221,7 @@ reversed lowest d = refuseAt ReversedRange (find (reverses lowest d) (periods d)
 abbrev pub tableTests : Day → List (Option Refusal)
 tableTests d = badCount (periods d) ∷ badLengths d ∷ badValue d ∷ []
 
--- and of one that reads a second table of needs: 1, 2 and 3 on both
+-- and of one that reads a second table of needs: 1, then 2 and 3 on both
 abbrev pub pairTests : List ℕ → Day → List (Option Refusal)
 pairTests needs d = badCount (periods d) ∷ badLengths d ∷ badSecond needs d ∷ badValues needs d ∷ []
 

@@ -120,10 +120,10 @@ abbrev pub inOrder : Check → Check → Check
 inOrder Passed c = c
 inOrder (Refused r) c = Refused r
 
-pub in-order : (o p : Option Refusal) {test answer : Check} → test ≡ checked o → answer ≡ inOrder test (checked p)
+pub in-order : (o p : Option Refusal) {test next answer : Check} → test ≡ checked o → next ≡ checked p → answer ≡ inOrder test next
     → answer ≡ checked (first (o ∷ p ∷ []))
-in-order none p is e = rw is at e ∙ ap checked (sym (first-one p))
-in-order (some r) p is e = rw is at e
+in-order none p is then e = rw (is, then) at e ∙ ap checked (sym (first-one p))
+in-order (some r) p is then e = rw is at e
 
 pub alone : (o : Option Refusal) {answer : Check} → answer ≡ checked o → answer ≡ checked (first (o ∷ []))
 alone none is = is

@@ -6,7 +6,6 @@ ghost use lib.ListN.{length};
 ghost use Rattle.day.specs.Day.{dayOf, tablesOf, required, maxPeriods, maxSum};
 ghost use Rattle.day.specs.Lent.{dayBefore};
 ghost use Rattle.day.specs.Refusals.{checked, first, badAreas, badSlots, shortage, unequal, binding, paidSetup, lowStore};
-ghost use Rattle.day.specs.Tests.{inOrder};
 ghost use Rattle.day.specs.Outcome.{pathTests, refusal, sizes};
 ghost use Rattle.day.specs.Paths.{pathOf};
 ghost use Rattle.path_checks.specs.Needed.{NeededBy};
@@ -137,19 +136,7 @@ fn low_store(demand: &[u16], store: &[u16], ends: Ends) -> Check
     Check::Passed
 }
 
-// A test of a path's own, then 16.
-fn then_store(test: Check, demand: &[u16], store: &[u16], ends: Ends) -> Check
-    requires { ⌜ length (now store) ≡ length (now demand) ⌝ }
-    requires { ⌜ length (now demand) ≤ maxPeriods ⌝ }
-    ensures { λ r. ⌜ r ≡ inOrder test (checked (lowStore (dayOf (now (demand .entry)) [] [] [] [] (now (store .entry)) ends))) ⌝ }
-{
-    if let Check::Refused(r) = test {
-        return Check::Refused(r);
-    }
-    low_store(demand, store, ends)
-}
-
-// The tests that a path alone applies.
+// The tests that a path alone applies: of each short path one, then 16.
 fn own(
     kind: PathKind,
     demand: &[u16],
@@ -170,9 +157,16 @@ fn own(
 {
     match kind {
         PathKind::Full => Check::Passed,
-        PathKind::Uncapped => then_store(binding(demand, capacity, ends), demand, store, ends),
-        PathKind::Equal => then_store(equal(demand, capacity), demand, store, ends),
-        PathKind::Free => then_store(paid(demand, setup), demand, store, ends),
+        PathKind::Uncapped => {
+            checks::in_order(
+                binding(demand, capacity, ends),
+                low_store(demand, store, ends),
+            )
+        }
+        PathKind::Equal => {
+            checks::in_order(equal(demand, capacity), low_store(demand, store, ends))
+        }
+        PathKind::Free => { checks::in_order(paid(demand, setup), low_store(demand, store, ends)) }
     }
 }
 

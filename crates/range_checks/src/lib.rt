@@ -1,5 +1,5 @@
-//! The tests of a call on needs known as ranges (document 02, 2.9), by the documents' numbers: 1, 2 and 3 on both tables of needs; then, on the
-//! highest, 4, 14, 5, 17, 18, 7.
+//! The tests of a call on needs known as ranges (document 02, 2.9), by the documents' numbers: 1; 2 and 3 on both tables of needs; 4, 14, 5; 17, 18; 7.
+//! 1, 4, 14, 5 and 7 read the highest.
 ghost use mathlib.Core.Path.{_≡_};
 ghost use mathlib.Core.List.{[], _∷_, _++_};
 ghost use Prim.Native.Nat.{_≤_};
@@ -7,7 +7,6 @@ ghost use lib.ListN.{length};
 ghost use Rattle.day.specs.Day.{dayOf, tablesOf, required, maxPeriods};
 ghost use Rattle.day.specs.Lent.{dayBefore, tablesBefore};
 ghost use Rattle.day.specs.Refusals.{checked, first, pairTests, opened, reversed, shortage};
-ghost use Rattle.day.specs.Tests.{inOrder};
 ghost use Rattle.day.specs.Outcome.{sizes};
 ghost use Rattle.day.specs.Ranges.{boundTests, rangeRefusal};
 ghost use Rattle.range_checks.specs.Earlier.{earlier};
@@ -31,7 +30,7 @@ fn earlier(first: Check, second: Check) -> Check
     second
 }
 
-// 1, 2, 3, where a second table of needs is read
+// 1, then 2 and 3 on both, where a second table of needs is read
 fn tables(
     needs: &[u16],
     demand: &[u16],
@@ -83,16 +82,6 @@ fn reversed(lowest: &[u16], demand: &[u16]) -> Check
     Check::Passed
 }
 
-// The answers of two tests in order.
-fn in_order(test: Check, next: Check) -> Check
-    ensures { λ r. ⌜ r ≡ inOrder test next ⌝ }
-{
-    if let Check::Refused(r) = test {
-        return Check::Refused(r);
-    }
-    next
-}
-
 // 17, 18, for tables of one length
 fn ranges(lowest: &[u16], demand: &[u16], ends: Ends) -> Check
     requires { ⌜ length (now lowest) ≡ length (now demand) ⌝ }
@@ -103,7 +92,7 @@ fn ranges(lowest: &[u16], demand: &[u16], ends: Ends) -> Check
 {
     let empty = opened(ends);
     let apart = reversed(lowest, demand);
-    in_order(empty, apart)
+    checks::in_order(empty, apart)
 }
 
 // 5, 17, 18, 7, once 1 to 4 and 14 have passed

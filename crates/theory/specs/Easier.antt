@@ -1,6 +1,7 @@
 -- Easier days (document 02, 2.9): with no opening charge, a day that is easier in every place has a plan where the harder has one, at no higher cost.
 -- The plan is the harder day's, thinned from the end: each period makes what it made, or less if less is wanted from then on.
--- Main statements: `easier-plan`, `easier-least`; `opening-matters`, with opening charge it is false. Assumes nothing.
+-- Main statements: `easier-plan`, `easier-least`; `opening-matters`, with opening charge it is false; `least-one`, a day has one least cost.
+-- Assumes nothing.
 use mathlib.Core.Path.{_≡_, refl, ap, _∙_}
 use mathlib.Core.List.{List, [], _∷_}
 use Prim.Native.Nat.{ℕ, zero, suc, _+_, _-_, _≤_, _<_}
@@ -107,6 +108,17 @@ module _ (e d : Day) (easy : Easier e d) (empty : d .opening ≡ 0) (empty′ : 
   thin-cost : cost e thin ≤ cost d x
   thin-cost = rw (easy .size) (sum-le (costAt e thin) (costAt d x) n thin-cost-at)
 
+-- a day that has a plan has a least cost; no plan costs less, so there is one such cost
+least-exists : (d : Day) → Fits d → (x : ℕ → ℕ) → Feasible d x → (c : ℕ) × LeastCost d c
+least-exists d fits x f = let w = optimal-exists d fits x f in (cost d (w .0), record { plan = w .0; optimal = w .1; is = refl })
+
+least-below : {d : Day} {c : ℕ} → LeastCost d c → (x : ℕ → ℕ) → Feasible d x → c ≤ cost d x
+least-below a x f = omega (arith, a .optimal .first x f .cheap, a .is)
+
+pub least-one : (d : Day) (c c′ : ℕ) → LeastCost d c → LeastCost d c′ → c ≡ c′
+least-one d c c′ a b =
+    omega (arith, least-below a (b .plan) (b .optimal .feasible), least-below b (a .plan) (a .optimal .feasible), a .is, b .is)
+
 -- With A = 0: where the harder day has a plan,
 module _ (e d : Day) (easy : Easier e d) (empty : d .opening ≡ 0) (empty′ : e .opening ≡ 0) where
   -- the easier has one that costs no more,
@@ -114,15 +126,13 @@ module _ (e d : Day) (easy : Easier e d) (empty : d .opening ≡ 0) (empty′ : 
   easier-plan x f = (thin e d easy empty empty′ x f, thin-feasible e d easy empty empty′ x f, thin-cost e d easy empty empty′ x f)
 
   -- and its least cost is no higher.
-  pub easier-least : 0 < periods d → (c : ℕ) → LeastCost d c → (c′ : ℕ) × LeastCost e c′ × (c′ ≤ c)
-  easier-least some c least =
-      let fits : Fits e = record { nonempty = omega (arith, easy .size); used = omega arith } in
-      let r = easier-plan (least .plan) (least .optimal .feasible) in
-      let w = optimal-exists e fits (r .0) (r .1) in (
-        cost e (w .0),
-        record { plan = w .0; optimal = w .1; is = refl },
-        omega (arith, w .1 .first (r .0) (r .1) .cheap, r .2, least .is),
-      )
+  pub easier-least : 0 < periods d → (x : ℕ → ℕ) → Feasible d x → (c c′ : ℕ) × LeastCost d c × LeastCost e c′ × (c′ ≤ c)
+  easier-least some x f =
+      let hard = least-exists d (record { nonempty = some; used = omega arith }) x f in
+      let best = hard .1 in
+      let r = easier-plan (best .plan) (best .optimal .feasible) in
+      let easy-one = least-exists e (record { nonempty = omega (arith, easy .size); used = omega arith }) (r .0) (r .1) in
+      (hard .0, easy-one .0, best, easy-one .1, omega (arith, least-below (easy-one .1) (r .0) (r .1), r .2, best .is))
 
 -- With A above 0 it is false: needs 0 1 and A = 1 has a plan, which makes nothing; needs 0 0, no higher, has none.
 abbrev charged : List ℕ → Day

@@ -1,16 +1,16 @@
 -- `range_checks::bounds` meets its contract: each answer is the first refusal, given those of the tests before it. Assumes nothing.
-use mathlib.Core.Path.{_≡_, refl}
+use mathlib.Core.Path.{_≡_, refl, ap, _∙_}
 use mathlib.Core.List.{List, [], _∷_, _++_}
 use mathlib.Core.Option.{Option, none}
 use Prim.Native.Nat.{ℕ}
 use borrow.Author.Needs.{needs}
 use Rattle.day.specs.declared.Refusal.{Refusal}
-use Rattle.day.specs.Day.{Day, dayOf, periods, total}
-use Rattle.day.specs.Refusals.{checked, first, badAreas, opened, reversed, shortage}
+use Rattle.day.specs.Day.{Day, dayOf}
+use Rattle.day.specs.Refusals.{checked, first, opened, reversed, shortage}
 use Rattle.day.specs.Tests.{alone, passed, group-refused, group-passed, group-decides}
-use Rattle.day.specs.Outcome.{sizes}
+use Rattle.day.specs.Outcome.{Sizes, sizes, areaTest}
 use Rattle.day.specs.Paths.{full}
-use Rattle.range_checks.proofs.Laws.{areas-are}
+use Rattle.path_checks.specs.Needed.{needed-areas}
 use Rattle.range_checks.proofs.bounds.Statement.{statement}
 use Rattle.range_checks.proofs.bounds.Tie as tie
 
@@ -24,17 +24,17 @@ given c = let a = start c .args in dayOf (a .demand .now) (a .capacity .now) [] 
 abbrev lowest : tie.After-areas → List ℕ
 lowest c = start c .args .lowest .now
 
+abbrev lent : tie.After-areas → Sizes
+lent c = let a = start c .args in sizes (a .costs) (a .choices) 0
+
 -- 5
 abbrev five : tie.After-areas → Option Refusal
-five c =
-    let d = given c in
-    badAreas (start c .args .costs) (full .costCells (periods d) (total d)) (start c .args .choices) (full .choiceCells (periods d) (total d))
+five c = areaTest full (given c) (lent c)
 
 tested : (c : tie.After-areas) → c .areas .result ≡ checked (first (five c ∷ []))
 tested c =
-    let a = start c .args in
-    alone (five c)
-    (areas-are (given c) (sizes (a .costs) (a .choices) 0) (c .before .before .total .ensures .is) (c .before .cells .ensures) (c .areas .ensures))
+    let five-is = needed-areas full (given c) (lent c) (c .before .before .total .ensures .is) (c .before .cells .ensures) in
+    alone (five c) (c .areas .ensures ∙ ap checked five-is)
 
 roomy : (c : tie.After-enum-told) → first (five (c .before .before) ∷ []) ≡ none
 roomy c = passed _ (tested (c .before .before)) (c .enum-told .given .1)

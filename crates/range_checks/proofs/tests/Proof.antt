@@ -33,7 +33,7 @@ lent c = let a = start c .args in sizes (a .costs) (a .choices) 0
 abbrev rest : tie.After-tables → List (Option Refusal)
 rest c = boundTests (lowest c) (given c) (lent c) ++ (shortage (given c) ∷ [])
 
--- 1, 2 and 3 passed on both tables
+-- 1 passed, and 2 and 3 on both tables
 tested : (c : tie.After-enum-told) → first (pairTests (lowest (c .before .before)) (given (c .before .before))) ≡ none
 tested c = passed _ (c .before .before .tables .ensures) (c .enum-told .given .1)
 

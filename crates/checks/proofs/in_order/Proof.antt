@@ -1,8 +1,8 @@
--- `range_checks::in_order` meets its contract: the refusal that was given, or the next answer. Assumes nothing.
+-- `checks::in_order` meets its contract: the refusal that was given, or the next answer. Assumes nothing.
 use mathlib.Core.Path.{refl}
 use borrow.Author.Needs.{needs}
-use Rattle.range_checks.proofs.in_order.Statement.{statement}
-use Rattle.range_checks.proofs.in_order.Tie as tie
+use Rattle.checks.proofs.in_order.Statement.{statement}
+use Rattle.checks.proofs.in_order.Tie as tie
 
 pub in-order-spec : {M : Type 1} → statement M
 in-order-spec =
