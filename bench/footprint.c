@@ -83,8 +83,8 @@ static size_t taken(void (*call)(void), unsigned char paint) {
 
 /* Days of 1 to 96 periods: the whole need in one period or spread, or half of it charge to hand on, with some to begin with; costs at
  * their limits or small, with and without start costs; capacities that can't bind, equal ones that are just enough, and ones that are
- * too small; a store limit in every other period, or none. The lowest needs are half of these. The file that is read was written of the
- * same day. */
+ * too small; a store limit in every other period, or none. The lowest needs are half the needs, rounded down. The file that is
+ * read was written of the same day. */
 static void make(size_t periods, int shape, int starts, uint16_t most, int limited) {
     n = periods;
     opening = shape == 3 ? 100 : 0;

@@ -1,7 +1,7 @@
 /* Plans a day with needs 2 and 3 that begins with a charge of 1 and hands on 1, and prints what is made in each period: by the full path;
  * with a battery that holds 2; on mains, where no start costs anything, by the free path; and by the equal path with a cell that makes 3 at
- * most, which also counts the periods in which it makes 3, and those in which it makes less. Then it says between which costs the plan of
- * such a day lies that begins with nothing and may need less, draws the needs of a test load, and says what the depot charges for a cost. */
+ * most, which also counts the periods in which it makes 3, and those in which it makes less. Then it says between which costs the
+ * least cost lies of such a day that begins with nothing and may need less, draws the needs of a test load, and says what the depot charges for a cost. */
 #include <stdio.h>
 #include "yakkurem.h"
 

@@ -102,7 +102,7 @@ uint64_t yakkurem_free(YAKKUREM_DAY, uint64_t *cost_area, size_t cost_cells, uin
  * and its least cost lies between those given. No slots are lent. The areas are those of yakkurem_full for the highest needs,
  * 2 * (T + 1) and n * (T + 1) cells, which hold 0 after an accepted call; later cells keep their contents. Refusals in order:
  * 1, 2, 3, 4, 14, 5, 17, 18, 7; 2 and 3 of the lowest needs too (3 names the first period in which any value is above its
- * limit), all others of the highest. */
+ * limit), 1, 4, 14, 5 and 7 of the highest. */
 uint64_t yakkurem_bounds(
     const uint16_t *lowest, size_t lowests, YAKKUREM_DAY, uint64_t *cost_area, size_t cost_cells, uint16_t *choice_area,
     size_t choice_cells, uint64_t answer[2]);

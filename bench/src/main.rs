@@ -220,7 +220,7 @@ fn without_starts(seed: u32) {
     }
 }
 
-/// Both areas as large as the full path needs for the highest needs.
+/// The sum of both costs that the call on ranges gives.
 fn bounds(lowest: &[u16], day: &Day, areas: &mut Areas) -> u64 {
     let Day { demand, capacity, setup, unit, holding, store, .. } = day;
     let day = yakkurem::Day { demand, capacity, setup, unit, holding, store, opening: 0, closing: 0 };
@@ -234,7 +234,8 @@ fn with_ranges(seed: u32) {
     println!("n is 96; the highest needs are those drawn, the lowest that part of them, rounded down. Beside the call the full path on each of the two days.\n");
     println!("| Capacity | Lowest | Full, lowest | Full, highest | Call | To both |");
     println!("|---|---|---|---|---|---|");
-    for (capacity, quarters) in CAPACITIES.into_iter().flat_map(|capacity| [0, 2, 4].map(|quarters| (capacity, quarters))) {
+    let parts = [("0", 0), ("½", 2), ("1", 4)];
+    for (capacity, (part, quarters)) in CAPACITIES.into_iter().flat_map(|capacity| parts.map(|part| (capacity, part))) {
         let highest = capacity.set_in(drawn(seed, 96));
         let lowest = highest.with_needs(&highest.demand.iter().map(|need| need * quarters / 4).collect::<Vec<_>>());
         let mut areas = Areas::of(Path::Full, &highest);
@@ -249,7 +250,6 @@ fn with_ranges(seed: u32) {
             call.push(both);
             ratio.push(both / (l + h));
         }
-        let part = ["0", "", "½", "", "1"][quarters as usize];
         let [low, high, call] = [low, high, call].map(|times| spread(times).time());
         println!("| {capacity} | {part} | {low} | {high} | {call} | {} |", spread(ratio).ratio());
     }

@@ -474,7 +474,7 @@ pub fn complete(random: &mut Random, call: Call, day: Day, with: With) -> Input 
     input
 }
 
-/// An input that is refused, if at all, for a shortage, a capacity or a store limit alone.
+/// An input that is refused, if at all, for a shortage, a capacity, a store limit or, where needs are known as ranges, charge to begin with alone.
 pub fn valid(random: &mut Random, call: Call, size: Size, with: With) -> Input {
     let day = day(random, call, size, with);
     complete(random, call, day, with)

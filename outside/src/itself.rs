@@ -1,5 +1,5 @@
 //! The plain implementation against itself and the papers, before anything is compared with it.
-use crate::input::{self, Call, Input, Size, With};
+use crate::input::{self, Call, Input, Size, With, CALLS};
 use crate::plain::{self, Day, Loads, Planned, Refusal, Totals, Verdict};
 use crate::random::Random;
 
@@ -199,13 +199,13 @@ fn rows() -> impl Iterator<Item = (Day, &'static Row)> {
     unlimited.chain(LIMITED.iter().map(|(store, row)| (row.day(store), row)))
 }
 
-/// The rows as inputs of these calls. The row's plan, or nothing, is weighed, and compared with making each need in its own period: on the
+/// The rows as inputs of every call. The row's plan, or nothing, is weighed, and compared with making each need in its own period: on the
 /// marked tie that costs the same.
-pub fn inputs(calls: &[Call]) -> Vec<Input> {
+pub fn inputs() -> Vec<Input> {
     let of = |(day, row): (Day, &Row)| {
         let nothing = vec![0; row.demand.len()];
         let plan = row.claim.map_or(&nothing[..], |(plan, _, _)| plan);
-        calls.iter().map(|&call| Input::exact(call, &day, [plan, row.demand])).collect::<Vec<_>>()
+        CALLS.map(|call| Input::exact(call, &day, [plan, row.demand]))
     };
     rows().flat_map(of).collect()
 }

@@ -36,7 +36,8 @@ struct Run {
     broken: [usize; 4],
     /// of the equal path's plans
     plan_runs: loads::Runs,
-    /// tables of needs that lie between those of an accepted call
+    /// tiny days with needs known as ranges, accepted, and all tables of needs between these
+    bounded: usize,
     between: usize,
 }
 
@@ -186,15 +187,6 @@ impl Run {
         }
     }
 
-    /// Both days by the full path: the easier costs no more.
-    fn easier(&mut self, pair: &[plain::Day; 2]) {
-        let [easier, harder] = pair.each_ref().map(|day| Input::exact(Call::Full, day, [&[]; 2]));
-        self.try_input(&easier);
-        self.try_input(&harder);
-        let [less, more] = [easier, harder].map(|input| compare::actual(&input).values()[0]);
-        assert!(less <= more, "{pair:?}");
-    }
-
     /// Needs known as ranges, on a tiny day: every table between the two has a plan by the full path, at a cost between those given.
     fn range(&mut self) {
         let input = ranges::few(&mut self.random);
@@ -203,6 +195,7 @@ impl Run {
         if seen.code != 0 {
             return;
         }
+        self.bounded += 1;
         for needs in plain::tables_between(&input.lowest, &input.day.demand) {
             let full = Input::exact(Call::Full, &input.day.with_needs(&needs), [&[]; 2]);
             self.try_input(&full);
@@ -235,22 +228,21 @@ impl Run {
 
     /// Request 2.9; gives how many pairs of an easier and a harder day were planned.
     fn ranges(&mut self) -> usize {
-        let calls = [Call::Bounds];
         for (with, part) in [(With::NOTHING, 2), (With::ENDS, 2), (With::STORES, 2), (With::BOTH, 1)] {
-            self.made_up(&calls, with, part);
+            self.made_up(&[Call::Bounds], with, part);
         }
         self.holding(Call::Bounds, 3);
-        for inputs in [itself::inputs(&calls), ends::limits(&calls), ranges::inputs()] {
-            self.try_inputs(&inputs);
+        let drawn = test_load::inputs(&mut self.random);
+        for inputs in [holding::dearest(), itself::inputs(), ends::limits(&[Call::Full]), store::inputs(), drawn] {
+            self.try_inputs(&ranges::of_full(&inputs));
         }
-        for _ in 0..20_000 {
+        self.try_inputs(&ranges::inputs());
+        for _ in 0..10_000 {
             self.range();
         }
-        let pairs = ranges::check(&mut self.random, 20_000);
-        for pair in &pairs {
-            self.easier(pair);
-        }
-        pairs.len()
+        let pairs = ranges::pairs(&mut self.random, 20_000);
+        self.try_inputs(&pairs);
+        pairs.len() / 2
     }
 
     fn print_counts(&self) {
@@ -352,7 +344,8 @@ fn main() {
     };
     let start = Instant::now();
     let (random, refused, broken, plan_runs) = (Random::new(seed), [0; LAST + 1], [0; 4], loads::Runs::default());
-    let mut run = Run { random, with: With::NOTHING, inputs: 0, accepted: 0, short_paths: 0, refused, broken, plan_runs, between: 0 };
+    let mut run =
+        Run { random, with: With::NOTHING, inputs: 0, accepted: 0, short_paths: 0, refused, broken, plan_runs, bounded: 0, between: 0 };
     run.made_up(EARLIER, With::NOTHING, 1);
     for call in [Call::Read, Call::Lookup] {
         run.try_inputs(&long_files(call));
@@ -379,7 +372,7 @@ fn main() {
     run.stores(Size::Long, 10);
     run.try_inputs(&free::inputs());
     run.try_inputs(&holding::dearest());
-    run.try_inputs(&itself::inputs(&CALLS));
+    run.try_inputs(&itself::inputs());
     run.try_inputs(&ends::limits(&CALLS));
     for file in ends::files() {
         run.try_inputs(&ends::on_file(&file));
@@ -406,8 +399,8 @@ fn main() {
     run.print_counts();
     println!("test loads: {} inputs, and {} of the other calls on days so drawn", test_loads.len(), on_test_loads.len());
     println!(
-        "needs known as ranges: {} tables between two, each with its least cost between theirs; {pairs} pairs of an easier day",
-        run.between
+        "needs known as ranges: {} tiny days with {} tables between, each with its least cost between the two; {pairs} pairs with an easier day",
+        run.bounded, run.between
     );
     println!("published instances: {} inputs, each with the published cost, doubled", published.len());
     println!("prices: {priced} costs, each as the plain implementation has it");

@@ -497,6 +497,11 @@ pub fn cells(path: Path, day: &Day) -> (usize, usize) {
     }
 }
 
+pub fn short_area(path: Path, day: &Day, costs: usize, choices: usize) -> Option<Refusal> {
+    let needed = cells(path, day);
+    refused(5, costs < needed.0 || choices < needed.1)
+}
+
 /// What every call with a day to plan or to weigh refuses first, in order.
 fn day_refusals(day: &Day) -> Vec<Refusal> {
     [bad_count(day.periods()), bad_lengths(day), bad_value(day), bad_total(day), bad_opening(day)].into_iter().flatten().collect()
@@ -504,7 +509,6 @@ fn day_refusals(day: &Day) -> Vec<Refusal> {
 
 /// What a path refuses, in order.
 pub fn path_refusals(path: Path, day: &Day, costs: usize, choices: usize, slots: usize) -> Vec<Refusal> {
-    let needed = cells(path, day);
     let own = match path {
         Path::Full => None,
         Path::Uncapped => binding(day),
@@ -512,7 +516,7 @@ pub fn path_refusals(path: Path, day: &Day, costs: usize, choices: usize, slots:
         Path::Free => started(day),
     };
     let low = if path == Path::Full { None } else { low_store(day) };
-    let areas = refused(5, costs < needed.0 || choices < needed.1);
+    let areas = short_area(path, day, costs, choices);
     let mut refusals = day_refusals(day);
     refusals.extend([areas, too_few(slots, day.periods()), shortage(day), own, low].into_iter().flatten());
     refusals
@@ -521,11 +525,10 @@ pub fn path_refusals(path: Path, day: &Day, costs: usize, choices: usize, slots:
 /// What the call on needs known as ranges refuses, in order; the day has the highest. 2 and 3 are of both tables: 3 names the first period of
 /// either.
 pub fn bounds_refusals(lowest: &[u16], day: &Day, costs: usize, choices: usize) -> Vec<Refusal> {
-    let needed = cells(Path::Full, day);
     let lengths = bad_lengths(day).or(refused(2, lowest.len() != day.periods()));
-    let high = refused_at(3, day.periods(), |i| lowest.get(i - 1).is_some_and(|&low| low as u64 > MAX_DEMAND));
-    let values = [bad_value(day), high].into_iter().flatten().min_by_key(|refusal| refusal.period);
-    let areas = refused(5, costs < needed.0 || choices < needed.1);
+    let above = refused_at(3, day.periods(), |i| lowest.get(i - 1).is_some_and(|&low| low as u64 > MAX_DEMAND));
+    let values = [bad_value(day), above].into_iter().flatten().min_by_key(|refusal| refusal.period);
+    let areas = short_area(Path::Full, day, costs, choices);
     let of_day = [bad_count(day.periods()), lengths, values, bad_total(day), bad_opening(day)];
     of_day.into_iter().chain([areas, opened(day), reversed(lowest, day), shortage(day)]).flatten().collect()
 }

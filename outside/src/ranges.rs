@@ -18,44 +18,45 @@ fn day(random: &mut Random) -> Day {
     Day { opening: 0, ..input::day(random, Call::Bounds, Size::Tiny, with) }
 }
 
-/// The table as it is, or with lower values here and there.
+/// Lower values here and there.
 fn lower<T: Copy + Into<u64> + TryFrom<u64>>(random: &mut Random, table: &mut [T]) {
-    if random.once_in(2) {
-        for entry in table {
-            let value: u64 = (*entry).into();
-            let less = random.pick(&[value, value, value.saturating_sub(1), value / 2, 0]);
-            *entry = T::try_from(less).ok().expect("no more than it was");
-        }
+    for entry in table {
+        let value: u64 = (*entry).into();
+        let less = random.pick(&[value, value, value.saturating_sub(1), value / 2, 0]);
+        *entry = T::try_from(less).ok().expect("no more than it was");
     }
 }
 
-/// The table as it is, or with higher values here and there.
+/// Higher values here and there.
 fn raise(random: &mut Random, table: &mut [u16]) {
-    if random.once_in(2) {
-        table.iter_mut().for_each(|entry| *entry = entry.saturating_add(random.pick(&[0, 0, 1, 2, NO_LIMIT])));
-    }
+    table.iter_mut().for_each(|entry| *entry = entry.saturating_add(random.pick(&[0, 0, 1, 2, NO_LIMIT])));
 }
 
-/// A day that is nowhere harder, and easier in some places.
+/// A day that is nowhere harder, and easier in some places: of one kind alone, or of several.
 fn easier(random: &mut Random, day: &Day) -> Day {
     let mut easier = day.clone();
     let Day { demand, capacity, setup, unit, holding, store, closing, .. } = &mut easier;
-    lower(random, demand);
-    lower(random, setup);
-    lower(random, unit);
-    lower(random, holding);
-    lower(random, std::slice::from_mut(closing));
-    raise(random, capacity);
-    raise(random, store);
+    let several = random.once_in(2);
+    for _ in 0..if several { 5 } else { 1 } {
+        match random.index(7) {
+            0 => lower(random, demand),
+            1 => lower(random, setup),
+            2 => lower(random, unit),
+            3 => lower(random, holding),
+            4 => lower(random, std::slice::from_mut(closing)),
+            5 => raise(random, capacity),
+            _ => raise(random, store),
+        }
+    }
     easier
 }
 
-/// The request's first claim by the plain implementation, on tiny days; and that it is false with charge to begin with: needs 0 1 and A = 1
-/// have a plan, needs 0 0 have none. Gives the pairs of days in which the harder has a plan.
-pub fn check(random: &mut Random, times: usize) -> Vec<[Day; 2]> {
-    let harder = Day { demand: vec![0, 1], ..ends::day(2, 0, 0, 1, 0) };
-    assert!(plain::least_cost(&harder).is_some() && plain::least_cost(&harder.with_needs(&[0, 0])).is_none());
-    let mut pairs = vec![];
+/// Pairs of tiny days, of which the first is nowhere harder and the second has a plan, both by the full path; by the plain implementation the
+/// first has one at no higher least cost. With charge to begin with that is false: needs 0 1 and A = 1 have a plan, needs 0 0 have none.
+pub fn pairs(random: &mut Random, times: usize) -> Vec<Input> {
+    let charged = Day { demand: vec![0, 1], ..ends::day(2, 0, 0, 1, 0) };
+    let mut pairs = vec![[charged.with_needs(&[0, 0]), charged]];
+    assert_eq!(pairs[0].each_ref().map(|day| plain::least_cost(day).is_some()), [false, true]);
     for _ in 0..times {
         let harder = day(random);
         let easier = easier(random, &harder);
@@ -65,16 +66,28 @@ pub fn check(random: &mut Random, times: usize) -> Vec<[Day; 2]> {
             pairs.push([easier, harder]);
         }
     }
-    pairs
+    pairs.iter().flatten().map(|day| Input::exact(Call::Full, day, [&[]; 2])).collect()
 }
 
-/// A tiny day with few tables between its lowest and its highest needs.
+/// The full path's inputs as ranges, from nothing, from half of the needs and from all of them.
+pub fn of_full(inputs: &[Input]) -> Vec<Input> {
+    let mut ranges = vec![];
+    for full in inputs.iter().filter(|input| input.call == Call::Full) {
+        for part in 0..=2 {
+            let lowest = full.day.demand.iter().map(|need| (*need as u32 * part / 2) as u16).collect();
+            ranges.push(Input { call: Call::Bounds, lowest, lent: full.lent[..2].to_vec(), ..full.clone() });
+        }
+    }
+    ranges
+}
+
+/// A tiny day with some tables between its lowest and its highest needs, but not many.
 pub fn few(random: &mut Random) -> Input {
     loop {
         let day = day(random);
         let input = input::complete(random, Call::Bounds, day, With::BOTH);
         let tables: f64 = input.lowest.iter().zip(&input.day.demand).map(|(&low, &high)| (high - low) as f64 + 1.0).product();
-        if tables <= 300.0 {
+        if (2.0..=300.0).contains(&tables) {
             return input;
         }
     }
@@ -96,8 +109,8 @@ fn areas() -> Vec<Input> {
     inputs
 }
 
-/// A lowest need one above its highest, or far above, in each period alone, and in it and all later ones; beside it equal in the others, and
-/// with charge to begin with, and with no plan.
+/// A lowest need one above its highest in each period alone, beside equal ones; far above, alone and in all later ones too; with charge to
+/// begin with, and with no plan.
 fn reversed() -> Vec<Input> {
     let mut inputs = vec![];
     for (n, i) in [1, 2, 3, N].into_iter().flat_map(|n| (0..n).map(move |i| (n, i))) {
@@ -105,9 +118,11 @@ fn reversed() -> Vec<Input> {
             let day = ends::day(n, 2 * n, capacity, opening, 0);
             let mut alone = day.demand.clone();
             alone[i] += 1;
-            let mut later = vec![0; n];
+            let mut far = vec![0; n];
+            far[i] = 4096;
+            let mut later = far.clone();
             later[i..].fill(4096);
-            inputs.extend([input(&alone, &day), input(&later, &day)]);
+            inputs.extend([alone, far, later].map(|lowest| input(&lowest, &day)));
         }
     }
     inputs
@@ -188,25 +203,7 @@ fn without_plan() -> Vec<Input> {
     inputs
 }
 
-/// Days of 96 periods: as much as may be needed, costs at their limits; test loads with one capacity.
-fn large() -> Vec<Input> {
-    let costs = |limit: u64| vec![limit as u32; N];
-    let (setup, unit, holding) = (costs(plain::MAX_SETUP), costs(plain::MAX_UNIT), costs(plain::MAX_HOLDING));
-    let mut inputs = vec![];
-    for day in [ends::day(N, 4096, 43, 0, 0), ends::day(N, 4000, 500, 0, 96), ends::day(N, 96, 43, 0, 4000)] {
-        let dear = Day { setup: setup.clone(), unit: unit.clone(), holding: holding.clone(), ..day };
-        let half: Vec<u16> = dear.demand.iter().map(|need| need / 2).collect();
-        inputs.extend([input(&half, &dear), input(&dear.demand, &dear), input(&[0; N], &dear)]);
-    }
-    for seed in 0..4 {
-        let day = Day { capacity: vec![60; N], ..plain::test_load(seed, N) };
-        let less: Vec<u16> = day.demand.iter().enumerate().map(|(i, need)| need - need * (i as u16 % 3) / 2).collect();
-        inputs.push(input(&less, &day));
-    }
-    inputs
-}
-
 /// What is gone through one by one.
 pub fn inputs() -> Vec<Input> {
-    [areas(), reversed(), limits(), lengths(), opening(), without_plan(), large()].concat()
+    [areas(), reversed(), limits(), lengths(), opening(), without_plan()].concat()
 }

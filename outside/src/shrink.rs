@@ -51,7 +51,8 @@ fn values<T: Copy + Into<u64>>(input: &Input, table: Numbers<T>, of: fn(u64) -> 
 fn steps(input: &Input) -> Vec<Input> {
     let mut tries = vec![];
     let day = &input.day;
-    let lengths = [day.demand.len(), day.capacity.len(), day.setup.len(), day.unit.len(), day.holding.len(), day.store.len()];
+    let lengths =
+        [input.lowest.len(), day.demand.len(), day.capacity.len(), day.setup.len(), day.unit.len(), day.holding.len(), day.store.len()];
     for i in 0..lengths.into_iter().max().unwrap() {
         let mut next = input.clone();
         next.day.demand = without(&day.demand, i);

@@ -40,7 +40,7 @@ lower-easier needs d size below =
 pub full-least : {d : Day} {t : Totals} {before after : Memory} → Accepted full d t before after → LeastCost d (t .cost)
 full-least {after = after} a = record { plan = at (after .slots); optimal = a .plan; is = first-value (a .counts) }
 
--- cells that were cleared before more of them are
+-- clearing fewer cells first changes nothing
 drop-cleared : (k j : ℕ) (l : List ℕ) → j ≤ k → drop k (cleared j l) ≡ drop k l
 drop-cleared k j l le =
     let on : j + (k - j) ≡ k = omega arith in

@@ -11,7 +11,7 @@ use day::BoundsAnswer;
 use day::Check;
 use day::Ends;
 
-// The work, once the tests have passed: the full path on both tables, whose plans nobody is lent slots for.
+// The work, once the tests have passed: the full path on both tables, into slots of its own, since none are lent.
 fn work(
     lowest: &[u16],
     demand: &[u16],

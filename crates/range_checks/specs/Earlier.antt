@@ -14,7 +14,7 @@ use Rattle.day.specs.declared.Refusal.the-variants.{AboveLimit}
 use Rattle.day.specs.Find.{find, find-here, Found, none-found, nothing-found, some-found}
 use Rattle.day.specs.Refusals.{periodOf, refuseAt, checked}
 
--- the first refusal, but where the second is of an earlier period; a passed test refuses nothing
+-- the first refusal, except where the second is of an earlier period; a passed test refuses nothing
 abbrev pub earlier : Check → Check → Check
 earlier Passed second = second
 earlier (Refused a) Passed = Refused a
@@ -28,7 +28,7 @@ module _ (P Q : ℕ → Bool) (n : ℕ) where
   abbrev either : ℕ → Bool
   either k = P k || Q k
 
-  -- a period for each answer of the two searches
+  -- what 3 answers where a search found this
   abbrev answer : Option ℕ → Check
   answer o = checked (refuseAt AboveLimit o)
 
