@@ -51,12 +51,14 @@ fn easier(random: &mut Random, day: &Day) -> Day {
     easier
 }
 
+fn full(day: &Day) -> Input {
+    Input::exact(Call::Full, day, [&[]; 2])
+}
+
 /// Pairs of tiny days, of which the first is nowhere harder and the second has a plan, both by the full path; by the plain implementation the
-/// first has one at no higher least cost. With charge to begin with that is false: needs 0 1 and A = 1 have a plan, needs 0 0 have none.
+/// first has one at no higher least cost.
 pub fn pairs(random: &mut Random, times: usize) -> Vec<Input> {
-    let charged = Day { demand: vec![0, 1], ..ends::day(2, 0, 0, 1, 0) };
-    let mut pairs = vec![[charged.with_needs(&[0, 0]), charged]];
-    assert_eq!(pairs[0].each_ref().map(|day| plain::least_cost(day).is_some()), [false, true]);
+    let mut pairs = vec![];
     for _ in 0..times {
         let harder = day(random);
         let easier = easier(random, &harder);
@@ -66,7 +68,15 @@ pub fn pairs(random: &mut Random, times: usize) -> Vec<Input> {
             pairs.push([easier, harder]);
         }
     }
-    pairs.iter().flatten().map(|day| Input::exact(Call::Full, day, [&[]; 2])).collect()
+    pairs.iter().flatten().map(full).collect()
+}
+
+/// With charge to begin with that is false: needs 0 1 and A = 1 have a plan, needs 0 0 have none.
+fn charged() -> Vec<Input> {
+    let harder = Day { demand: vec![0, 1], ..ends::day(2, 0, 0, 1, 0) };
+    let easier = harder.with_needs(&[0, 0]);
+    assert!(easier.is_easier(&harder) && plain::least_cost(&harder).is_some() && plain::least_cost(&easier).is_none());
+    vec![full(&harder), full(&easier)]
 }
 
 /// The full path's inputs as ranges, from nothing, from half of the needs and from all of them.
@@ -205,5 +215,5 @@ fn without_plan() -> Vec<Input> {
 
 /// What is gone through one by one.
 pub fn inputs() -> Vec<Input> {
-    [areas(), reversed(), limits(), lengths(), opening(), without_plan()].concat()
+    [areas(), reversed(), limits(), lengths(), opening(), without_plan(), charged()].concat()
 }
