@@ -7,7 +7,7 @@
 
 enum { PERIODS = 96, MOST = 4096, STACK = 1 << 18, FILE_BYTES = 19 * PERIODS + 8 };
 
-static uint16_t need[PERIODS], capacity[PERIODS], store[PERIODS], plan[PERIODS];
+static uint16_t need[PERIODS], lowest[PERIODS], capacity[PERIODS], store[PERIODS], plan[PERIODS];
 static uint32_t start[PERIODS], unit[PERIODS], upkeep[PERIODS];
 static uint64_t costs[2 * (MOST + 1)];
 static uint16_t choices[PERIODS * (MOST + 1)];
@@ -16,7 +16,8 @@ static size_t n, file_length;
 static uint16_t opening, closing;
 
 #define DAY need, n, capacity, n, start, n, unit, n, upkeep, n, store, n, opening, closing
-#define MEMORY costs, sizeof costs / sizeof *costs, choices, sizeof choices / sizeof *choices, plan, PERIODS
+#define AREAS costs, sizeof costs / sizeof *costs, choices, sizeof choices / sizeof *choices
+#define MEMORY AREAS, plan, PERIODS
 
 static uint64_t answer[4], code;
 static int64_t difference[1];
@@ -25,6 +26,7 @@ static void full(void) { code = yakkurem_full(DAY, MEMORY, answer); }
 static void uncapped(void) { code = yakkurem_uncapped(DAY, MEMORY, answer); }
 static void equal(void) { code = yakkurem_equal(DAY, MEMORY, answer); }
 static void free_path(void) { code = yakkurem_free(DAY, costs, PERIODS, plan, PERIODS, answer); }
+static void bounds(void) { code = yakkurem_bounds(lowest, n, DAY, AREAS, answer); }
 static void weigh(void) { code = yakkurem_weigh(DAY, plan, PERIODS, answer); }
 static void compare(void) { code = yakkurem_compare(DAY, plan, PERIODS, plan, PERIODS, difference); }
 static void write_file(void) {
@@ -48,8 +50,8 @@ static void test_load(void) {
 
 static const struct { const char *name; void (*call)(void); } calls[] = {
     {"yakkurem_full", full}, {"yakkurem_uncapped", uncapped}, {"yakkurem_equal", equal}, {"yakkurem_free", free_path},
-    {"yakkurem_weigh", weigh}, {"yakkurem_compare", compare}, {"yakkurem_write", write_file}, {"yakkurem_read", read_file},
-    {"yakkurem_lookup", lookup}, {"yakkurem_test_load", test_load}, {"yakkurem_price", price},
+    {"yakkurem_bounds", bounds}, {"yakkurem_weigh", weigh}, {"yakkurem_compare", compare}, {"yakkurem_write", write_file},
+    {"yakkurem_read", read_file}, {"yakkurem_lookup", lookup}, {"yakkurem_test_load", test_load}, {"yakkurem_price", price},
 };
 enum { CALLS = sizeof calls / sizeof *calls };
 
@@ -81,7 +83,8 @@ static size_t taken(void (*call)(void), unsigned char paint) {
 
 /* Days of 1 to 96 periods: the whole need in one period or spread, or half of it charge to hand on, with some to begin with; costs at
  * their limits or small, with and without start costs; capacities that can't bind, equal ones that are just enough, and ones that are
- * too small; a store limit in every other period, or none. The file that is read was written of the same day. */
+ * too small; a store limit in every other period, or none. The lowest needs are half the needs, rounded down. The file that is
+ * read was written of the same day. */
 static void make(size_t periods, int shape, int starts, uint16_t most, int limited) {
     n = periods;
     opening = shape == 3 ? 100 : 0;
@@ -89,6 +92,7 @@ static void make(size_t periods, int shape, int starts, uint16_t most, int limit
     for (size_t i = 0; i < n; i++) {
         size_t whole = MOST - closing;
         need[i] = shape % 3 == 0 ? (uint16_t)(whole * (i + 1) / n - whole * i / n) : (i == (shape == 1 ? 0 : n - 1) ? MOST : 0);
+        lowest[i] = need[i] / 2;
         capacity[i] = most;
         start[i] = starts ? (i % 3 ? 1000000000 : 7) : 0;
         unit[i] = i % 5 ? 1000000 : 3;

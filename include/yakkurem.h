@@ -20,7 +20,7 @@
  *
  * Every call but yakkurem_price returns a code:
  *     0                                   accepted
- *     number + 256 * period               refused: the number is 1 to 16, the period 0 where none is named
+ *     number + 256 * period               refused: the number is 1 to 18, the period 0 where none is named
  *     101 to 104 + 256 * period           a weighed plan breaks a rule: above capacity (101), short (102), charge over at the
  *                                         end (103), above store (104)
  *
@@ -43,6 +43,8 @@
  *     14  opening is above need over the day + closing: charge would be over at the end, whatever is made
  *     15  a start cost above 0, in this period (yakkurem_free)
  *     16  a store below need over the day + closing, in this period (yakkurem_uncapped, yakkurem_equal, yakkurem_free)
+ *     17  opening is above 0 (yakkurem_bounds)
+ *     18  a lowest need above its highest, in this period (yakkurem_bounds)
  *
  * On any code but 0 nothing that was lent changes, and the out-array (the last parameter) is not written.
  * The calls keep no state and use no heap, no file and no clock. Of the C library they use memset and memcpy alone.
@@ -93,6 +95,17 @@ uint64_t yakkurem_full(YAKKUREM_DAY, YAKKUREM_MEMORY, uint64_t answer[2]);
 uint64_t yakkurem_uncapped(YAKKUREM_DAY, YAKKUREM_MEMORY, uint64_t answer[2]);
 uint64_t yakkurem_equal(YAKKUREM_DAY, YAKKUREM_MEMORY, uint64_t answer[4]);
 uint64_t yakkurem_free(YAKKUREM_DAY, uint64_t *cost_area, size_t cost_cells, uint16_t *slots, size_t slot_count, uint64_t answer[2]);
+
+/* Needs known as ranges, a lowest and a highest for each period: the need table of the day is the highest. The day begins with
+ * no charge. Accepted, answer holds the least cost of the day with the lowest needs, then with the highest: what its plan
+ * costs, as yakkurem_full gives it. Whatever the needs turn out to be between the two, period by period, the day has a plan,
+ * and its least cost lies between those given. No slots are lent. The areas are those of yakkurem_full for the highest needs,
+ * 2 * (T + 1) and n * (T + 1) cells, which hold 0 after an accepted call; later cells keep their contents. Refusals in order:
+ * 1, 2, 3, 4, 14, 5, 17, 18, 7; 2 and 3 of the lowest needs too (3 names the first period in which any value is above its
+ * limit), 1, 4, 14, 5 and 7 of the highest. */
+uint64_t yakkurem_bounds(
+    const uint16_t *lowest, size_t lowests, YAKKUREM_DAY, uint64_t *cost_area, size_t cost_cells, uint16_t *choice_area,
+    size_t choice_cells, uint64_t answer[2]);
 
 /* Weighs somebody's plan. Accepted, it holds, and answer holds its cost and its starts. Else the first period that breaks
  * a rule and which: in one period "above capacity" before "short", that before "above store", that before "charge over". In

@@ -220,6 +220,41 @@ fn without_starts(seed: u32) {
     }
 }
 
+/// The sum of both costs that the call on ranges gives.
+fn bounds(lowest: &[u16], day: &Day, areas: &mut Areas) -> u64 {
+    let Day { demand, capacity, setup, unit, holding, store, .. } = day;
+    let day = yakkurem::Day { demand, capacity, setup, unit, holding, store, opening: 0, closing: 0 };
+    let bounds = yakkurem::bounds(lowest, day, &mut areas.costs, &mut areas.choices).expect("ranges that the call accepts");
+    bounds.lowest + bounds.highest
+}
+
+/// The call on ranges beside the full path on each of its two days.
+fn with_ranges(seed: u32) {
+    println!("\n## Needs known as ranges\n");
+    println!("n is 96; the highest needs are those drawn, the lowest that part of them, rounded down. Beside the call the full path on each of the two days.\n");
+    println!("| Capacity | Lowest | Full, lowest | Full, highest | Call | To both |");
+    println!("|---|---|---|---|---|---|");
+    let parts = [("0", 0), ("½", 2), ("1", 4)];
+    for (capacity, (part, quarters)) in CAPACITIES.into_iter().flat_map(|capacity| parts.map(|part| (capacity, part))) {
+        let highest = capacity.set_in(drawn(seed, 96));
+        let lowest = highest.with_needs(&highest.demand.iter().map(|need| need * quarters / 4).collect::<Vec<_>>());
+        let mut areas = Areas::of(Path::Full, &highest);
+        let each = [&lowest, &highest].map(|day| library(Path::Full, day, &mut areas));
+        assert_eq!(bounds(&lowest.demand, &highest, &mut areas), each[0] + each[1], "the call gives other costs than the full path");
+        let (mut low, mut high, mut call, mut ratio) = (vec![], vec![], vec![], vec![]);
+        for _ in 0..ROUNDS {
+            let [l, h] = [&lowest, &highest].map(|day| time(|| library(Path::Full, black_box(day), &mut areas)));
+            let both = time(|| bounds(black_box(&lowest.demand), black_box(&highest), &mut areas));
+            low.push(l);
+            high.push(h);
+            call.push(both);
+            ratio.push(both / (l + h));
+        }
+        let [low, high, call] = [low, high, call].map(|times| spread(times).time());
+        println!("| {capacity} | {part} | {low} | {high} | {call} | {} |", spread(ratio).ratio());
+    }
+}
+
 /// The paths on longer and longer days.
 fn with_n(seed: u32) {
     println!("\n## Growth with n\n");
@@ -291,6 +326,7 @@ fn main() {
     }
     without_starts(seed);
     with_store(seed);
+    with_ranges(seed);
     with_n(seed);
     with_need(seed);
 }

@@ -2,7 +2,7 @@
 use crate::input::{Call, Input};
 use crate::plain::{self, Loads, Path, Rule, Verdict};
 use crate::random::mix;
-use yakkurem::{codes, fault, Day, EqualTotals, Fault, Filled, Memory, Refusal, TablesMut, Totals};
+use yakkurem::{codes, fault, Bounds, Day, EqualTotals, Fault, Filled, Memory, Refusal, TablesMut, Totals};
 
 /// Everything that a caller can see after a call: its code, its out-array, and each lent part, with the cells around them.
 #[derive(Clone, Debug, PartialEq)]
@@ -84,7 +84,7 @@ fn before(input: &Input) -> Vec<Vec<u64>> {
         Call::Full | Call::Uncapped | Call::Equal => {
             vec![wide::<u64>(&pattern(0, l[0])), wide::<u16>(&pattern(1, l[1])), wide::<u16>(&pattern(2, l[2]))]
         }
-        Call::Free => vec![wide::<u64>(&pattern(0, l[0])), wide::<u16>(&pattern(1, l[1]))],
+        Call::Free | Call::Bounds => vec![wide::<u64>(&pattern(0, l[0])), wide::<u16>(&pattern(1, l[1]))],
         Call::Read => tables_before(l),
         Call::Write => vec![wide::<u8>(&pattern(0, l[0]))],
         Call::Weigh | Call::Compare | Call::Lookup => vec![],
@@ -145,6 +145,15 @@ fn accepted_free(input: &Input, seen: &mut Seen) {
     fill(&mut seen.out, &[planned.totals.cost, planned.totals.setups]);
 }
 
+/// Both least costs, in the areas of the highest needs.
+fn accepted_bounds(input: &Input, seen: &mut Seen) {
+    let (costs, choices) = plain::cells(Path::Full, &input.day);
+    fill(&mut seen.lent[0], &vec![0u64; costs]);
+    fill(&mut seen.lent[1], &vec![0u16; choices]);
+    let days = [&input.day.with_needs(&input.lowest), &input.day];
+    fill(&mut seen.out, &days.map(|day| plain::least_cost(day).expect(NO_PLAN)));
+}
+
 fn accepted_comparison(input: &Input, seen: &mut Seen) {
     match (plain::verdict(&input.day, &input.plans[0]), plain::verdict(&input.day, &input.plans[1])) {
         (Verdict::Holds(first), Verdict::Holds(second)) => fill(&mut seen.out, &[first.cost as i64 - second.cost as i64]),
@@ -155,7 +164,7 @@ fn accepted_comparison(input: &Input, seen: &mut Seen) {
 /// What the papers say.
 pub fn expected(input: &Input) -> Seen {
     let unwritten = match input.call {
-        Call::Full | Call::Uncapped | Call::Free | Call::Weigh | Call::Lookup => wide::<u64>(&out(2)),
+        Call::Full | Call::Uncapped | Call::Free | Call::Bounds | Call::Weigh | Call::Lookup => wide::<u64>(&out(2)),
         Call::Equal => wide::<u64>(&out(4)),
         Call::Compare => wide::<i64>(&out(1)),
         Call::Read => wide::<u64>(&out(3)),
@@ -171,6 +180,7 @@ pub fn expected(input: &Input) -> Seen {
         Call::Uncapped => accepted_path(Path::Uncapped, input, &mut seen),
         Call::Equal => accepted_path(Path::Equal, input, &mut seen),
         Call::Free => accepted_free(input, &mut seen),
+        Call::Bounds => accepted_bounds(input, &mut seen),
         Call::Weigh => match plain::verdict(&input.day, &input.plans[0]) {
             Verdict::Holds(totals) => fill(&mut seen.out, &[totals.cost, totals.setups]),
             Verdict::Broken(rule, period) => seen.code = broken(rule, period),
@@ -209,12 +219,13 @@ fn run_path<const N: usize>(call: PathCall<N>, input: &Input) -> Seen {
     Seen { code, out: wide(&answer), lent: vec![wide(&costs), wide(&choices), wide(&slots)] }
 }
 
-fn run_free(input: &Input) -> Seen {
-    let mut costs: Vec<u64> = pattern(0, input.lent[0]);
-    let mut slots: Vec<u16> = pattern(1, input.lent[1]);
+/// A call that is lent 64-bit cells and then 16-bit ones, and answers with two numbers.
+fn run_two(input: &Input, call: impl FnOnce(&mut [u64], &mut [u16], &mut [u64; 2]) -> u64) -> Seen {
+    let mut wider: Vec<u64> = pattern(0, input.lent[0]);
+    let mut narrower: Vec<u16> = pattern(1, input.lent[1]);
     let mut answer = out(2);
-    let code = codes::free(day(input), lent(&mut costs), lent(&mut slots), array(&mut answer));
-    Seen { code, out: wide(&answer), lent: vec![wide(&costs), wide(&slots)] }
+    let code = call(lent(&mut wider), lent(&mut narrower), array(&mut answer));
+    Seen { code, out: wide(&answer), lent: vec![wide(&wider), wide(&narrower)] }
 }
 
 /// A call that fills six tables of such lengths: its code, and the tables after it.
@@ -249,7 +260,8 @@ pub fn actual(given: &Input) -> Seen {
         Call::Full => run_path(codes::full, input),
         Call::Uncapped => run_path(codes::uncapped, input),
         Call::Equal => run_path(codes::equal, input),
-        Call::Free => run_free(input),
+        Call::Free => run_two(input, |costs, slots, answer| codes::free(day(input), costs, slots, answer)),
+        Call::Bounds => run_two(input, |costs, choices, answer| codes::bounds(&input.lowest, day(input), costs, choices, answer)),
         Call::Weigh => {
             let mut answer = out(2);
             let code = codes::weigh(day(input), &input.plans[0], array(&mut answer));
@@ -324,6 +336,11 @@ pub fn results_agree(input: &Input, seen: &Seen) -> bool {
         Call::Free => {
             let (mut costs, mut slots) = (vec![7; input.lent[0]], vec![7; input.lent[1]]);
             yakkurem::free(day(input), &mut costs, &mut slots) == planned()
+        }
+        Call::Bounds => {
+            let (mut costs, mut choices) = (vec![7; input.lent[0]], vec![7; input.lent[1]]);
+            let bounds = || if accepted { Ok(Bounds { lowest: values[0], highest: values[1] }) } else { Err(refusal) };
+            yakkurem::bounds(&input.lowest, day(input), &mut costs, &mut choices) == bounds()
         }
         Call::Weigh => match yakkurem::weigh(day(input), &input.plans[0]) {
             Ok(totals) => accepted && values == [totals.cost, totals.setups],

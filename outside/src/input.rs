@@ -14,8 +14,10 @@ pub enum Call {
     Lookup,
     Write,
     Free,
+    Bounds,
 }
 
+/// The calls of before request 2.9. Inputs of `Bounds` are drawn after all of theirs, so that these stay what they were.
 pub const CALLS: [Call; 9] =
     [Call::Full, Call::Uncapped, Call::Equal, Call::Weigh, Call::Compare, Call::Read, Call::Lookup, Call::Write, Call::Free];
 
@@ -23,9 +25,10 @@ pub const CALLS: [Call; 9] =
 pub const EARLIER: &[Call] = CALLS.split_at(8).0;
 
 impl Call {
+    /// The path that the call takes, if any.
     pub fn path(self) -> Option<Path> {
         match self {
-            Call::Full => Some(Path::Full),
+            Call::Full | Call::Bounds => Some(Path::Full),
             Call::Uncapped => Some(Path::Uncapped),
             Call::Equal => Some(Path::Equal),
             Call::Free => Some(Path::Free),
@@ -40,12 +43,13 @@ impl Call {
             Call::Uncapped => &[1, 2, 3, 4, 14, 5, 6, 7, 9, 16],
             Call::Equal => &[1, 2, 3, 4, 14, 5, 6, 7, 8, 16],
             Call::Free => &[1, 2, 3, 4, 14, 5, 6, 7, 15, 16],
+            Call::Bounds => &[1, 2, 3, 4, 14, 5, 17, 18, 7],
             Call::Weigh | Call::Compare => &[1, 2, 3, 4, 14, 6],
             Call::Read => &[10, 11, 12, 1, 6, 3],
             Call::Lookup => &[10, 11, 12, 1, 13],
             Call::Write => &[1, 2, 3, 6],
         };
-        order.iter().copied().filter(|&number| (with.ends || number != 14) && (with.stores || number != 16)).collect()
+        order.iter().copied().filter(|number| (with.ends || ![14, 17].contains(number)) && (with.stores || *number != 16)).collect()
     }
 
     /// How many plans the call weighs.
@@ -60,7 +64,7 @@ impl Call {
     /// How many work areas the call is lent.
     fn areas(self) -> usize {
         match self {
-            Call::Full | Call::Uncapped | Call::Equal => 2,
+            Call::Full | Call::Uncapped | Call::Equal | Call::Bounds => 2,
             Call::Free => 1,
             _ => 0,
         }
@@ -82,12 +86,15 @@ pub struct Input {
     pub call: Call,
     /// the day in the tables
     pub day: Day,
+    /// the lowest needs, where those of the day are the highest
+    pub lowest: Vec<u16>,
     /// plans to weigh: one, or two to compare
     pub plans: Vec<Vec<u16>>,
     pub file: Vec<u8>,
     /// the asked-for period
     pub period: usize,
-    /// lengths of what is lent: cost area, choice area (not for the free path) and slots; or the six tables to fill; or the bytes to write
+    /// lengths of what is lent: cost area, choice area (not for the free path) and slots (not for needs known as ranges); or the six tables to
+    /// fill; or the bytes to write
     pub lent: Vec<usize>,
 }
 
@@ -118,10 +125,11 @@ pub enum Size {
 }
 
 impl Input {
-    /// A call on a day, with as much lent as is needed; the plans are for the calls that weigh.
+    /// A call on a day, with as much lent as is needed; the plans are for the calls that weigh. Needs known as ranges are all the day's own.
     pub fn exact(call: Call, day: &Day, plans: [&[u16]; 2]) -> Input {
         let plans = plans.iter().take(call.plans()).map(|plan| plan.to_vec()).collect();
-        let mut input = Input { call, day: day.clone(), plans, file: vec![], period: 0, lent: vec![] };
+        let lowest = if call == Call::Bounds { day.demand.clone() } else { vec![] };
+        let mut input = Input { call, day: day.clone(), lowest, plans, file: vec![], period: 0, lent: vec![] };
         if call.reads_file() {
             input.file = plain::file_of(day);
             input.period = day.periods();
@@ -138,6 +146,7 @@ impl Input {
                 plain::path_refusals(self.call.path().unwrap(), &self.day, self.lent[0], self.lent[1], self.lent[2])
             }
             Call::Free => plain::path_refusals(Path::Free, &self.day, self.lent[0], 0, self.lent[1]),
+            Call::Bounds => plain::bounds_refusals(&self.lowest, &self.day, self.lent[0], self.lent[1]),
             Call::Weigh | Call::Compare => {
                 plain::weigh_refusals(&self.day, &self.plans.iter().map(|plan| plan.as_slice()).collect::<Vec<_>>())
             }
@@ -155,6 +164,10 @@ impl Input {
                 vec![costs, choices, self.day.periods()]
             }
             Call::Free => vec![plain::cells(Path::Free, &self.day).0, self.day.periods()],
+            Call::Bounds => {
+                let (costs, choices) = plain::cells(Path::Full, &self.day);
+                vec![costs, choices]
+            }
             Call::Read => vec![plain::walk(&self.file).map_or(self.file.len() / 17, |records| records.periods()); 6],
             Call::Write => vec![plain::file_length(&self.day)],
             Call::Weigh | Call::Compare | Call::Lookup => vec![],
@@ -266,7 +279,10 @@ fn give_opening(random: &mut Random, size: Size, day: &mut Day) {
 /// Gives a day charge at its ends, within the limits. A day with a plan mostly keeps one.
 fn give_ends(random: &mut Random, call: Call, size: Size, day: &mut Day) {
     give_closing(random, day);
-    give_opening(random, size, day);
+    // needs known as ranges are mostly of a day that begins with nothing
+    if call != Call::Bounds || random.once_in(8) {
+        give_opening(random, size, day);
+    }
     // all that can be made is handed on, or one unit more
     let supply = day.opening as u64 + day.capacity_to(day.periods());
     if random.once_in(8) && day.total() <= supply && supply < 500 {
@@ -406,6 +422,17 @@ fn weighed(random: &mut Random, day: &Day) -> Vec<u16> {
     plan
 }
 
+/// Lowest needs to go with the highest: all of them, none, or in each period any part.
+fn lowest(random: &mut Random, highest: &[u16]) -> Vec<u16> {
+    let kinds = random.pick::<&[u64]>(&[&[0], &[1], &[2], &[0, 1, 2], &[0, 0, 0, 2]]);
+    let mut low = |high: u16| match random.pick(kinds) {
+        0 => high,
+        1 => 0,
+        _ => random.between(0, high as u64) as u16,
+    };
+    highest.iter().map(|&high| low(high)).collect()
+}
+
 /// A length that serves, mostly exactly.
 fn enough(random: &mut Random, needed: usize) -> usize {
     needed + random.pick(&[0, 0, 0, 1, 2, 7])
@@ -433,7 +460,8 @@ fn lend(random: &mut Random, needed: Vec<usize>, with: With) -> Vec<usize> {
 /// Fills in what goes with the day, and lends enough.
 pub fn complete(random: &mut Random, call: Call, day: Day, with: With) -> Input {
     let plans = (0..call.plans()).map(|_| weighed(random, &day)).collect();
-    let mut input = Input { call, day, plans, file: vec![], period: 0, lent: vec![] };
+    let lowest = if call == Call::Bounds { lowest(random, &day.demand) } else { vec![] };
+    let mut input = Input { call, day, lowest, plans, file: vec![], period: 0, lent: vec![] };
     if call.reads_file() {
         input.file = plain::file_of(&input.day);
         input.period = random.between(1, input.day.periods() as u64) as usize;
@@ -446,7 +474,7 @@ pub fn complete(random: &mut Random, call: Call, day: Day, with: With) -> Input 
     input
 }
 
-/// An input that is refused, if at all, for a shortage, a capacity or a store limit alone.
+/// An input that is refused, if at all, for a shortage, a capacity, a store limit or, where needs are known as ranges, charge to begin with alone.
 pub fn valid(random: &mut Random, call: Call, size: Size, with: With) -> Input {
     let day = day(random, call, size, with);
     complete(random, call, day, with)
@@ -467,14 +495,15 @@ fn shorten<T>(random: &mut Random, table: &mut Vec<T>) {
     table.truncate(length);
 }
 
-fn change_length(random: &mut Random, day: &mut Day, with: With) {
-    fn change<T: Copy + Default>(random: &mut Random, table: &mut Vec<T>) {
-        if random.once_in(2) {
-            shorten(random, table);
-        } else {
-            table.push(T::default());
-        }
+fn change<T: Copy + Default>(random: &mut Random, table: &mut Vec<T>) {
+    if random.once_in(2) {
+        shorten(random, table);
+    } else {
+        table.push(T::default());
     }
+}
+
+fn change_length(random: &mut Random, day: &mut Day, with: With) {
     match random.between(0, if with.stores { 4 } else { 3 }) {
         0 => change(random, &mut day.capacity),
         1 => change(random, &mut day.setup),
@@ -484,13 +513,17 @@ fn change_length(random: &mut Random, day: &mut Day, with: With) {
     }
 }
 
+/// A value above its limit.
+fn over(random: &mut Random, limit: u64, top: u64) -> u64 {
+    random.pick(&[limit + 1, limit + 1, limit + 2, top])
+}
+
 fn raise_value(random: &mut Random, day: &mut Day) {
     let n = day.periods();
     if n == 0 {
         return;
     }
     let i = random.index(n);
-    let over = |random: &mut Random, limit: u64, top: u64| random.pick(&[limit + 1, limit + 1, limit + 2, top]);
     match random.between(0, 3) {
         0 => day.demand[i] = over(random, plain::MAX_DEMAND, 65_535) as u16,
         1 if i < day.setup.len() => day.setup[i] = over(random, plain::MAX_SETUP, u32::MAX as u64) as u32,
@@ -571,10 +604,30 @@ fn damage_day(random: &mut Random, day: &mut Day, with: With, number: u64) {
                 day.setup[random.index(n)] = random.pick(&[1, 1, 2, plain::MAX_SETUP as u32]);
             }
         }
+        17 => day.opening = random.between(1, day.asked().clamp(1, 65_535)) as u16,
         16 => {
             let asked = day.asked();
             for _ in 0..random.pick(&[1, 2]) {
                 day.store[random.index(n)] = asked.saturating_sub(random.pick(&[1, 1, 2, asked])) as u16;
+            }
+        }
+        _ => {}
+    }
+}
+
+/// Changes the lowest needs so that the numbered condition may hold.
+fn damage_lowest(random: &mut Random, lowest: &mut Vec<u16>, highest: &[u16], number: u64) {
+    match number {
+        2 => change(random, lowest),
+        3 if !lowest.is_empty() => {
+            let i = random.index(lowest.len());
+            lowest[i] = over(random, plain::MAX_DEMAND, 65_535) as u16;
+        }
+        18 if !lowest.is_empty() => {
+            // in one period, or in two
+            for _ in 0..random.pick(&[1, 2]) {
+                let i = random.index(lowest.len());
+                lowest[i] = (highest[i].saturating_add(random.pick(&[1, 1, 2, 4096]))).min(4096);
             }
         }
         _ => {}
@@ -661,13 +714,21 @@ pub fn damaged(random: &mut Random, call: Call, size: Size, with: With, numbers:
 
 /// An input with this day, damaged for each of the numbers.
 pub fn damage(random: &mut Random, call: Call, mut day: Day, with: With, numbers: &[u64]) -> Input {
+    // 2 and 3 may be of the lowest needs instead
+    let of_lowest: &[u64] = if call == Call::Bounds && random.once_in(2) { &[18, 3, 2] } else { &[18] };
     // in an order in which what comes later mostly keeps what came before
-    for number in [15, 7, 8, 9, 4, 16, 3, 1, 2, 14] {
-        if numbers.contains(&number) {
+    for number in [15, 17, 7, 8, 9, 4, 16, 3, 1, 2, 14] {
+        if numbers.contains(&number) && !of_lowest.contains(&number) {
             damage_day(random, &mut day, with, number);
         }
     }
-    let mut input = Input { call, day, plans: vec![], file: vec![], period: 0, lent: vec![] };
+    let mut input = Input { call, day, lowest: vec![], plans: vec![], file: vec![], period: 0, lent: vec![] };
+    if call == Call::Bounds {
+        input.lowest = lowest(random, &input.day.demand);
+        for &number in of_lowest.iter().filter(|number| numbers.contains(number)) {
+            damage_lowest(random, &mut input.lowest, &input.day.demand, number);
+        }
+    }
     let n = input.day.periods();
     let plans = call.plans();
     input.plans = (0..plans).map(|_| vec![random.between(0, 3) as u16; enough(random, n)]).collect();
@@ -735,6 +796,7 @@ pub fn changed(random: &mut Random, call: Call, size: Size, with: With) -> Input
                 6 => input.day.opening = random.pick(&[0, 1, 4095, 4096, 4097, 65_535]),
                 7 => input.day.closing = random.pick(&[0, 1, 4095, 4096, 4097, 65_535]),
                 8 => input.day.store[i] = random.pick(&[0, 0, 1, 4095, 4096, 65_534, 65_535]),
+                _ if call == Call::Bounds => input.lowest[i] = random.pick(&[0, 1, 4096, 4097, 65_535]),
                 _ if input.plans.is_empty() => {}
                 _ => {
                     let which = random.index(input.plans.len());

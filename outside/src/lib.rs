@@ -7,4 +7,5 @@ pub mod loads;
 pub mod plain;
 pub mod price;
 pub mod random;
+pub mod ranges;
 pub mod store;

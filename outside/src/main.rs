@@ -10,7 +10,7 @@ mod shrink;
 mod test_load;
 
 use input::{Call, Input, Size, With, CALLS, EARLIER};
-use outside::{ends, free, holding, input, loads, plain, price, random, store};
+use outside::{ends, free, holding, input, loads, plain, price, random, ranges, store};
 use random::Random;
 use std::iter::once;
 use std::process::exit;
@@ -20,7 +20,7 @@ use test_load::TestLoad;
 const SEED: u64 = 1979;
 
 /// The last number of a refusal.
-const LAST: usize = 16;
+const LAST: usize = 18;
 
 /// The inputs of one run, counted by their outcome.
 struct Run {
@@ -36,6 +36,9 @@ struct Run {
     broken: [usize; 4],
     /// of the equal path's plans
     plan_runs: loads::Runs,
+    /// tiny days with needs known as ranges, accepted, and all tables of needs between these
+    bounded: usize,
+    between: usize,
 }
 
 impl Run {
@@ -184,6 +187,27 @@ impl Run {
         }
     }
 
+    /// Needs known as ranges, on a tiny day: every table between the two has a plan by the full path, at a cost between those given.
+    fn range(&mut self) {
+        let input = ranges::few(&mut self.random);
+        self.try_input(&input);
+        let seen = compare::actual(&input);
+        if seen.code != 0 {
+            return;
+        }
+        self.bounded += 1;
+        for needs in plain::tables_between(&input.lowest, &input.day.demand) {
+            let full = Input::exact(Call::Full, &input.day.with_needs(&needs), [&[]; 2]);
+            self.try_input(&full);
+            let cost = compare::actual(&full).values()[0];
+            if !(seen.values()[0]..=seen.values()[1]).contains(&cost) {
+                println!("failed: needs {needs:?} between\n  {}\nleast cost {cost}, seen {:?}", shrink::show(&input), seen.values());
+                exit(1);
+            }
+            self.between += 1;
+        }
+    }
+
     /// The calls on such made-up days, after the plain implementation against itself; `part` of the full count of each.
     fn made_up(&mut self, calls: &[Call], with: With, part: usize) {
         self.with = with;
@@ -194,12 +218,31 @@ impl Run {
             self.valid(call, Size::Middle, 400 / part);
             self.valid(call, Size::Long, 40 / part);
             // recursion (5) by its letter takes long there
-            let by_letter = matches!(call, Call::Full | Call::Uncapped | Call::Equal);
+            let by_letter = matches!(call, Call::Full | Call::Uncapped | Call::Equal | Call::Bounds);
             self.valid(call, Size::Limits, if by_letter { 4 } else { 100 } / part);
             self.changed(call, Size::Tiny, 800 / part);
             self.changed(call, Size::Long, 12 / part);
             self.damaged(call, 400 / part);
         }
+    }
+
+    /// Request 2.9; gives how many pairs of an easier and a harder day were planned.
+    fn ranges(&mut self) -> usize {
+        for (with, part) in [(With::NOTHING, 2), (With::ENDS, 2), (With::STORES, 2), (With::BOTH, 1)] {
+            self.made_up(&[Call::Bounds], with, part);
+        }
+        self.holding(Call::Bounds, 3);
+        let drawn = test_load::inputs(&mut self.random);
+        for inputs in [holding::dearest(), itself::inputs(), ends::limits(&[Call::Full]), store::inputs(), drawn] {
+            self.try_inputs(&ranges::of_full(&inputs));
+        }
+        self.try_inputs(&ranges::inputs());
+        for _ in 0..10_000 {
+            self.range();
+        }
+        let pairs = ranges::pairs(&mut self.random, 20_000);
+        self.try_inputs(&pairs);
+        pairs.len() / 2
     }
 
     fn print_counts(&self) {
@@ -288,7 +331,7 @@ fn long_files(call: Call) -> Vec<Input> {
             }
             file.extend([plain::END, 0, 1]);
             let lent = if call == Call::Read { vec![1; 6] } else { vec![] };
-            inputs.push(Input { call, day: plain::Day::default(), plans: vec![], file, period: 1, lent });
+            inputs.push(Input { call, day: plain::Day::default(), lowest: vec![], plans: vec![], file, period: 1, lent });
         }
     }
     inputs
@@ -301,7 +344,8 @@ fn main() {
     };
     let start = Instant::now();
     let (random, refused, broken, plan_runs) = (Random::new(seed), [0; LAST + 1], [0; 4], loads::Runs::default());
-    let mut run = Run { random, with: With::NOTHING, inputs: 0, accepted: 0, short_paths: 0, refused, broken, plan_runs };
+    let mut run =
+        Run { random, with: With::NOTHING, inputs: 0, accepted: 0, short_paths: 0, refused, broken, plan_runs, bounded: 0, between: 0 };
     run.made_up(EARLIER, With::NOTHING, 1);
     for call in [Call::Read, Call::Lookup] {
         run.try_inputs(&long_files(call));
@@ -349,10 +393,15 @@ fn main() {
     let on_test_loads = test_load::inputs(&mut run.random);
     run.try_inputs(&on_test_loads);
     let priced = prices(&mut run.random);
-    // the calls of `CALLS` and the test load; prices are counted apart
-    println!("outside: seed {seed}, {} inputs of {} calls as the plain implementation has them", run.inputs, CALLS.len() + 1);
+    let pairs = run.ranges();
+    // the calls of `CALLS`, the test load and needs known as ranges; prices are counted apart
+    println!("outside: seed {seed}, {} inputs of {} calls as the plain implementation has them", run.inputs, CALLS.len() + 2);
     run.print_counts();
     println!("test loads: {} inputs, and {} of the other calls on days so drawn", test_loads.len(), on_test_loads.len());
+    println!(
+        "needs known as ranges: {} tiny days with {} tables between, each with its least cost between the two; {pairs} pairs with an easier day",
+        run.bounded, run.between
+    );
     println!("published instances: {} inputs, each with the published cost, doubled", published.len());
     println!("prices: {priced} costs, each as the plain implementation has it");
     eprintln!("{} seconds", start.elapsed().as_secs());

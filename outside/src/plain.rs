@@ -1,4 +1,4 @@
-//! Documents 01 and 02 (requests 2.1 to 2.7; 2.8 is in price.rs) and the report in plain code, written from these alone: what every call should answer.
+//! Documents 01 and 02 (requests 2.1 to 2.7 and 2.9; 2.8 is in price.rs) and the report in plain code, written from these alone: what every call should answer.
 //! Names are lot sizing's; document 01 says need for demand, start for setup, upkeep for holding.
 use std::iter::once;
 use std::ops::Range;
@@ -346,6 +346,43 @@ pub fn counted(capacity: u16, amounts: &[u16]) -> Loads {
     Loads { full: count(|x, c| x == c), part: count(|x, c| x < c) }
 }
 
+// Request 2.9: easier days, and needs known as ranges.
+
+impl Day {
+    /// The same day with other needs.
+    pub fn with_needs(&self, needs: &[u16]) -> Day {
+        Day { demand: needs.to_vec(), ..self.clone() }
+    }
+
+    /// Whether this day has no higher need, start, unit cost, upkeep or Z than the other and no lower capacity or store limit, in any place.
+    pub fn is_easier(&self, other: &Day) -> bool {
+        fn none_higher<T: PartialOrd>(low: &[T], high: &[T]) -> bool {
+            low.len() == high.len() && low.iter().zip(high).all(|(l, h)| l <= h)
+        }
+        none_higher(&self.demand, &other.demand)
+            && none_higher(&self.setup, &other.setup)
+            && none_higher(&self.unit, &other.unit)
+            && none_higher(&self.holding, &other.holding)
+            && self.closing <= other.closing
+            && none_higher(&other.capacity, &self.capacity)
+            && none_higher(&other.store, &self.store)
+    }
+}
+
+/// The least cost of a day that has a plan.
+pub fn least_cost(day: &Day) -> Option<u64> {
+    plan(day).map(|planned| planned.totals.cost)
+}
+
+/// Every table between the lowest and the highest needs, period by period.
+pub fn tables_between(lowest: &[u16], highest: &[u16]) -> Vec<Vec<u16>> {
+    let mut tables = vec![vec![]];
+    for (&low, &high) in lowest.iter().zip(highest) {
+        tables = tables.iter().flat_map(|front| (low..=high).map(|need| [&front[..], &[need]].concat())).collect();
+    }
+    tables
+}
+
 // The papers' conditions, each by itself; where tables differ in length, entries past an end count as 0.
 
 fn refused(number: u64, condition: bool) -> Option<Refusal> {
@@ -437,6 +474,14 @@ pub fn low_store(day: &Day) -> Option<Refusal> {
     refused_at(16, day.periods(), |i| day.store.get(i - 1).is_some_and(|&s| (s as u64) < day.asked()))
 }
 
+pub fn opened(day: &Day) -> Option<Refusal> {
+    refused(17, day.opening > 0)
+}
+
+pub fn reversed(lowest: &[u16], day: &Day) -> Option<Refusal> {
+    refused_at(18, day.periods(), |i| lowest.get(i - 1).is_some_and(|&low| low > day.demand[i - 1]))
+}
+
 pub fn too_few(cells: usize, needed: usize) -> Option<Refusal> {
     refused(6, cells < needed)
 }
@@ -452,6 +497,11 @@ pub fn cells(path: Path, day: &Day) -> (usize, usize) {
     }
 }
 
+pub fn short_area(path: Path, day: &Day, costs: usize, choices: usize) -> Option<Refusal> {
+    let needed = cells(path, day);
+    refused(5, costs < needed.0 || choices < needed.1)
+}
+
 /// What every call with a day to plan or to weigh refuses first, in order.
 fn day_refusals(day: &Day) -> Vec<Refusal> {
     [bad_count(day.periods()), bad_lengths(day), bad_value(day), bad_total(day), bad_opening(day)].into_iter().flatten().collect()
@@ -459,7 +509,6 @@ fn day_refusals(day: &Day) -> Vec<Refusal> {
 
 /// What a path refuses, in order.
 pub fn path_refusals(path: Path, day: &Day, costs: usize, choices: usize, slots: usize) -> Vec<Refusal> {
-    let needed = cells(path, day);
     let own = match path {
         Path::Full => None,
         Path::Uncapped => binding(day),
@@ -467,10 +516,21 @@ pub fn path_refusals(path: Path, day: &Day, costs: usize, choices: usize, slots:
         Path::Free => started(day),
     };
     let low = if path == Path::Full { None } else { low_store(day) };
-    let areas = refused(5, costs < needed.0 || choices < needed.1);
+    let areas = short_area(path, day, costs, choices);
     let mut refusals = day_refusals(day);
     refusals.extend([areas, too_few(slots, day.periods()), shortage(day), own, low].into_iter().flatten());
     refusals
+}
+
+/// What the call on needs known as ranges refuses, in order; the day has the highest. 2 and 3 are of both tables: 3 names the first period of
+/// either.
+pub fn bounds_refusals(lowest: &[u16], day: &Day, costs: usize, choices: usize) -> Vec<Refusal> {
+    let lengths = bad_lengths(day).or(refused(2, lowest.len() != day.periods()));
+    let above = refused_at(3, day.periods(), |i| lowest.get(i - 1).is_some_and(|&low| low as u64 > MAX_DEMAND));
+    let values = [bad_value(day), above].into_iter().flatten().min_by_key(|refusal| refusal.period);
+    let areas = short_area(Path::Full, day, costs, choices);
+    let of_day = [bad_count(day.periods()), lengths, values, bad_total(day), bad_opening(day)];
+    of_day.into_iter().chain([areas, opened(day), reversed(lowest, day), shortage(day)]).flatten().collect()
 }
 
 /// What the weigher refuses, in order, for one plan or two.

@@ -51,7 +51,8 @@ fn values<T: Copy + Into<u64>>(input: &Input, table: Numbers<T>, of: fn(u64) -> 
 fn steps(input: &Input) -> Vec<Input> {
     let mut tries = vec![];
     let day = &input.day;
-    let lengths = [day.demand.len(), day.capacity.len(), day.setup.len(), day.unit.len(), day.holding.len(), day.store.len()];
+    let lengths =
+        [input.lowest.len(), day.demand.len(), day.capacity.len(), day.setup.len(), day.unit.len(), day.holding.len(), day.store.len()];
     for i in 0..lengths.into_iter().max().unwrap() {
         let mut next = input.clone();
         next.day.demand = without(&day.demand, i);
@@ -60,6 +61,7 @@ fn steps(input: &Input) -> Vec<Input> {
         next.day.unit = without(&day.unit, i);
         next.day.holding = without(&day.holding, i);
         next.day.store = without(&day.store, i);
+        next.lowest = without(&input.lowest, i);
         next.plans = input.plans.iter().map(|plan| without(plan, i)).collect();
         tries.push(next);
     }
@@ -96,6 +98,7 @@ fn steps(input: &Input) -> Vec<Input> {
     }
     values(input, |x| &mut x.day.store, |v| v as u16, lower, &mut tries);
     values(input, |x| &mut x.day.demand, |v| v as u16, smaller, &mut tries);
+    values(input, |x| &mut x.lowest, |v| v as u16, smaller, &mut tries);
     values(input, |x| &mut x.day.capacity, |v| v as u16, smaller, &mut tries);
     values(input, |x| &mut x.day.setup, |v| v as u32, smaller, &mut tries);
     values(input, |x| &mut x.day.unit, |v| v as u32, smaller, &mut tries);
@@ -142,7 +145,7 @@ pub fn shrink(input: &Input, fails: impl Fn(&Input) -> bool) -> Input {
 
 /// An input in document 01's form.
 pub fn show(input: &Input) -> String {
-    let Input { day, plans, file, period, lent, .. } = input;
+    let Input { day, lowest, plans, file, period, lent, .. } = input;
     let words = |numbers: Vec<u64>| numbers.iter().map(u64::to_string).collect::<Vec<_>>().join(" ");
     let words16 = |table: &[u16]| words(table.iter().map(|&v| v as u64).collect());
     let words32 = |table: &[u32]| words(table.iter().map(|&v| v as u64).collect());
@@ -159,6 +162,9 @@ pub fn show(input: &Input) -> String {
             day.opening,
             day.closing
         ));
+    }
+    if input.call == Call::Bounds {
+        lines.push(format!("lowest needs {}", words16(lowest)));
     }
     for plan in plans {
         lines.push(format!("plan {}", words16(plan)));

@@ -1,5 +1,6 @@
 -- What a caller of the tests learns. Main statements, in the documents' order of the tests:
 --     tables-passed, day-passed             1, 2, 3: what `Limits` says of the tables; 4, 14
+--     area-passed                           5
 --     shortage-passed, shortage-found       7: what must have been made is at most what can have been; the first period in which it is not
 --     equal-passed                          8
 --     binding-passed                        9
@@ -26,9 +27,9 @@ use Rattle.day.specs.Day.{Day, periods, maxPeriods, maxDemand, maxCapacity, max
 use Rattle.day.specs.Day.{demandTo, required, total, netTo, net-before}
 use Rattle.day.specs.Refusals.{numberOf, periodOf, refuseAt, anywhere, first, badCount, badLengths, aboveLimit, badValue, tableTests}
 use Rattle.day.specs.Refusals.{badTotal, badOpening, totalTests, dayTests}
-use Rattle.day.specs.Refusals.{badAreas, badSlots, mostTo, short, shortage, FirstAt, differs, unequal, binds, binding, paid, paidSetup, tight, lowStore}
-use Rattle.day.specs.Tests.{first-split, first-passed, first-one, not-refused, nowhere, neither}
-use Rattle.day.specs.Outcome.{Path, Sizes, Roomy, memoryTests, pathTests, refusal}
+use Rattle.day.specs.Refusals.{badSlots, mostTo, short, shortage, FirstAt, differs, unequal, binds, binding, paid, paidSetup, tight, lowStore}
+use Rattle.day.specs.Tests.{first-split, first-passed, first-one, first-two, not-refused, nowhere, neither}
+use Rattle.day.specs.Outcome.{Path, Sizes, Roomy, areaTest, memoryTests, pathTests, refusal}
 
 -- every table is as long as the demand table
 pub record SameLengths (d : Day) : Type 0 where
@@ -154,20 +155,22 @@ day-passed d e =
       used = ltb-false _ _ (not-refused (ltb (required d) (d .opening)) SurplusInventory (rw first-one at (s .1)));
     }
 
+-- 5
+pub area-passed : (P : Path) (d : Day) (s : Sizes) → areaTest P d s ≡ none
+    → (P .costCells (periods d) (total d) ≤ s .costs) × (P .choiceCells (periods d) (total d) ≤ s .choices)
+area-passed P d s e =
+    let costs = ltb (s .costs) (P .costCells (periods d) (total d)) in
+    let choices = ltb (s .choices) (P .choiceCells (periods d) (total d)) in
+    let a = neither costs choices (not-refused (costs || choices) ShortArea e) in
+    (ltb-false _ _ (a .0), ltb-false _ _ (a .1))
+
 -- 5, 6
 memory-passed : (P : Path) (d : Day) (s : Sizes) → first (memoryTests P d s) ≡ none → Roomy P d s
 memory-passed P d s e =
     let n = periods d in
-    let T = total d in
-    let areas = badAreas (s .costs) (P .costCells n T) (s .choices) (P .choiceCells n T) in
-    let t = first-split (areas ∷ []) (badSlots (s .slots) n ∷ []) e in
-    let short = ltb (s .costs) (P .costCells n T) || ltb (s .choices) (P .choiceCells n T) in
-    let a = neither (ltb (s .costs) (P .costCells n T)) (ltb (s .choices) (P .choiceCells n T)) (not-refused short ShortArea (rw first-one at (t .0))) in
-    record {
-      costs = ltb-false _ _ (a .0);
-      choices = ltb-false _ _ (a .1);
-      slots = ltb-false _ _ (not-refused (ltb (s .slots) n) FewSlots (rw first-one at (t .1)));
-    }
+    let t = first-two (areaTest P d s) (badSlots (s .slots) n) e in
+    let a = area-passed P d s (t .0) in
+    record { costs = a .0; choices = a .1; slots = ltb-false _ _ (not-refused (ltb (s .slots) n) FewSlots (t .1)) }
 
 -- 7
 pub passes-iff : (d : Day) (k : ℕ) → (short d k ≡ false) ↔ Passes d k

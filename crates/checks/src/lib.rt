@@ -10,6 +10,7 @@ ghost use Rattle.day.specs.Sums.{Term, at, sumTo};
 ghost use Rattle.day.specs.Day.{dayOf, tablesOf, required, dueOf, total, maxPeriods, maxDemand, maxCapacity, maxSetup, maxRate, maxHalfRate, maxSum};
 ghost use Rattle.day.specs.Lent.{dayBefore, tablesBefore};
 ghost use Rattle.day.specs.Refusals.{checked, first, badCount, badLengths, badValue, tableTests, totalTests, dayTests};
+ghost use Rattle.day.specs.Tests.{inOrder};
 ghost use Rattle.checks.specs.Passed.{Readable};
 use day::Check;
 use day::Ends;
@@ -28,6 +29,16 @@ const MAX_HALF_RATE: u32 = 500_000;
 
 const MAX_TOTAL: u64 = 4096;
 
+// The answers of two tests in order.
+pub fn in_order(test: Check, next: Check) -> Check
+    ensures { λ r. ⌜ r ≡ inOrder test next ⌝ }
+{
+    if let Check::Refused(r) = test {
+        return Check::Refused(r);
+    }
+    next
+}
+
 // 1: the number of periods
 pub fn count(n: usize) -> Check
     ensures { λ r. ⌜ r ≡ checked (badCount n) ⌝ }
@@ -39,7 +50,7 @@ pub fn count(n: usize) -> Check
 }
 
 // 2: every table is as long as the demand table
-fn lengths(
+pub fn lengths(
     demand: &[u16],
     capacity: &[u16],
     setup: &[u32],
@@ -142,7 +153,7 @@ pub fn total(demand: &[u16], ends: Ends) -> u64
 }
 
 // 4, 14
-fn totals(demand: &[u16], ends: Ends) -> Check
+pub fn totals(demand: &[u16], ends: Ends) -> Check
     requires { ⌜ length (now demand) ≤ maxPeriods ⌝ }
     ensures { λ r. ⌜ r ≡ checked (first (totalTests (dayOf (now (demand .entry)) [] [] [] [] [] ends))) ⌝ }
 {

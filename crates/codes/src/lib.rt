@@ -1,11 +1,12 @@
 //! What a C program sees of an answer: one code, and its numbers in the call's out-array (include/yakkurem.h).
 ghost use mathlib.Core.Path.{_≡_};
 ghost use Rattle.day.specs.Refusals.{numberOf, periodOf};
-ghost use Rattle.day.specs.Figures.{answerFigures, equalFigures};
+ghost use Rattle.day.specs.Figures.{answerFigures, equalFigures, boundsFigures};
 ghost use Rattle.dayfile.specs.Answers.{readFigures, writeFigures};
 ghost use Rattle.weigher.specs.Answers.{weighedFigures, comparedFigures, ruleNumber};
 ghost use Rattle.codes.specs.Codes.{codeOf, seen, seenOf, checkCode};
 use day::Answer;
+use day::BoundsAnswer;
 use day::Check;
 use day::EqualAnswer;
 use day::Refusal;
@@ -67,6 +68,19 @@ pub fn planned_equal(a: EqualAnswer, answer: &mut [u64; 4]) -> u64
         EqualAnswer::Refused(r) => refused(r),
         EqualAnswer::Planned(t, l) => {
             *answer = [t.cost, t.setups, l.full, l.part];
+            0
+        }
+    }
+}
+
+// Of needs known as ranges: the least cost for the lowest, and for the highest.
+pub fn bounded(a: BoundsAnswer, answer: &mut [u64; 2]) -> u64
+    ensures { λ r. ⌜ seen r (now (answer .exit)) ≡ seenOf (now (answer .entry)) (boundsFigures a) ⌝ }
+{
+    match a {
+        BoundsAnswer::Refused(r) => refused(r),
+        BoundsAnswer::Bounded(b) => {
+            *answer = [b.lowest, b.highest];
             0
         }
     }

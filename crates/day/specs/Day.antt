@@ -51,6 +51,10 @@ tablesOf demand capacity setup unit holding store = dayOf demand capacity setup 
 abbrev pub endsOf : Day → Ends
 endsOf d = endsWith (d .opening) (d .closing)
 
+-- the day with another table of needs
+abbrev pub withDemand : List ℕ → Day → Day
+withDemand needs d = dayOf needs (d .capacity) (d .setup) (d .unit) (d .holding) (d .store) (endsOf d)
+
 -- n
 abbrev pub periods : Day → ℕ
 periods d = length (d .demand)

@@ -1,6 +1,6 @@
 -- What a contract says of lent tables: the values that they hold when a call begins, and when it ends.
--- Main definitions: `dayBefore`, `tablesBefore`, `tablesAfter`; `memoryBefore`, `memoryAfter`, and of a path that is lent no choice area
--- `cellsBefore`, `cellsAfter`. Assumes nothing.
+-- Main definitions: `dayBefore`, `tablesBefore`, `tablesAfter`; `memoryBefore`, `memoryAfter`, of a path that is lent no choice area
+-- `cellsBefore`, `cellsAfter`, and of a call that is lent no slots `areasBefore`, `areasAfter`. Assumes nothing.
 use mathlib.Core.List.{List, []}
 use Prim.Native.Nat.{ℕ}
 use denote.Ref.{RefT, now}
@@ -37,3 +37,10 @@ cellsBefore costs slots = memoryOf (now (costs .entry)) [] (now (slots .entry))
 
 abbrev pub cellsAfter : (costs slots : Lent) → Memory
 cellsAfter costs slots = memoryOf (now (costs .exit)) [] (now (slots .exit))
+
+-- memory without slots
+abbrev pub areasBefore : (costs choices : Lent) → Memory
+areasBefore costs choices = memoryOf (now (costs .entry)) (now (choices .entry)) []
+
+abbrev pub areasAfter : (costs choices : Lent) → Memory
+areasAfter costs choices = memoryOf (now (costs .exit)) (now (choices .exit)) []

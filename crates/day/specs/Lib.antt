@@ -17,6 +17,8 @@ pub mod Figures
 pub mod Outcome
 pub mod Paths
 pub mod Loads
+-- Needs known as ranges: easier days, and the call that bounds their least cost.
+pub mod Ranges
 -- Lent tables and memory at both moments of a call, as contracts speak of them.
 pub mod Lent
 -- The marked days: a plain search over all plans, the table, its theorem.

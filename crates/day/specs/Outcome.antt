@@ -51,12 +51,13 @@ pub record Roomy (P : Path) (d : Day) (s : Sizes) : Type 0 where
   pub choices : P .choiceCells (periods d) (total d) ≤ s .choices
   pub slots : periods d ≤ s .slots
 
+-- 5
+abbrev pub areaTest : Path → Day → Sizes → Option Refusal
+areaTest P d s = badAreas (s .costs) (P .costCells (periods d) (total d)) (s .choices) (P .choiceCells (periods d) (total d))
+
 -- 5, 6
 abbrev pub memoryTests : Path → Day → Sizes → List (Option Refusal)
-memoryTests P d s =
-    badAreas (s .costs) (P .costCells (periods d) (total d)) (s .choices) (P .choiceCells (periods d) (total d))
-    ∷ badSlots (s .slots) (periods d)
-    ∷ []
+memoryTests P d s = areaTest P d s ∷ badSlots (s .slots) (periods d) ∷ []
 
 -- 5, 6, 7, then its own
 abbrev pub pathTests : Path → Day → Sizes → List (Option Refusal)

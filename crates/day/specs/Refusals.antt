@@ -1,4 +1,4 @@
--- What is refused, and when: document 01's conditions 1 to 9 and document 02's 14 to 16, each as a definition, and the number and period of each refusal.
+-- What is refused, and when: document 01's conditions 1 to 9 and document 02's 14 to 18, each as a definition, and the number and period of each refusal.
 -- A call's first refusal in order is `first` of a list of these; laws of such lists are in `Tests`. Conditions 10 to 13 are in `File`.
 -- Assumes nothing.
 use mathlib.Core.Path.{_≡_}
@@ -12,12 +12,13 @@ use Rattle.day.specs.declared.Refusal.{Refusal}
 use Rattle.day.specs.declared.Refusal.the-variants.{PeriodCount, TableLength, AboveLimit, TotalDemand, ShortArea, FewSlots, Shortage}
 use Rattle.day.specs.declared.Refusal.the-variants.{UnequalCapacities, BindingCapacity}
 use Rattle.day.specs.declared.Refusal.the-variants.{UnknownKind, TruncatedFile, WrongEnd, NoSuchPeriod, SurplusInventory, PaidSetup, LowStore}
+use Rattle.day.specs.declared.Refusal.the-variants.{OpeningInventory, ReversedRange}
 use Rattle.day.specs.declared.Check.{Check}
 use Rattle.day.specs.declared.Check.the-variants.{Passed, Refused}
 use Rattle.day.specs.Sums.{at, cappedTo}
 use Rattle.day.specs.Find.{find}
 use Rattle.day.specs.Day.{Day, periods, maxPeriods, maxDemand, maxCapacity, maxSetup, maxRate, maxHalfRate, maxTotal, maxStore}
-use Rattle.day.specs.Day.{demandTo, required, total, netTo}
+use Rattle.day.specs.Day.{withDemand, demandTo, required, total, netTo}
 use Rattle.day.specs.Plan.{KeepsTo}
 
 -- the documents' number of a refusal
@@ -38,6 +39,8 @@ numberOf NoSuchPeriod = 13
 numberOf SurplusInventory = 14
 numberOf (PaidSetup i) = 15
 numberOf (LowStore i) = 16
+numberOf OpeningInventory = 17
+numberOf (ReversedRange i) = 18
 
 -- the period that it names, counted from 1; 0 where it names none
 abbrev pub periodOf : Refusal → ℕ
@@ -57,6 +60,8 @@ periodOf NoSuchPeriod = 0
 periodOf SurplusInventory = 0
 periodOf (PaidSetup i) = i
 periodOf (LowStore i) = i
+periodOf OpeningInventory = 0
+periodOf (ReversedRange i) = i
 
 -- the refusal, where its condition holds
 abbrev pub refuse : Bool → Refusal → Option Refusal
@@ -191,9 +196,34 @@ tight d k = ltb (at (d .store) k) (required d)
 abbrev pub lowStore : Day → Option Refusal
 lowStore d = refuseAt LowStore (find (tight d) (periods d))
 
+-- 2 and 3 where a call reads a second table of needs (document 02, 2.9): it too is as long as the demand table, and a value of either day counts
+abbrev pub badSecond : List ℕ → Day → Option Refusal
+badSecond needs d = refuse (not (eqb (length needs) (periods d))) TableLength
+
+abbrev pub eitherAbove : List ℕ → Day → ℕ → Bool
+eitherAbove needs d k = aboveLimit d k || aboveLimit (withDemand needs d) k
+
+abbrev pub badValues : List ℕ → Day → Option Refusal
+badValues needs d = refuseAt AboveLimit (find (eitherAbove needs d) (periods d))
+
+-- 17: A above 0
+abbrev pub opened : Day → Option Refusal
+opened d = refuse (ltb 0 (d .opening)) OpeningInventory
+
+-- 18: a lowest need above its highest, which is the day's
+abbrev pub reverses : List ℕ → Day → ℕ → Bool
+reverses lowest d k = ltb (at (d .demand) k) (at lowest k)
+
+abbrev pub reversed : List ℕ → Day → Option Refusal
+reversed lowest d = refuseAt ReversedRange (find (reverses lowest d) (periods d))
+
 -- the tests that open every call on tables: 1, 2, 3
 abbrev pub tableTests : Day → List (Option Refusal)
 tableTests d = badCount (periods d) ∷ badLengths d ∷ badValue d ∷ []
+
+-- and of one that reads a second table of needs: 1, then 2 and 3 on both
+abbrev pub pairTests : List ℕ → Day → List (Option Refusal)
+pairTests needs d = badCount (periods d) ∷ badLengths d ∷ badSecond needs d ∷ badValues needs d ∷ []
 
 -- those on what the day needs over all: 4, and 14 right after it
 abbrev pub totalTests : Day → List (Option Refusal)

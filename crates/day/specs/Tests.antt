@@ -11,6 +11,7 @@ use Rattle.day.specs.declared.Refusal.{Refusal}
 use Rattle.day.specs.declared.Refusal.the-variants.{PeriodCount, TableLength, AboveLimit, TotalDemand, ShortArea, FewSlots, Shortage}
 use Rattle.day.specs.declared.Refusal.the-variants.{UnequalCapacities, BindingCapacity}
 use Rattle.day.specs.declared.Refusal.the-variants.{UnknownKind, TruncatedFile, WrongEnd, NoSuchPeriod, SurplusInventory, PaidSetup, LowStore}
+use Rattle.day.specs.declared.Refusal.the-variants.{OpeningInventory, ReversedRange}
 use Rattle.day.specs.declared.Check.{Check}
 use Rattle.day.specs.declared.Check.the-variants.{Passed, Refused}
 use Rattle.day.specs.Refusals.{numberOf, periodOf, Gives, refuse, refuseAt, orNext, first, checked}
@@ -47,9 +48,11 @@ withNumber number i =
     ∷ NoSuchPeriod
     ∷ SurplusInventory
     ∷ PaidSetup i
+    ∷ LowStore i
+    ∷ OpeningInventory
     ∷ [])
     number
-    (LowStore i)
+    (ReversedRange i)
 
 number-fixes : (r : Refusal) → withNumber (numberOf r) (periodOf r) ≡ r
 unfolding withNumber
@@ -69,6 +72,8 @@ number-fixes NoSuchPeriod = refl
 number-fixes SurplusInventory = refl
 number-fixes (PaidSetup i) = refl
 number-fixes (LowStore i) = refl
+number-fixes OpeningInventory = refl
+number-fixes (ReversedRange i) = refl
 
 -- number and period fix a refusal: what is given is the first in order, and the other way round
 pub gives-is : {o : Option Refusal} {r : Refusal} → Gives o r → o ≡ some r
@@ -115,10 +120,10 @@ abbrev pub inOrder : Check → Check → Check
 inOrder Passed c = c
 inOrder (Refused r) c = Refused r
 
-pub in-order : (o p : Option Refusal) {test answer : Check} → test ≡ checked o → answer ≡ inOrder test (checked p)
+pub in-order : (o p : Option Refusal) {test next answer : Check} → test ≡ checked o → next ≡ checked p → answer ≡ inOrder test next
     → answer ≡ checked (first (o ∷ p ∷ []))
-in-order none p is e = rw is at e ∙ ap checked (sym (first-one p))
-in-order (some r) p is e = rw is at e
+in-order none p is then e = rw (is, then) at e ∙ ap checked (sym (first-one p))
+in-order (some r) p is then e = rw is at e
 
 pub alone : (o : Option Refusal) {answer : Check} → answer ≡ checked o → answer ≡ checked (first (o ∷ []))
 alone none is = is

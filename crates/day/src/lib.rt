@@ -21,6 +21,8 @@ pub enum Refusal {
     SurplusInventory,
     PaidSetup(u16),
     LowStore(u16),
+    OpeningInventory,
+    ReversedRange(u16),
 }
 
 impl Refusal {
@@ -44,6 +46,8 @@ impl Refusal {
             Refusal::SurplusInventory => 14,
             Refusal::PaidSetup(_) => 15,
             Refusal::LowStore(_) => 16,
+            Refusal::OpeningInventory => 17,
+            Refusal::ReversedRange(_) => 18,
         }
     }
 
@@ -67,6 +71,8 @@ impl Refusal {
             Refusal::SurplusInventory => 0,
             Refusal::PaidSetup(i) => i,
             Refusal::LowStore(i) => i,
+            Refusal::OpeningInventory => 0,
+            Refusal::ReversedRange(i) => i,
         }
     }
 }
@@ -113,4 +119,16 @@ pub struct Loads {
 pub enum EqualAnswer {
     Refused(Refusal),
     Planned(Totals, Loads),
+}
+
+// The least cost of a day with its lowest needs, and with its highest (document 02, 2.9).
+pub struct Bounds {
+    pub lowest: u64,
+    pub highest: u64,
+}
+
+// What the call on needs known as ranges answers.
+pub enum BoundsAnswer {
+    Refused(Refusal),
+    Bounded(Bounds),
 }

@@ -54,7 +54,7 @@ fn fill_and_read(
 }
 
 // The work, once the tests have passed: the loops run on the net needs and the rates under the ceilings, the plan is weighed on the day itself.
-fn work(
+pub fn work(
     demand: &[u16],
     capacity: &[u16],
     setup: &[u32],

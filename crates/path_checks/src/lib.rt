@@ -6,7 +6,6 @@ ghost use lib.ListN.{length};
 ghost use Rattle.day.specs.Day.{dayOf, tablesOf, required, maxPeriods, maxSum};
 ghost use Rattle.day.specs.Lent.{dayBefore};
 ghost use Rattle.day.specs.Refusals.{checked, first, badAreas, badSlots, shortage, unequal, binding, paidSetup, lowStore};
-ghost use Rattle.day.specs.Tests.{inOrder};
 ghost use Rattle.day.specs.Outcome.{pathTests, refusal, sizes};
 ghost use Rattle.day.specs.Paths.{pathOf};
 ghost use Rattle.path_checks.specs.Needed.{NeededBy};
@@ -15,7 +14,17 @@ use day::Ends;
 use day::PathKind;
 use day::Refusal;
 
-// 5, 6: the cells and slots that are lent, and how many the call needs
+// 5: the cells that are lent, and how many the call needs
+pub fn areas(costs: usize, cost_cells: usize, choices: usize, choice_cells: usize) -> Check
+    ensures { λ r. ⌜ r ≡ checked (badAreas costs «cost_cells» choices «choice_cells») ⌝ }
+{
+    if costs < cost_cells || choices < choice_cells {
+        return Check::Refused(Refusal::ShortArea);
+    }
+    Check::Passed
+}
+
+// 5, 6: the slots too
 fn memory(
     costs: usize,
     cost_cells: usize,
@@ -26,8 +35,8 @@ fn memory(
 ) -> Check
     ensures { λ r. ⌜ r ≡ checked (first (badAreas costs «cost_cells» choices «choice_cells» ∷ badSlots slots n ∷ [])) ⌝ }
 {
-    if costs < cost_cells || choices < choice_cells {
-        return Check::Refused(Refusal::ShortArea);
+    if let Check::Refused(r) = areas(costs, cost_cells, choices, choice_cells) {
+        return Check::Refused(r);
     }
     if slots < n {
         return Check::Refused(Refusal::FewSlots);
@@ -36,7 +45,7 @@ fn memory(
 }
 
 // 7, for tables of one length: the first period after which A is above R + s, or what must have been made above the most that can have been
-fn shortage(demand: &[u16], capacity: &[u16], store: &[u16], ends: Ends) -> Check
+pub fn shortage(demand: &[u16], capacity: &[u16], store: &[u16], ends: Ends) -> Check
     requires { ⌜ length (now capacity) ≡ length (now demand) ⌝ }
     requires { ⌜ length (now store) ≡ length (now demand) ⌝ }
     requires { ⌜ length (now demand) ≤ maxPeriods ⌝ }
@@ -127,19 +136,7 @@ fn low_store(demand: &[u16], store: &[u16], ends: Ends) -> Check
     Check::Passed
 }
 
-// A test of a path's own, then 16.
-fn then_store(test: Check, demand: &[u16], store: &[u16], ends: Ends) -> Check
-    requires { ⌜ length (now store) ≡ length (now demand) ⌝ }
-    requires { ⌜ length (now demand) ≤ maxPeriods ⌝ }
-    ensures { λ r. ⌜ r ≡ inOrder test (checked (lowStore (dayOf (now (demand .entry)) [] [] [] [] (now (store .entry)) ends))) ⌝ }
-{
-    if let Check::Refused(r) = test {
-        return Check::Refused(r);
-    }
-    low_store(demand, store, ends)
-}
-
-// The tests that a path alone applies.
+// The tests that a path alone applies: of each short path one, then 16.
 fn own(
     kind: PathKind,
     demand: &[u16],
@@ -160,9 +157,16 @@ fn own(
 {
     match kind {
         PathKind::Full => Check::Passed,
-        PathKind::Uncapped => then_store(binding(demand, capacity, ends), demand, store, ends),
-        PathKind::Equal => then_store(equal(demand, capacity), demand, store, ends),
-        PathKind::Free => then_store(paid(demand, setup), demand, store, ends),
+        PathKind::Uncapped => {
+            checks::in_order(
+                binding(demand, capacity, ends),
+                low_store(demand, store, ends),
+            )
+        }
+        PathKind::Equal => {
+            checks::in_order(equal(demand, capacity), low_store(demand, store, ends))
+        }
+        PathKind::Free => { checks::in_order(paid(demand, setup), low_store(demand, store, ends)) }
     }
 }
 

@@ -2,10 +2,10 @@
 ghost use mathlib.Core.Path.{_≡_};
 ghost use Rattle.day.specs.Paths.{full, uncapped, free};
 ghost use Rattle.day.specs.Day.{endsWith};
-ghost use Rattle.day.specs.Lent.{dayBefore, memoryBefore, memoryAfter, cellsBefore, cellsAfter};
+ghost use Rattle.day.specs.Lent.{dayBefore, memoryBefore, memoryAfter, cellsBefore, cellsAfter, areasBefore, areasAfter};
 ghost use Rattle.weigher.specs.Answers.{Weighs, Compares, weighedFigures, comparedFigures};
 ghost use Rattle.price.specs.Price.{priceOf};
-ghost use Rattle.station.specs.Shows.{Shows, PathShows, EqualShows, ReadShows, LookupShows, WriteShows, LoadShows};
+ghost use Rattle.station.specs.Shows.{Shows, PathShows, EqualShows, BoundsShows, ReadShows, LookupShows, WriteShows, LoadShows};
 use day::Check;
 use day::Ends;
 
@@ -149,6 +149,42 @@ pub extern "C" fn yakkurem_free(
         ends,
     );
     codes::planned(a, answer)
+}
+
+// Needs known as ranges, the demands being the highest; the answer is the least cost of the day with the lowest, and with the highest.
+#[no_mangle]
+pub extern "C" fn yakkurem_bounds(
+    lowest: &[u16],
+    demand: &[u16],
+    capacity: &[u16],
+    setup: &[u32],
+    unit: &[u32],
+    holding: &[u32],
+    store: &[u16],
+    opening: u16,
+    closing: u16,
+    costs: &mut [u64],
+    choices: &mut [u16],
+    answer: &mut [u64; 2],
+) -> u64
+    ensures { λ r. ⌜
+        BoundsShows lowest demand capacity setup unit holding store (endsWith opening closing)
+        (areasBefore costs choices) (areasAfter costs choices) answer r ⌝ }
+{
+    let ends = Ends { opening, closing };
+    let a = bounds::least_costs(
+        lowest,
+        demand,
+        capacity,
+        setup,
+        unit,
+        holding,
+        store,
+        costs,
+        choices,
+        ends,
+    );
+    codes::bounded(a, answer)
 }
 
 // Weighs a plan; the answer is its cost and setups.

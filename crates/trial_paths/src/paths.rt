@@ -40,9 +40,9 @@ fn name_of(path: Path) {
 }
 
 // The cells that a path needs (document 01's table; document 02, 2.3).
-struct Cells {
-    costs: usize,
-    choices: usize,
+pub struct Cells {
+    pub costs: usize,
+    pub choices: usize,
 }
 
 fn cells_of(path: Path, n: usize, total: usize) -> Cells
@@ -69,7 +69,7 @@ fn cells_of(path: Path, n: usize, total: usize) -> Cells
     }
 }
 
-fn needed(path: Path, demand: &[u16], ends: Ends) -> Cells
+pub fn needed(path: Path, demand: &[u16], ends: Ends) -> Cells
     ensures { λ r. ⌜ (r .costs ≤ 8196) × (r .choices ≤ 16785408) ⌝ }
 {
     cells_of(

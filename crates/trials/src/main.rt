@@ -26,6 +26,9 @@ fn day(
     if check::same(kind, b"weigh") || check::same(kind, b"compare") {
         return trial_plans::plans(line, demand, capacity, setup, unit, holding, store, ends);
     }
+    if check::same(kind, b"bounds") {
+        return trial_bounds::bounds(line, demand, capacity, setup, unit, holding, store, ends);
+    }
     if check::same(kind, b"write") {
         return trial_files::write(line, demand, capacity, setup, unit, holding, store, ends);
     }

@@ -2,11 +2,13 @@
 //! The library reads and writes only inside these, keeps no pointer, and asks nothing of its caller: so every call is safe.
 use crate::{Day, Memory, TablesMut};
 
-/// Declares calls that begin with a day: need, capacity, start, unit, upkeep and store, each with its length; opening, closing.
-macro_rules! calls_of_a_day {
-    ($(fn $call:ident($($more:ty),*);)*) => {
+/// Declares calls with a day: need, capacity, start, unit, upkeep and store, each with its length; opening, closing. It comes first, but for
+/// what stands in brackets.
+macro_rules! calls_with_a_day {
+    ($(fn $call:ident$([$($first:ty),*])?($($more:ty),*);)*) => {
         extern "C" {
             $(fn $call(
+                $($(_: $first,)*)?
                 _: *const u16, _: usize, _: *const u16, _: usize, _: *const u32, _: usize, _: *const u32, _: usize, _: *const u32, _: usize,
                 _: *const u16, _: usize, _: u16, _: u16, $(_: $more),*
             ) -> u64;)*
@@ -16,10 +18,11 @@ macro_rules! calls_of_a_day {
 
 /// Calls one of them.
 macro_rules! call_with_day {
-    ($call:ident, $day:ident, $($more:expr),*) => {{
+    ($call:ident$([$($first:expr),*])?, $day:ident, $($more:expr),*) => {{
         let Day { demand, capacity, setup, unit, holding, store, opening, closing } = $day;
         unsafe {
             $call(
+                $($($first,)*)?
                 demand.as_ptr(), demand.len(), capacity.as_ptr(), capacity.len(), setup.as_ptr(), setup.len(), unit.as_ptr(), unit.len(),
                 holding.as_ptr(), holding.len(), store.as_ptr(), store.len(), opening, closing, $($more),*
             )
@@ -37,11 +40,12 @@ macro_rules! call_path {
     }};
 }
 
-calls_of_a_day! {
+calls_with_a_day! {
     fn yakkurem_full(*mut u64, usize, *mut u16, usize, *mut u16, usize, *mut u64);
     fn yakkurem_uncapped(*mut u64, usize, *mut u16, usize, *mut u16, usize, *mut u64);
     fn yakkurem_equal(*mut u64, usize, *mut u16, usize, *mut u16, usize, *mut u64);
     fn yakkurem_free(*mut u64, usize, *mut u16, usize, *mut u64);
+    fn yakkurem_bounds[*const u16, usize](*mut u64, usize, *mut u16, usize, *mut u64);
     fn yakkurem_weigh(*const u16, usize, *mut u64);
     fn yakkurem_compare(*const u16, usize, *const u16, usize, *mut i64);
     fn yakkurem_write(*mut u8, usize, *mut u64);
@@ -77,6 +81,12 @@ pub fn equal(day: Day, memory: Memory, answer: &mut [u64; 4]) -> u64 {
 
 pub fn free(day: Day, costs: &mut [u64], slots: &mut [u16], answer: &mut [u64; 2]) -> u64 {
     call_with_day!(yakkurem_free, day, costs.as_mut_ptr(), costs.len(), slots.as_mut_ptr(), slots.len(), answer.as_mut_ptr())
+}
+
+pub fn bounds(lowest: &[u16], day: Day, costs: &mut [u64], choices: &mut [u16], answer: &mut [u64; 2]) -> u64 {
+    let (cost_cells, choice_cells) = (costs.len(), choices.len());
+    let (costs, choices) = (costs.as_mut_ptr(), choices.as_mut_ptr());
+    call_with_day!(yakkurem_bounds[lowest.as_ptr(), lowest.len()], day, costs, cost_cells, choices, choice_cells, answer.as_mut_ptr())
 }
 
 pub fn weigh(day: Day, plan: &[u16], answer: &mut [u64; 2]) -> u64 {

@@ -69,6 +69,13 @@ pub struct EqualTotals {
     pub loads: Loads,
 }
 
+/// Of needs known as ranges: the least cost of the day with the lowest, and with the highest.
+#[derive(Clone, Copy, Debug, PartialEq, Eq)]
+pub struct Bounds {
+    pub lowest: u64,
+    pub highest: u64,
+}
+
 /// The documents' number of a refusal, and the period that it names; 0 where it names none.
 #[derive(Clone, Copy, Debug, PartialEq, Eq)]
 pub struct Refusal {
@@ -147,6 +154,16 @@ pub fn free(day: Day, costs: &mut [u64], slots: &mut [u16]) -> Result<Totals, Re
     let mut answer = [0; 2];
     match codes::free(day, costs, slots, &mut answer) {
         0 => Ok(totals(answer)),
+        code => Err(refusal(code)),
+    }
+}
+
+/// Needs known as ranges, the day's being the highest; it begins with no charge. Whatever the needs turn out to be between the two, period by
+/// period, the day has a plan, and its least cost lies between those given. The areas are those of the full path for the highest; no slots are taken.
+pub fn bounds(lowest: &[u16], day: Day, costs: &mut [u64], choices: &mut [u16]) -> Result<Bounds, Refusal> {
+    let mut answer = [0; 2];
+    match codes::bounds(lowest, day, costs, choices, &mut answer) {
+        0 => Ok(Bounds { lowest: answer[0], highest: answer[1] }),
         code => Err(refusal(code)),
     }
 }

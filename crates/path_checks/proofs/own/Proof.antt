@@ -13,25 +13,29 @@ tables c = dayOf (c .args .demand .now) (c .args .capacity .now) (c .args .setup
 
 returns-2 : tie.Need-returns-2
 returns-2 c =
-    let told = c .before .before in
+    let test = c .before .before in
+    let told = test .before in
     let d = tables (told .before .before .before .before .before .before) in
-    rw (told .enum-told2 .given .1) (in-order (binding d) (lowStore d) (c .before .binding .ensures) (c .then-store .ensures))
+    rw (told .enum-told2 .given .1) (in-order (binding d) (lowStore d) (test .binding .ensures) (c .before .low-store .ensures) (c .in-order .ensures))
 
 returns-3 : tie.Need-returns-3
 returns-3 c =
-    let told = c .before .before in
+    let test = c .before .before in
+    let told = test .before in
     let d = tables (told .before .before .before .before .before .before) in
-    rw (told .enum-told3 .given .1) (in-order (unequal d) (lowStore d) (c .before .equal .ensures) (c .then-store2 .ensures))
+    rw (told .enum-told3 .given .1) (in-order (unequal d) (lowStore d) (test .equal .ensures) (c .before .low-store2 .ensures) (c .in-order2 .ensures))
 
 returns-4 : tie.Need-returns-4
 returns-4 c =
-    let told = c .before .before in
+    let test = c .before .before in
+    let told = test .before in
     let d = tables (told .before .before .before .before .before .before) in
-    rw (told .enum-told4 .given .1) (in-order (paidSetup d) (lowStore d) (c .before .paid .ensures) (c .then-store3 .ensures))
+    rw (told .enum-told4 .given .1) (in-order (paidSetup d) (lowStore d) (test .paid .ensures) (c .before .low-store3 .ensures) (c .in-order3 .ensures))
 
 pub own-spec : {M : Type 1} → statement M
 own-spec =
     tie.close
     (tie.spec
-    (λ c. search needs) (λ c. search needs) (λ c κs. search needs) (λ c κs. search needs) (λ c. search needs) (λ c κs. search needs)
-    (λ c κs. search needs) (λ c. search needs) (λ c κs. search needs) (λ c κs. search needs) (λ c. search needs) returns-2 returns-3 returns-4)
+    (λ c. search needs) (λ c. search needs) (λ c κs. search needs) (λ c κs. search needs) (λ c κs. search needs) (λ c. search needs)
+    (λ c κs. search needs) (λ c κs. search needs) (λ c κs. search needs) (λ c. search needs) (λ c κs. search needs) (λ c κs. search needs)
+    (λ c κs. search needs) (λ c. search needs) returns-2 returns-3 returns-4)

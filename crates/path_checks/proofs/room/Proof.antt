@@ -12,7 +12,7 @@ use Rattle.day.specs.Tests.{passed, alone, group-refused, group-passed, group-d
 use Rattle.day.specs.Outcome.{Path, Sizes, sizes, memoryTests}
 use Rattle.day.specs.Paths.{pathOf}
 use Rattle.path_checks.specs.declared.Needed.{Needed}
-use Rattle.path_checks.specs.Needed.{NeededBy}
+use Rattle.path_checks.specs.Needed.{NeededBy, needed-areas}
 use Rattle.path_checks.proofs.room.Statement.{statement}
 use Rattle.path_checks.proofs.room.Tie as tie
 
@@ -20,7 +20,7 @@ use Rattle.path_checks.proofs.room.Tie as tie
 memory-is : (P : Path) (d : Day) (s : Sizes) {T : ℕ} {needed : Needed} {answer : Check} → T ≡ total d → NeededBy P (periods d) T needed
     → answer ≡ checked (first (badAreas (s .costs) (needed .costs) (s .choices) (needed .choices) ∷ badSlots (s .slots) (periods d) ∷ []))
     → answer ≡ checked (first (memoryTests P d s))
-memory-is P d s t n is = rw (← t, ← n .costs, ← n .choices) is
+memory-is P d s t n is = rw (← needed-areas P d s t n) is
 
 -- the tables, from the entry, and the sizes lent
 abbrev tables : tie.Start → Day
