@@ -231,7 +231,10 @@ fn bounds(lowest: &[u16], day: &Day, areas: &mut Areas) -> u64 {
 /// The call on ranges beside the full path on each of its two days.
 fn with_ranges(seed: u32) {
     println!("\n## Needs known as ranges\n");
-    println!("n is 96; the highest needs are those drawn, the lowest that part of them, rounded down. Beside the call the full path on each of the two days.\n");
+    println!(
+        "n is 96; the highest needs are those drawn, the lowest that part of them, rounded down. Beside the call the full path on each of \
+         the two days.\n"
+    );
     println!("| Capacity | Lowest | Full, lowest | Full, highest | Call | To both |");
     println!("|---|---|---|---|---|---|");
     let parts = [("0", 0), ("½", 2), ("1", 4)];

@@ -1,14 +1,14 @@
 -- The full path on both days of a range, one after the other. Main statements: `low-admitted`, `high-admitted`, each day passes the full path's tests
 -- with slots of the caller's own; `both-bounded`, its work on both is what the contract says. Assumes nothing.
-use mathlib.Core.Path.{_≡_, refl, sym, ap, _∙_}
+use mathlib.Core.Path.{_≡_, refl, ap, _∙_}
 use mathlib.Core.List.{List, [], _++_}
-use Prim.Native.Nat.{ℕ, _+_, _-_, _≤_, _<_}
+use Prim.Native.Nat.{ℕ, _≤_, _<_}
 use native.Mathlib.Nat.{mul-le-mul}
 use native.Mathlib.Omega.{arith}
 use lib.ListN.{length, drop, replicate, length-replicate}
-use lib.Seq.{drop-at, drop-drop}
+use lib.Seq.{drop-at}
 use Rattle.day.specs.declared.Totals.{Totals}
-use Rattle.day.specs.Sums.{at}
+use Rattle.day.specs.Sums.{at, drop-later}
 use Rattle.day.specs.Day.{Day, periods, total, withDemand}
 use Rattle.day.specs.Figures.{first-value}
 use Rattle.day.specs.Outcome.{Memory, memoryOf, Sizes, cleared, Accepted}
@@ -41,14 +41,10 @@ pub full-least : {d : Day} {t : Totals} {before after : Memory} → Accepted ful
 full-least {after = after} a = record { plan = at (after .slots); optimal = a .plan; is = first-value (a .counts) }
 
 -- clearing fewer cells first changes nothing
-drop-cleared : (k j : ℕ) (l : List ℕ) → j ≤ k → drop k (cleared j l) ≡ drop k l
-drop-cleared k j l le =
-    let on : j + (k - j) ≡ k = omega arith in
-    let later : (m : List ℕ) → drop (k - j) (drop j m) ≡ drop k m = λ m. drop-drop (k - j) j m ∙ ap (λ (i : ℕ). drop i m) on in
-    sym (later (cleared j l)) ∙ (ap (drop (k - j)) (drop-at (replicate j 0) (drop j l) j (length-replicate j 0)) ∙ later l)
-
 cleared-twice : (k j : ℕ) (l : List ℕ) {m r : List ℕ} → j ≤ k → m ≡ cleared j l → r ≡ cleared k m → r ≡ cleared k l
-cleared-twice k j l le e f = f ∙ ap (λ (m : List ℕ). replicate k 0 ++ m) (ap (drop k) e ∙ drop-cleared k j l le)
+cleared-twice k j l le e f =
+    let later = drop-later j k (cleared j l) l le (drop-at (replicate j 0) (drop j l) j (length-replicate j 0)) in
+    f ∙ ap (λ (m : List ℕ). replicate k 0 ++ m) (ap (drop k) e ∙ later)
 
 module _ {lowest : List ℕ} {d : Day} {s : Sizes} (r : Ranged lowest d s) (supplied : (k : ℕ) → k < periods d → Passes d k) where
   abbrev low : Day

@@ -1,19 +1,27 @@
 -- Entries of tables and sums over the first periods.
 -- Index k is the report's period k + 1, and `sumTo f i` is the sum over the report's periods 1 to i.
 -- Assumes nothing.
-use mathlib.Core.Path.{_≡_, refl, ap, ap₂}
+use mathlib.Core.Path.{_≡_, refl, sym, ap, ap₂, _∙_}
 use mathlib.Core.List.{List, [], _∷_}
 use mathlib.Core.Logic.{⊎-elim}
-use Prim.Native.Nat.{ℕ, zero, suc, _+_, _*_, _≤_, _<_, min, suc-le-suc}
+use Prim.Native.Nat.{ℕ, zero, suc, _+_, _-_, _*_, _≤_, _<_, min, suc-le-suc}
 use native.Mathlib.Nat.{eq-or-lt-of-le, le-of-suc-le-suc}
 use native.Mathlib.Numerals.{add-one}
 use native.Mathlib.Omega.{arith}
-use lib.ListN.{getD, length}
+use lib.ListN.{getD, length, drop}
+use lib.Seq.{drop-drop}
 use lib.Arith.{le-zero}
 
 -- entry k of a table, 0 past its end
 abbrev pub at : List ℕ → ℕ → ℕ
 at l k = getD l k 0
+
+-- tables that are alike from place j on are so from any later one
+pub drop-later : (j k : ℕ) (a b : List ℕ) → j ≤ k → drop j a ≡ drop j b → drop k a ≡ drop k b
+drop-later j k a b le e =
+    let on : j + (k - j) ≡ k = omega arith in
+    let later : (l : List ℕ) → drop (k - j) (drop j l) ≡ drop k l = λ l. drop-drop (k - j) j l ∙ ap (λ (i : ℕ). drop i l) on in
+    sym (later a) ∙ (ap (drop (k - j)) e ∙ later b)
 
 -- f 0 + f 1 + .. + f (i - 1)
 abbrev pub sumTo : (ℕ → ℕ) → ℕ → ℕ

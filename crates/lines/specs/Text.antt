@@ -1,15 +1,15 @@
 -- The lines that `dayplan` prints (document 01, "Marked days"), as bytes, and what it means that text was put into a buffer.
 -- Main definitions: `planLine`, `amountLine`, `refusalLine`, `Put`. Assumes nothing.
-use mathlib.Core.Path.{_≡_, sym, ap, _∙_}
+use mathlib.Core.Path.{_≡_, ap, _∙_}
 use mathlib.Core.List.{List, [], _∷_, _++_, append-assoc}
 use mathlib.Core.Option.{Option, none, some}
-use Prim.Native.Nat.{ℕ, suc, _+_, _-_, _^_, _≤_}
+use Prim.Native.Nat.{ℕ, suc, _+_, _^_, _≤_}
 use lib.Dec.{ltb}
 use lib.ListN.{length, take, drop, length-append}
-use lib.Seq.{drop-drop}
 use native.Mathlib.Omega.{arith}
 use Rattle.io.specs.Digits.{digits}
 use Rattle.day.specs.declared.Refusal.{Refusal}
+use Rattle.day.specs.Sums.{drop-later}
 use Rattle.day.specs.Find.{find}
 use Rattle.day.specs.Day.{Day, maxPeriods}
 use Rattle.day.specs.Plan.{inventory}
@@ -102,12 +102,10 @@ lineBytes = 96
 -- one text after another
 pub put-put : {a b c : List ℕ} {i j k : ℕ} {s t : List ℕ} → Put a i s b j → Put b j t c k → Put a i (s ++ t) c k
 put-put {a} {b} {c} {i} {j} {k} {s} {t} p q =
-    let on : j + (k - j) ≡ k = omega (arith, q .end) in
-    let later : (l : List ℕ) → drop (k - j) (drop j l) ≡ drop k l = λ l. drop-drop (k - j) j l ∙ ap (λ (n : ℕ). drop n l) on in
     record {
       front = q .front ∙ ap (λ (l : List ℕ). l ++ t) (p .front) ∙ append-assoc (take i a) s t;
       end = omega (arith, p .end, q .end, length-append s t);
       inside = q .inside;
       size = q .size ∙ p .size;
-      rest = q .rest ∙ (sym (later b) ∙ ap (drop (k - j)) (p .rest) ∙ later a);
+      rest = q .rest ∙ drop-later j k b a (omega (arith, q .end)) (p .rest);
     }
