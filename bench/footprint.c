@@ -5,7 +5,7 @@
 #include <ucontext.h>
 #include "yakkurem.h"
 
-enum { PERIODS = 96, MOST = 4096, STACK = 1 << 18, FILE_BYTES = 19 * PERIODS + 8 };
+enum { PERIODS = 96, MOST = 4096, BIG = 60000, STACK = 1 << 18, FILE_BYTES = 19 * PERIODS + 8 };
 
 static uint16_t need[PERIODS], lowest[PERIODS], capacity[PERIODS], store[PERIODS], plan[PERIODS];
 static uint32_t start[PERIODS], unit[PERIODS], upkeep[PERIODS];
@@ -27,6 +27,7 @@ static void uncapped(void) { code = yakkurem_uncapped(DAY, MEMORY, answer); }
 static void equal(void) { code = yakkurem_equal(DAY, MEMORY, answer); }
 static void free_path(void) { code = yakkurem_free(DAY, costs, PERIODS, plan, PERIODS, answer); }
 static void bounds(void) { code = yakkurem_bounds(lowest, n, DAY, AREAS, answer); }
+static void big(void) { code = yakkurem_big(DAY, 1000, costs, 3 * PERIODS, plan, PERIODS, answer); }
 static void weigh(void) { code = yakkurem_weigh(DAY, plan, PERIODS, answer); }
 static void compare(void) { code = yakkurem_compare(DAY, plan, PERIODS, plan, PERIODS, difference); }
 static void write_file(void) {
@@ -50,8 +51,9 @@ static void test_load(void) {
 
 static const struct { const char *name; void (*call)(void); } calls[] = {
     {"yakkurem_full", full}, {"yakkurem_uncapped", uncapped}, {"yakkurem_equal", equal}, {"yakkurem_free", free_path},
-    {"yakkurem_bounds", bounds}, {"yakkurem_weigh", weigh}, {"yakkurem_compare", compare}, {"yakkurem_write", write_file},
-    {"yakkurem_read", read_file}, {"yakkurem_lookup", lookup}, {"yakkurem_test_load", test_load}, {"yakkurem_price", price},
+    {"yakkurem_bounds", bounds}, {"yakkurem_big", big}, {"yakkurem_weigh", weigh}, {"yakkurem_compare", compare},
+    {"yakkurem_write", write_file}, {"yakkurem_read", read_file}, {"yakkurem_lookup", lookup}, {"yakkurem_test_load", test_load},
+    {"yakkurem_price", price},
 };
 enum { CALLS = sizeof calls / sizeof *calls };
 
@@ -81,17 +83,18 @@ static size_t taken(void (*call)(void), unsigned char paint) {
     return (size_t)(top - stack) - untouched;
 }
 
-/* Days of 1 to 96 periods: the whole need in one period or spread, or half of it charge to hand on, with some to begin with; costs at
- * their limits or small, with and without start costs; capacities that can't bind, equal ones that are just enough, and ones that are
- * too small; a store limit in every other period, or none. The lowest needs are half the needs, rounded down. The file that is
- * read was written of the same day. */
+/* Days of 1 to 96 periods: the whole need in one period or spread, half of it charge to hand on, with some to begin with, or spread and
+ * as much as only a big day may need; costs at their limits or small, with and without start costs; capacities that can't bind, equal
+ * ones that are just enough, and ones that are too small; a store limit in every other period, or none. The lowest needs are half the
+ * needs, rounded down. The file that is read was written of the same day. */
 static void make(size_t periods, int shape, int starts, uint16_t most, int limited) {
     n = periods;
     opening = shape == 3 ? 100 : 0;
     closing = shape == 3 ? MOST / 2 : 0;
     for (size_t i = 0; i < n; i++) {
-        size_t whole = MOST - closing;
-        need[i] = shape % 3 == 0 ? (uint16_t)(whole * (i + 1) / n - whole * i / n) : (i == (shape == 1 ? 0 : n - 1) ? MOST : 0);
+        size_t whole = shape == 4 ? BIG : MOST - closing;
+        int in_one = shape == 1 || shape == 2;
+        need[i] = in_one ? (i == (shape == 1 ? 0 : n - 1) ? MOST : 0) : (uint16_t)(whole * (i + 1) / n - whole * i / n);
         lowest[i] = need[i] / 2;
         capacity[i] = most;
         start[i] = starts ? (i % 3 ? 1000000000 : 7) : 0;
@@ -106,7 +109,7 @@ int main(void) {
     static const uint16_t capacities[] = {0, 43, 60, 4096, 65535};
     size_t deepest[CALLS] = {0}, accepted[CALLS] = {0};
     for (size_t s = 0; s < 5; s++)
-        for (int shape = 0; shape < 4; shape++)
+        for (int shape = 0; shape < 5; shape++)
             for (size_t day = 0; day < 20; day++)
                 for (size_t k = 0; k < CALLS; k++)
                     for (int paint = 0x55; paint <= 0xaa; paint += 0x55) {

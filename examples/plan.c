@@ -1,7 +1,8 @@
 /* Plans a day with needs 2 and 3 that begins with a charge of 1 and hands on 1, and prints what is made in each period: by the full path;
  * with a battery that holds 2; on mains, where no start costs anything, by the free path; and by the equal path with a cell that makes 3 at
  * most, which also counts the periods in which it makes 3, and those in which it makes less. Then it says between which costs the
- * least cost lies of such a day that begins with nothing and may need less, draws the needs of a test load, and says what the depot charges for a cost. */
+ * least cost lies of such a day that begins with nothing and may need less, plans a day of a polar site, which needs more than these calls
+ * take, as well as nine trials can, draws the needs of a test load, and says what the depot charges for a cost. */
 #include <stdio.h>
 #include "yakkurem.h"
 
@@ -13,8 +14,8 @@ static int show(uint64_t code, const uint64_t answer[2], const uint16_t made[2])
 
 int main(void) {
     uint16_t need[] = {2, 3}, lowest[] = {1, 1}, capacity[] = {5, 5}, three[] = {3, 3}, store[] = {65535, 65535}, small[] = {2, 2};
-    uint16_t made[2], choices[36];
-    uint32_t start[] = {10, 10}, none[] = {0, 0}, unit[] = {1, 1}, upkeep[] = {1, 1};
+    uint16_t polar[] = {4000, 400}, large[] = {4500, 4500}, made[2], choices[36];
+    uint32_t start[] = {10, 10}, dear[] = {9000, 9000}, none[] = {0, 0}, unit[] = {1, 1}, upkeep[] = {1, 1};
     uint64_t costs[18], answer[4];
     uint16_t opening = 1, closing = 1;
     uint64_t code = yakkurem_full(
@@ -32,6 +33,9 @@ int main(void) {
     code = yakkurem_bounds(lowest, 2, need, 2, capacity, 2, start, 2, unit, 2, upkeep, 2, store, 2, 0, closing, costs, 14, choices, 14, answer);
     if (code == 0) printf("cost %u to %u\n", (unsigned)answer[0], (unsigned)answer[1]);
     refused |= code != 0;
+    code = yakkurem_big(polar, 2, large, 2, dear, 2, unit, 2, upkeep, 2, store, 2, 0, 0, 9, costs, 6, made, 2, answer);
+    refused |= show(code, answer, made);
+    if (code == 0) printf("trials %u, no plan below cost %u\n", (unsigned)answer[2], (unsigned)(answer[0] - answer[3]));
     code = yakkurem_test_load(0, 2, need, 2, capacity, 2, start, 2, unit, 2, upkeep, 2, store, 2);
     if (code == 0) printf("test load of seed 0: need %u %u\n", need[0], need[1]);
     printf("price %u\n", (unsigned)yakkurem_price(20000001));

@@ -14,13 +14,13 @@
  * write (work areas, slots, tables to fill, bytes to write, the out-array: all that is not const) overlaps nothing else that
  * it is passed. What it only reads may overlap. Any contents and any lengths are answered.
  *
- * Limits: n is 1 to 96; need at most 4096, in one period and, with closing, over the day; start at most 1000000000; unit
- * at most 1000000; upkeep at most 500000. Opening and closing have no limit of their own. A store of 65535 stands for none:
- * no plan that holds leaves so much.
+ * Limits: n is 1 to 96; need at most 4096, in one period and, with closing, over the day, but for yakkurem_big, where over the
+ * day it is 60000; start at most 1000000000; unit at most 1000000; upkeep at most 500000. Opening and closing have no limit of
+ * their own. A store of 65535 stands for none: no plan that holds leaves so much.
  *
  * Every call but yakkurem_price returns a code:
  *     0                                   accepted
- *     number + 256 * period               refused: the number is 1 to 18, the period 0 where none is named
+ *     number + 256 * period               refused: the number is 1 to 19, the period 0 where none is named
  *     101 to 104 + 256 * period           a weighed plan breaks a rule: above capacity (101), short (102), charge over at the
  *                                         end (103), above store (104)
  *
@@ -28,7 +28,7 @@
  *      1  n is 0 or above 96
  *      2  a table is not as long as need
  *      3  a value above its limit, in this period
- *      4  need over the day + closing is above 4096
+ *      4  need over the day + closing is above 4096 (yakkurem_big: above 60000)
  *      5  a work area is too short
  *      6  too few slots, table cells or bytes
  *      7  there is no plan: this is the first period for which no amounts up to it keep the rules through it, the one on
@@ -42,9 +42,11 @@
  *     13  the asked-for period is 0 or above n
  *     14  opening is above need over the day + closing: charge would be over at the end, whatever is made
  *     15  a start cost above 0, in this period (yakkurem_free)
- *     16  a store below need over the day + closing, in this period (yakkurem_uncapped, yakkurem_equal, yakkurem_free)
+ *     16  a store below need over the day + closing, in this period (yakkurem_uncapped, yakkurem_equal, yakkurem_free,
+ *         yakkurem_big)
  *     17  opening is above 0 (yakkurem_bounds)
  *     18  a lowest need above its highest, in this period (yakkurem_bounds)
+ *     19  no trial is allowed (yakkurem_big)
  *
  * On any code but 0 nothing that was lent changes, and the out-array (the last parameter) is not written.
  * The calls keep no state and use no heap, no file and no clock. Of the C library they use memset and memcpy alone.
@@ -106,6 +108,18 @@ uint64_t yakkurem_free(YAKKUREM_DAY, uint64_t *cost_area, size_t cost_cells, uin
 uint64_t yakkurem_bounds(
     const uint16_t *lowest, size_t lowests, YAKKUREM_DAY, uint64_t *cost_area, size_t cost_cells, uint16_t *choice_area,
     size_t choice_cells, uint64_t answer[2]);
+
+/* The best plan that so many trials find, for a big day: with closing it may need 60000. Trial 1 plans with all starts taken as
+ * free. Each further trial forbids one more period, in which then nothing is made, from n down to 1 and round again; it stays
+ * forbidden exactly if there is a plan and it costs less than the best so far, starts included. A period that is forbidden
+ * already is passed over. The call stops after a round from n down to 1 that forbids none, or when the allowed trials are used
+ * up; SIZE_MAX allows as many as the day can use. Accepted, the first n slots hold the best plan, and answer holds its cost, its
+ * starts, the trials used (the first counts, and so does one that finds no plan) and the gap: its cost less the least cost of
+ * the day with all starts free. No plan is cheaper than its cost less the gap, and more trials never give a dearer one. The
+ * needed cells of the cost area, 3 * n, hold 0; later cells and slots keep their contents. An area of 288 serves any day; there
+ * is no choice area. Refusals in order: 1, 2, 3, 4, 14, 5, 6, 7, 16, 19. */
+uint64_t yakkurem_big(
+    YAKKUREM_DAY, size_t trials, uint64_t *cost_area, size_t cost_cells, uint16_t *slots, size_t slot_count, uint64_t answer[4]);
 
 /* Weighs somebody's plan. Accepted, it holds, and answer holds its cost and its starts. Else the first period that breaks
  * a rule and which: in one period "above capacity" before "short", that before "above store", that before "charge over". In

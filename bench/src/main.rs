@@ -7,7 +7,7 @@ mod plain;
 
 use plain::{Day, Path};
 use std::hint::black_box;
-use yakkurem::{Memory, TablesMut};
+use yakkurem::{BigTotals, Memory, TablesMut};
 
 const ROUNDS: usize = 9;
 
@@ -139,6 +139,10 @@ impl Spread {
         format!("{} ({} to {})", short(self.0), short(self.1), short(self.2))
     }
 
+    fn percent(&self) -> String {
+        format!("{:.2} % ({:.2} to {:.2})", self.0, self.1, self.2)
+    }
+
     fn time(&self) -> String {
         let in_units = |seconds: f64| if seconds < 1e-3 { format!("{:.1} µs", seconds * 1e6) } else { format!("{:.2} ms", seconds * 1e3) };
         format!("{} ({} to {})", in_units(self.0), in_units(self.1), in_units(self.2))
@@ -258,6 +262,126 @@ fn with_ranges(seed: u32) {
     }
 }
 
+/// What the call on big days lends.
+fn big_areas(day: &Day) -> Areas {
+    Areas { costs: vec![0; plain::big_cells(day)], choices: vec![], slots: vec![0; day.periods()] }
+}
+
+fn big(trials: usize, day: &Day, areas: &mut Areas) -> BigTotals {
+    let Day { demand, capacity, setup, unit, holding, store, .. } = day;
+    let day = yakkurem::Day { demand, capacity, setup, unit, holding, store, opening: 0, closing: 0 };
+    yakkurem::big(day, trials, &mut areas.costs, &mut areas.slots).expect("a day that the call accepts")
+}
+
+/// A day times what brings its need to 60,000: needs rounded down as sums from the first period on, capacities and start costs rounded up, so
+/// that a day with a plan keeps one.
+fn enlarged(day: &Day) -> Day {
+    let (most, total) = (plain::MAX_BIG_TOTAL, day.total());
+    let by = |i: usize| day.demand_to(i) * most / total;
+    let up = |value: u64| (value * most).div_ceil(total);
+    Day {
+        demand: (0..day.periods()).map(|i| (by(i + 1) - by(i)) as u16).collect(),
+        capacity: day.capacity.iter().map(|&c| up(c as u64).min(65_535) as u16).collect(),
+        setup: day.setup.iter().map(|&b| up(b as u64) as u32).collect(),
+        ..day.clone()
+    }
+}
+
+/// The same day with the needs of every three periods in the last of them.
+fn gathered(day: &Day) -> Day {
+    let need = |i: usize| if i % 3 == 2 { day.demand[i - 2..=i].iter().sum() } else { 0 };
+    Day { demand: (0..day.periods()).map(need).collect(), ..day.clone() }
+}
+
+const TRIALS: [usize; 4] = [1, 96, 1000, usize::MAX];
+
+/// Capacities for these trials.
+const BIG_CAPACITIES: [Capacity; 3] = [Capacity::Drawn, Capacity::One(60), Capacity::One(65_535)];
+
+fn allowed(trials: usize) -> String {
+    if trials == usize::MAX {
+        "any".to_string()
+    } else {
+        trials.to_string()
+    }
+}
+
+/// The call on days of 60,000 watt-hours.
+fn with_big_days(seed: u32) {
+    let load = drawn(seed, 96);
+    let [each, third] = [load.clone(), gathered(&load)].map(|day| enlarged(&day).demand.into_iter().max().unwrap());
+    println!("\n## Big days\n");
+    println!(
+        "n is 96 and R 60,000: needs, capacities and start costs times 60,000 ÷ {}, rounded. Needs are in every period, up to {each}, or those \
+         of three periods in the third, up to {third}. The gap is in per cent of the plan's cost.\n",
+        load.total()
+    );
+    println!("| Needs in | Capacity | Trials allowed | Used | Starts | Gap | Library | To the plain program |");
+    println!("|---|---|---|---|---|---|---|---|");
+    for (needs, load) in [("every period", load.clone()), ("every third", gathered(&load))] {
+        for (capacity, trials) in BIG_CAPACITIES.into_iter().flat_map(|capacity| TRIALS.map(|trials| (capacity, trials))) {
+            let (planned, times, ratios) = compare_big(trials, &enlarged(&capacity.set_in(load.clone())));
+            println!(
+                "| {needs} | {capacity} | {} | {} | {} | {:.2} % | {} | {} |",
+                allowed(trials),
+                planned.trials,
+                planned.totals.setups,
+                100.0 * planned.gap as f64 / planned.totals.cost as f64,
+                times.time(),
+                ratios.ratio()
+            );
+        }
+    }
+}
+
+/// What the call answers, its time, and the ratio to the plain program, round by round.
+fn compare_big(trials: usize, day: &Day) -> (BigTotals, Spread, Spread) {
+    let (mut ours, mut theirs) = (big_areas(day), big_areas(day));
+    let planned = big(trials, day, &mut ours);
+    let Areas { costs, slots, .. } = &mut theirs;
+    let by_plain = methods::big(day, trials, costs, slots);
+    assert_eq!((planned.totals.cost, planned.trials), (by_plain.0, by_plain.1 as u64), "the plain program gives another answer");
+    assert_eq!(&ours.slots, slots, "the plain program gives another plan");
+    let (mut times, mut ratios) = (vec![], vec![]);
+    for _ in 0..ROUNDS {
+        let library = time(|| big(trials, black_box(day), &mut ours).totals.cost);
+        let same = time(|| methods::big(black_box(day), trials, costs, slots).0);
+        times.push(library);
+        ratios.push(library / same);
+    }
+    (planned, spread(times), spread(ratios))
+}
+
+const LOADS: usize = 25;
+
+/// How much dearer the trials' plans are than the cheapest, on days that the full path plans too.
+fn beside_the_cheapest() {
+    println!("\n## The trials' plans beside the cheapest\n");
+    println!(
+        "The first {LOADS} loads of 96 periods that have a plan, as drawn or with one capacity. By how much the plan costs more than the \
+         cheapest, which the full path gives, and the gap, which the call gives; both in per cent of the cheapest's cost.\n"
+    );
+    println!("| Capacity | Trials allowed | Used | More than the cheapest | Gap |");
+    println!("|---|---|---|---|---|");
+    let with_plan = (0..).filter(|&seed| plain::shortage(&drawn(seed, 96)).is_none());
+    let loads: Vec<Day> = with_plan.take(LOADS).map(|seed| drawn(seed, 96)).collect();
+    for (capacity, trials) in BIG_CAPACITIES.into_iter().flat_map(|capacity| TRIALS.map(|trials| (capacity, trials))) {
+        let (mut used, mut more, mut gap) = (vec![], vec![], vec![]);
+        for load in &loads {
+            let day = capacity.set_in(load.clone());
+            let least = library(Path::Full, &day, &mut Areas::of(Path::Full, &day));
+            let planned = big(trials, &day, &mut big_areas(&day));
+            let part = |cost: u64| 100.0 * cost as f64 / least as f64;
+            used.push(planned.trials as f64);
+            more.push(part(planned.totals.cost - least));
+            gap.push(part(planned.gap));
+        }
+        let Spread(used, fewest, most) = spread(used);
+        let [more, gap] = [more, gap].map(|parts| spread(parts).percent());
+        println!("| {capacity} | {} | {used} ({fewest} to {most}) | {more} | {gap} |", allowed(trials));
+    }
+}
+
 /// The paths on longer and longer days.
 fn with_n(seed: u32) {
     println!("\n## Growth with n\n");
@@ -330,6 +454,8 @@ fn main() {
     without_starts(seed);
     with_store(seed);
     with_ranges(seed);
+    with_big_days(seed);
+    beside_the_cheapest();
     with_n(seed);
     with_need(seed);
 }

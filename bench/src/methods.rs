@@ -1,4 +1,4 @@
-//! Plain programs of the four paths' methods, on the same lent memory, for comparison of speed.
+//! Plain programs of the methods of the four paths and of the call on big days, on the same lent memory, for comparison of speed.
 //! They are for days without charge at the ends, all but the full path's for days without store limits; they test nothing and leave
 //! their areas as they are.
 use crate::plain::Day;
@@ -100,21 +100,26 @@ pub fn uncapped(day: &Day, costs: &mut [u64], choices: &mut [u16], slots: &mut [
     costs[n]
 }
 
-/// The greedy rule of the report's section 4, in batches: from the cheapest period with capacity left as much as it has, or as is needed.
-/// Upkeep to the end of the day, in place of that spared since its beginning, keeps the order of periods and never lies below zero.
-pub fn free(day: &Day, costs: &mut [u64], slots: &mut [u16]) -> u64 {
-    let n = day.periods();
+/// What periods compare by in the greedy rule of the report's section 4: unit cost and upkeep to the end of the day, which in place of that
+/// spared since its beginning keeps their order and never lies below zero.
+fn keys(day: &Day, keys: &mut [u64]) {
     let mut held = 0;
-    for k in (0..n).rev() {
+    for k in (0..day.periods()).rev() {
         held += rate(day, k);
-        costs[k] = day.unit[k] as u64 + held;
+        keys[k] = day.unit[k] as u64 + held;
     }
+}
+
+/// That rule, in batches: from the cheapest allowed period with capacity left as much as it has, or as is needed. What the plan costs, if there
+/// is one.
+fn greedy(day: &Day, keys: &[u64], allowed: impl Fn(usize) -> bool, slots: &mut [u16]) -> Option<u64> {
+    let n = day.periods();
     slots[..n].fill(0);
     for due in 0..n {
         let mut needed = day.demand[due];
         while needed > 0 {
-            let with_room = (0..=due).filter(|&k| slots[k] < day.capacity[k]);
-            let k = with_room.min_by_key(|&k| costs[k]).expect("a day with a plan");
+            let with_room = (0..=due).filter(|&k| slots[k] < day.capacity[k] && allowed(k));
+            let k = with_room.min_by_key(|&k| keys[k])?;
             let amount = needed.min(day.capacity[k] - slots[k]);
             slots[k] += amount;
             needed -= amount;
@@ -125,7 +130,49 @@ pub fn free(day: &Day, costs: &mut [u64], slots: &mut [u16]) -> u64 {
         left = left + slots[k] as u64 - day.demand[k] as u64;
         cost += production(day, k, slots[k] as u64) + rate(day, k) * left;
     }
-    cost
+    Some(cost)
+}
+
+pub fn free(day: &Day, costs: &mut [u64], slots: &mut [u16]) -> u64 {
+    keys(day, costs);
+    greedy(day, costs, |_| true, slots).expect("a day with a plan")
+}
+
+/// Trials by the greedy rule, each of which marks one period more; keys, marks and the best plan so far are in the cost cells. The cost, and the
+/// trials used.
+pub fn big(day: &Day, trials: usize, costs: &mut [u64], slots: &mut [u16]) -> (u64, usize) {
+    let n = day.periods();
+    let (keyed, rest) = costs.split_at_mut(n);
+    let (marks, best) = rest.split_at_mut(n);
+    keys(day, keyed);
+    marks.fill(0);
+    let mut cost = greedy(day, keyed, |_| true, slots).expect("a day with a plan");
+    let keep = |best: &mut [u64], slots: &[u16]| (0..n).for_each(|k| best[k] = slots[k] as u64);
+    keep(best, slots);
+    let mut used = 1;
+    loop {
+        let mut marked = false;
+        for k in (0..n).rev() {
+            if marks[k] > 0 || used == trials {
+                continue;
+            }
+            used += 1;
+            marks[k] = 1;
+            match greedy(day, keyed, |i| marks[i] == 0, slots) {
+                Some(price) if price < cost => {
+                    cost = price;
+                    keep(best, slots);
+                    marked = true;
+                }
+                _ => marks[k] = 0,
+            }
+        }
+        if !marked || used == trials {
+            break;
+        }
+    }
+    (0..n).for_each(|k| slots[k] = best[k] as u16);
+    (cost, used)
 }
 
 const NONE: u64 = u64::MAX / 4;

@@ -2,7 +2,7 @@
 use crate::input::{Call, Input};
 use crate::plain::{self, Loads, Path, Rule, Verdict};
 use crate::random::mix;
-use yakkurem::{codes, fault, Bounds, Day, EqualTotals, Fault, Filled, Memory, Refusal, TablesMut, Totals};
+use yakkurem::{codes, fault, BigTotals, Bounds, Day, EqualTotals, Fault, Filled, Memory, Refusal, TablesMut, Totals};
 
 /// Everything that a caller can see after a call: its code, its out-array, and each lent part, with the cells around them.
 #[derive(Clone, Debug, PartialEq)]
@@ -84,7 +84,7 @@ fn before(input: &Input) -> Vec<Vec<u64>> {
         Call::Full | Call::Uncapped | Call::Equal => {
             vec![wide::<u64>(&pattern(0, l[0])), wide::<u16>(&pattern(1, l[1])), wide::<u16>(&pattern(2, l[2]))]
         }
-        Call::Free | Call::Bounds => vec![wide::<u64>(&pattern(0, l[0])), wide::<u16>(&pattern(1, l[1]))],
+        Call::Free | Call::Bounds | Call::Big => vec![wide::<u64>(&pattern(0, l[0])), wide::<u16>(&pattern(1, l[1]))],
         Call::Read => tables_before(l),
         Call::Write => vec![wide::<u8>(&pattern(0, l[0]))],
         Call::Weigh | Call::Compare | Call::Lookup => vec![],
@@ -154,6 +154,20 @@ fn accepted_bounds(input: &Input, seen: &mut Seen) {
     fill(&mut seen.out, &days.map(|day| plain::least_cost(day).expect(NO_PLAN)));
 }
 
+/// What the trials lead to. Where it does not take long, the rule watt-hour by watt-hour is to lead there too, and the search or recursion
+/// (5) to have the least cost with all starts free.
+fn accepted_big(input: &Input, seen: &mut Seen) {
+    let Input { day, trials, .. } = input;
+    let best = plain::best_so_far(day, *trials, plain::in_batches).expect(NO_PLAN);
+    if day.whole() <= Some(30) {
+        assert_eq!(plain::best_so_far(day, *trials, plain::unit_by_unit).as_ref(), Some(&best), "{day:?}");
+        assert_eq!(plain::least_cost(&day.starts_free()), Some(best.planned.totals.cost - best.gap), "{day:?}");
+    }
+    fill(&mut seen.lent[0], &vec![0u64; plain::big_cells(day)]);
+    fill(&mut seen.lent[1], &best.planned.plan);
+    fill(&mut seen.out, &[best.planned.totals.cost, best.planned.totals.setups, best.trials as u64, best.gap]);
+}
+
 fn accepted_comparison(input: &Input, seen: &mut Seen) {
     match (plain::verdict(&input.day, &input.plans[0]), plain::verdict(&input.day, &input.plans[1])) {
         (Verdict::Holds(first), Verdict::Holds(second)) => fill(&mut seen.out, &[first.cost as i64 - second.cost as i64]),
@@ -165,7 +179,7 @@ fn accepted_comparison(input: &Input, seen: &mut Seen) {
 pub fn expected(input: &Input) -> Seen {
     let unwritten = match input.call {
         Call::Full | Call::Uncapped | Call::Free | Call::Bounds | Call::Weigh | Call::Lookup => wide::<u64>(&out(2)),
-        Call::Equal => wide::<u64>(&out(4)),
+        Call::Equal | Call::Big => wide::<u64>(&out(4)),
         Call::Compare => wide::<i64>(&out(1)),
         Call::Read => wide::<u64>(&out(3)),
         Call::Write => wide::<u64>(&out(1)),
@@ -181,6 +195,7 @@ pub fn expected(input: &Input) -> Seen {
         Call::Equal => accepted_path(Path::Equal, input, &mut seen),
         Call::Free => accepted_free(input, &mut seen),
         Call::Bounds => accepted_bounds(input, &mut seen),
+        Call::Big => accepted_big(input, &mut seen),
         Call::Weigh => match plain::verdict(&input.day, &input.plans[0]) {
             Verdict::Holds(totals) => fill(&mut seen.out, &[totals.cost, totals.setups]),
             Verdict::Broken(rule, period) => seen.code = broken(rule, period),
@@ -219,11 +234,11 @@ fn run_path<const N: usize>(call: PathCall<N>, input: &Input) -> Seen {
     Seen { code, out: wide(&answer), lent: vec![wide(&costs), wide(&choices), wide(&slots)] }
 }
 
-/// A call that is lent 64-bit cells and then 16-bit ones, and answers with two numbers.
-fn run_two(input: &Input, call: impl FnOnce(&mut [u64], &mut [u16], &mut [u64; 2]) -> u64) -> Seen {
+/// A call that is lent 64-bit cells and then 16-bit ones, and answers with N numbers.
+fn run_two<const N: usize>(input: &Input, call: impl FnOnce(&mut [u64], &mut [u16], &mut [u64; N]) -> u64) -> Seen {
     let mut wider: Vec<u64> = pattern(0, input.lent[0]);
     let mut narrower: Vec<u16> = pattern(1, input.lent[1]);
-    let mut answer = out(2);
+    let mut answer = out(N);
     let code = call(lent(&mut wider), lent(&mut narrower), array(&mut answer));
     Seen { code, out: wide(&answer), lent: vec![wide(&wider), wide(&narrower)] }
 }
@@ -262,6 +277,7 @@ pub fn actual(given: &Input) -> Seen {
         Call::Equal => run_path(codes::equal, input),
         Call::Free => run_two(input, |costs, slots, answer| codes::free(day(input), costs, slots, answer)),
         Call::Bounds => run_two(input, |costs, choices, answer| codes::bounds(&input.lowest, day(input), costs, choices, answer)),
+        Call::Big => run_two(input, |costs, slots, answer| codes::big(day(input), input.trials, costs, slots, answer)),
         Call::Weigh => {
             let mut answer = out(2);
             let code = codes::weigh(day(input), &input.plans[0], array(&mut answer));
@@ -314,6 +330,24 @@ pub fn loads_counted(input: &Input, seen: &Seen) -> bool {
     by_run && seen.values()[2..] == [full, part]
 }
 
+/// What the call on big days promises of the plan in its slots: it holds, at the cost and with the starts of the answer; a trial less does
+/// not give a cheaper one; and, where all plans can be tried, none is cheaper than its cost less the gap, which is the least with all starts
+/// free.
+pub fn big_promises_kept(input: &Input, seen: &Seen) -> bool {
+    if input.call != Call::Big || seen.code != 0 {
+        return true;
+    }
+    let &[cost, setups, trials, gap] = seen.values() else { panic!("four numbers") };
+    let plan = seen.plan(input.day.periods());
+    let holds = plain::verdict(&input.day, &plan) == Verdict::Holds(plain::Totals { cost, setups });
+    let counted = 0 < trials && trials <= input.trials as u64 && gap <= cost;
+    let less = Input { trials: trials.saturating_sub(1) as usize, ..input.clone() };
+    let no_dearer = less.trials == 0 || actual(&less).values()[0] >= cost;
+    let least = |day: &plain::Day| plain::search(day).map(|planned| planned.totals.cost);
+    let bounded = || least(&input.day) >= Some(cost - gap) && least(&input.day.starts_free()) == Some(cost - gap);
+    holds && counted && no_dearer && (!plain::can_be_searched(&input.day) || bounded())
+}
+
 /// What the crate says of an input by a path with two work areas.
 fn path_result<T>(path: fn(Day, Memory) -> Result<T, Refusal>, input: &Input) -> Result<T, Refusal> {
     let (mut costs, mut choices, mut slots) = (vec![7; input.lent[0]], vec![7; input.lent[1]], vec![7; input.lent[2]]);
@@ -341,6 +375,11 @@ pub fn results_agree(input: &Input, seen: &Seen) -> bool {
             let (mut costs, mut choices) = (vec![7; input.lent[0]], vec![7; input.lent[1]]);
             let bounds = || if accepted { Ok(Bounds { lowest: values[0], highest: values[1] }) } else { Err(refusal) };
             yakkurem::bounds(&input.lowest, day(input), &mut costs, &mut choices) == bounds()
+        }
+        Call::Big => {
+            let (mut costs, mut slots) = (vec![7; input.lent[0]], vec![7; input.lent[1]]);
+            let big = planned().map(|totals| BigTotals { totals, trials: values[2], gap: values[3] });
+            yakkurem::big(day(input), input.trials, &mut costs, &mut slots) == big
         }
         Call::Weigh => match yakkurem::weigh(day(input), &input.plans[0]) {
             Ok(totals) => accepted && values == [totals.cost, totals.setups],

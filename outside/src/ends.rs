@@ -70,7 +70,7 @@ pub fn files() -> Vec<Vec<u8>> {
 
 /// Both calls on a file: with tables of four cells, which serve, and for every period that may be in it.
 pub fn on_file(file: &[u8]) -> Vec<Input> {
-    let of = |call, period, lent| Input { call, day: Day::default(), lowest: vec![], plans: vec![], file: file.to_vec(), period, lent };
+    let of = |call, period, lent| Input::on_file(call, file.to_vec(), period, lent);
     let last = plain::walk(file).map_or(0, |records| records.periods() + 1);
     let mut inputs = vec![of(Call::Read, 0, vec![4; 6])];
     inputs.extend((0..=last).map(|period| of(Call::Lookup, period, vec![])));

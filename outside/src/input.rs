@@ -15,9 +15,11 @@ pub enum Call {
     Write,
     Free,
     Bounds,
+    Big,
 }
 
-/// The calls of before request 2.9. Inputs of `Bounds` are drawn after all of theirs, so that these stay what they were.
+/// The calls of before request 2.9. Inputs of `Bounds` are drawn after all of theirs and those of `Big` last, so that what was drawn before
+/// a request stays what it was.
 pub const CALLS: [Call; 9] =
     [Call::Full, Call::Uncapped, Call::Equal, Call::Weigh, Call::Compare, Call::Read, Call::Lookup, Call::Write, Call::Free];
 
@@ -31,7 +33,8 @@ impl Call {
             Call::Full | Call::Bounds => Some(Path::Full),
             Call::Uncapped => Some(Path::Uncapped),
             Call::Equal => Some(Path::Equal),
-            Call::Free => Some(Path::Free),
+            // every trial goes by that path's rule
+            Call::Free | Call::Big => Some(Path::Free),
             _ => None,
         }
     }
@@ -44,6 +47,7 @@ impl Call {
             Call::Equal => &[1, 2, 3, 4, 14, 5, 6, 7, 8, 16],
             Call::Free => &[1, 2, 3, 4, 14, 5, 6, 7, 15, 16],
             Call::Bounds => &[1, 2, 3, 4, 14, 5, 17, 18, 7],
+            Call::Big => &[1, 2, 3, 4, 14, 5, 6, 7, 16, 19],
             Call::Weigh | Call::Compare => &[1, 2, 3, 4, 14, 6],
             Call::Read => &[10, 11, 12, 1, 6, 3],
             Call::Lookup => &[10, 11, 12, 1, 13],
@@ -65,8 +69,17 @@ impl Call {
     fn areas(self) -> usize {
         match self {
             Call::Full | Call::Uncapped | Call::Equal | Call::Bounds => 2,
-            Call::Free => 1,
+            Call::Free | Call::Big => 1,
             _ => 0,
+        }
+    }
+
+    /// The most that R + Z may be.
+    fn most(self) -> u64 {
+        if self == Call::Big {
+            plain::MAX_BIG_TOTAL
+        } else {
+            plain::MAX_TOTAL
         }
     }
 
@@ -93,8 +106,10 @@ pub struct Input {
     pub file: Vec<u8>,
     /// the asked-for period
     pub period: usize,
-    /// lengths of what is lent: cost area, choice area (not for the free path) and slots (not for needs known as ranges); or the six tables to
-    /// fill; or the bytes to write
+    /// the allowed trials
+    pub trials: usize,
+    /// lengths of what is lent: cost area, choice area (not for the free path and big days) and slots (not for needs known as ranges); or the
+    /// six tables to fill; or the bytes to write
     pub lent: Vec<usize>,
 }
 
@@ -125,11 +140,13 @@ pub enum Size {
 }
 
 impl Input {
-    /// A call on a day, with as much lent as is needed; the plans are for the calls that weigh. Needs known as ranges are all the day's own.
+    /// A call on a day, with as much lent as is needed; the plans are for the calls that weigh. Needs known as ranges are all the day's own;
+    /// on a big day any number of trials is allowed.
     pub fn exact(call: Call, day: &Day, plans: [&[u16]; 2]) -> Input {
         let plans = plans.iter().take(call.plans()).map(|plan| plan.to_vec()).collect();
         let lowest = if call == Call::Bounds { day.demand.clone() } else { vec![] };
-        let mut input = Input { call, day: day.clone(), lowest, plans, file: vec![], period: 0, lent: vec![] };
+        let trials = if call == Call::Big { usize::MAX } else { 0 };
+        let mut input = Input { call, day: day.clone(), lowest, plans, file: vec![], period: 0, trials, lent: vec![] };
         if call.reads_file() {
             input.file = plain::file_of(day);
             input.period = day.periods();
@@ -137,6 +154,11 @@ impl Input {
         }
         input.lent = input.needed();
         input
+    }
+
+    /// A call on a file.
+    pub fn on_file(call: Call, file: Vec<u8>, period: usize, lent: Vec<usize>) -> Input {
+        Input { call, day: Day::default(), lowest: vec![], plans: vec![], file, period, trials: 0, lent }
     }
 
     /// The refusals whose conditions hold, in order; the first is the answer.
@@ -147,6 +169,7 @@ impl Input {
             }
             Call::Free => plain::path_refusals(Path::Free, &self.day, self.lent[0], 0, self.lent[1]),
             Call::Bounds => plain::bounds_refusals(&self.lowest, &self.day, self.lent[0], self.lent[1]),
+            Call::Big => plain::big_refusals(&self.day, self.trials, self.lent[0], self.lent[1]),
             Call::Weigh | Call::Compare => {
                 plain::weigh_refusals(&self.day, &self.plans.iter().map(|plan| plan.as_slice()).collect::<Vec<_>>())
             }
@@ -168,6 +191,7 @@ impl Input {
                 let (costs, choices) = plain::cells(Path::Full, &self.day);
                 vec![costs, choices]
             }
+            Call::Big => vec![plain::big_cells(&self.day), self.day.periods()],
             Call::Read => vec![plain::walk(&self.file).map_or(self.file.len() / 17, |records| records.periods()); 6],
             Call::Write => vec![plain::file_length(&self.day)],
             Call::Weigh | Call::Compare | Call::Lookup => vec![],
@@ -311,11 +335,11 @@ fn least_left(day: &Day, i: usize) -> u64 {
 }
 
 /// Store limits: around the least charge that a plan can leave, so that they bind; around R + Z, below which the short paths refuse; here
-/// and there none. A day with a plan mostly keeps one, and a path for some days only mostly gets limits that it accepts.
+/// and there none. A day with a plan mostly keeps one, and a call that refuses low limits (16) mostly gets limits that it accepts.
 fn give_stores(random: &mut Random, call: Call, day: &mut Day) {
     let n = day.periods();
     let asked = day.asked();
-    if call.is_short_path() && !random.once_in(4) {
+    if call.refusals(With::STORES).contains(&16) && !random.once_in(4) {
         day.store.fill_with(|| (asked + random.pick(&[0, 0, 1, 65_535])).min(65_535) as u16);
         return;
     }
@@ -403,7 +427,7 @@ pub fn day(random: &mut Random, call: Call, size: Size, with: With) -> Day {
 fn weighed(random: &mut Random, day: &Day) -> Vec<u16> {
     let n = day.periods();
     let mut plan = match plain::shortage(day) {
-        None if plain::plans(day) <= 2000.0 && !random.once_in(3) => plain::search(day).unwrap().plan,
+        None if plain::can_be_searched(day) && !random.once_in(3) => plain::search(day).unwrap().plan,
         None => latest(day),
         Some(_) => narrow16(table(random, n, 5)),
     };
@@ -431,6 +455,16 @@ fn lowest(random: &mut Random, highest: &[u16]) -> Vec<u16> {
         _ => random.between(0, high as u64) as u16,
     };
     highest.iter().map(|&high| low(high)).collect()
+}
+
+/// Trials to allow: few; around as many as a day has periods; more than it can use.
+fn trials(random: &mut Random, n: usize) -> usize {
+    match random.between(0, 3) {
+        0 => random.between(1, 4) as usize,
+        1 => random.between(1, 30) as usize,
+        2 => random.between(n.max(1) as u64, 3 * n as u64 + 2) as usize,
+        _ => random.pick(&[1000, u32::MAX as usize, usize::MAX]),
+    }
 }
 
 /// A length that serves, mostly exactly.
@@ -461,7 +495,8 @@ fn lend(random: &mut Random, needed: Vec<usize>, with: With) -> Vec<usize> {
 pub fn complete(random: &mut Random, call: Call, day: Day, with: With) -> Input {
     let plans = (0..call.plans()).map(|_| weighed(random, &day)).collect();
     let lowest = if call == Call::Bounds { lowest(random, &day.demand) } else { vec![] };
-    let mut input = Input { call, day, lowest, plans, file: vec![], period: 0, lent: vec![] };
+    let trials = if call == Call::Big { trials(random, day.periods()) } else { 0 };
+    let mut input = Input { call, day, lowest, plans, file: vec![], period: 0, trials, lent: vec![] };
     if call.reads_file() {
         input.file = plain::file_of(&input.day);
         input.period = random.between(1, input.day.periods() as u64) as usize;
@@ -533,6 +568,19 @@ fn raise_value(random: &mut Random, day: &mut Day) {
     }
 }
 
+/// Raises needs, in more periods where there are too few, until the day asks for a unit or two more than so much.
+fn raise_total(random: &mut Random, day: &mut Day, most: u64) {
+    for _ in day.periods() as u64..=most / plain::MAX_DEMAND {
+        push_period(random, day);
+    }
+    let mut missing = (most + random.pick(&[1, 1, 2])).saturating_sub(day.asked());
+    for need in &mut day.demand {
+        let more = missing.min(plain::MAX_DEMAND - *need as u64);
+        *need += more as u16;
+        missing -= more;
+    }
+}
+
 /// Lowers a store limit below what must be left there, which may be what later periods need and now can't make.
 fn lower_store(random: &mut Random, day: &mut Day) {
     let n = day.periods();
@@ -544,8 +592,8 @@ fn lower_store(random: &mut Random, day: &mut Day) {
     day.store[i] = least_left(day, i).saturating_sub(random.pick(&[1, 1, 2])) as u16;
 }
 
-/// Changes a day so that the numbered condition may hold; one that does not suit the day leaves it.
-fn damage_day(random: &mut Random, day: &mut Day, with: With, number: u64) {
+/// Changes a day so that the numbered condition may hold, where R + Z may be `most`; one that does not suit the day leaves it.
+fn damage_day(random: &mut Random, day: &mut Day, with: With, most: u64, number: u64) {
     let n = day.periods();
     match number {
         1 if random.once_in(2) => {
@@ -562,9 +610,10 @@ fn damage_day(random: &mut Random, day: &mut Day, with: With, number: u64) {
         2 => change_length(random, day, with),
         3 => raise_value(random, day),
         4 if with.ends && random.once_in(2) => {
-            let least = (plain::MAX_TOTAL + 1).saturating_sub(day.total());
+            let least = (most + 1).saturating_sub(day.total());
             day.closing = random.pick(&[least, least, least + 1, 65_535]) as u16;
         }
+        4 if most > plain::MAX_TOTAL => raise_total(random, day, most),
         4 if n >= 2 => {
             let (i, j) = (random.index(n), random.index(n));
             day.demand[i] = 4096;
@@ -719,10 +768,10 @@ pub fn damage(random: &mut Random, call: Call, mut day: Day, with: With, numbers
     // in an order in which what comes later mostly keeps what came before
     for number in [15, 17, 7, 8, 9, 4, 16, 3, 1, 2, 14] {
         if numbers.contains(&number) && !of_lowest.contains(&number) {
-            damage_day(random, &mut day, with, number);
+            damage_day(random, &mut day, with, call.most(), number);
         }
     }
-    let mut input = Input { call, day, lowest: vec![], plans: vec![], file: vec![], period: 0, lent: vec![] };
+    let mut input = Input { call, day, lowest: vec![], plans: vec![], file: vec![], period: 0, trials: 0, lent: vec![] };
     if call == Call::Bounds {
         input.lowest = lowest(random, &input.day.demand);
         for &number in of_lowest.iter().filter(|number| numbers.contains(number)) {
@@ -730,6 +779,9 @@ pub fn damage(random: &mut Random, call: Call, mut day: Day, with: With, numbers
         }
     }
     let n = input.day.periods();
+    if call == Call::Big && !numbers.contains(&19) {
+        input.trials = trials(random, n);
+    }
     let plans = call.plans();
     input.plans = (0..plans).map(|_| vec![random.between(0, 3) as u16; enough(random, n)]).collect();
     if call.reads_file() {
@@ -797,6 +849,7 @@ pub fn changed(random: &mut Random, call: Call, size: Size, with: With) -> Input
                 7 => input.day.closing = random.pick(&[0, 1, 4095, 4096, 4097, 65_535]),
                 8 => input.day.store[i] = random.pick(&[0, 0, 1, 4095, 4096, 65_534, 65_535]),
                 _ if call == Call::Bounds => input.lowest[i] = random.pick(&[0, 1, 4096, 4097, 65_535]),
+                _ if call == Call::Big => input.trials = random.pick(&[0, 1, 2, n, usize::MAX]),
                 _ if input.plans.is_empty() => {}
                 _ => {
                     let which = random.index(input.plans.len());

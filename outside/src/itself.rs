@@ -1,6 +1,6 @@
 //! The plain implementation against itself and the papers, before anything is compared with it.
 use crate::input::{self, Call, Input, Size, With, CALLS};
-use crate::plain::{self, Day, Loads, Planned, Refusal, Totals, Verdict};
+use crate::plain::{self, BestSoFar, Day, Loads, Planned, Refusal, Totals, Verdict};
 use crate::random::Random;
 
 /// A day and its plan with cost and setups, or the number and period of the refusal. One value of b, p or h stands for all periods.
@@ -166,6 +166,70 @@ fn check_loads() {
         assert_eq!(run_ends, row.run_ends, "{day:?}");
         let (full, part) = row.loads;
         assert_eq!(plain::loads(&day, row.plan), Loads { full, part }, "{day:?}");
+    }
+}
+
+/// A big day, the allowed trials, and what they come to: the plan with its cost and setups, the trials used, the gap. One value of b, p or h
+/// stands for all periods.
+struct Tried {
+    demand: &'static [u16],
+    capacity: &'static [u16],
+    setup: &'static [u32],
+    unit: &'static [u32],
+    holding: &'static [u32],
+    /// A and Z
+    ends: (u16, u16),
+    trials: usize,
+    claim: (&'static [u16], u64, u64, usize, u64),
+}
+
+#[rustfmt::skip]
+const TRIED: &[Tried] = &[
+    // the fourth marked day: forbidding the second period pays; then the first leaves no plan, in this round and in the next
+    Tried { demand: &[2, 3], capacity: &[5, 5], setup: &[10], unit: &[1], holding: &[1], ends: (0, 0), trials: 1, claim: (&[2, 3], 25, 2, 1, 20) },
+    Tried { demand: &[2, 3], capacity: &[5, 5], setup: &[10], unit: &[1], holding: &[1], ends: (0, 0), trials: 2, claim: (&[5, 0], 21, 1, 2, 16) },
+    Tried { demand: &[2, 3], capacity: &[5, 5], setup: &[10], unit: &[1], holding: &[1], ends: (0, 0), trials: 3, claim: (&[5, 0], 21, 1, 3, 16) },
+    Tried { demand: &[2, 3], capacity: &[5, 5], setup: &[10], unit: &[1], holding: &[1], ends: (0, 0), trials: 9, claim: (&[5, 0], 21, 1, 4, 16) },
+    Tried { demand: &[2, 3], capacity: &[5, 5], setup: &[10], unit: &[1], holding: &[1], ends: (1, 1), trials: 9, claim: (&[5, 0], 25, 1, 4, 18) },
+    // at equal cost a period stays allowed
+    Tried { demand: &[2, 2], capacity: &[4, 4], setup: &[8], unit: &[1], holding: &[2], ends: (0, 0), trials: 9, claim: (&[2, 2], 20, 2, 3, 16) },
+    // one period; nothing to make
+    Tried { demand: &[1], capacity: &[1], setup: &[5], unit: &[2], holding: &[9], ends: (0, 0), trials: 9, claim: (&[1], 7, 1, 2, 5) },
+    Tried { demand: &[0, 0], capacity: &[0, 0], setup: &[5], unit: &[1], holding: &[1], ends: (0, 0), trials: 9, claim: (&[0, 0], 0, 0, 3, 0) },
+    // the first round forbids the first period, the second one the second, the third one none; forbidden periods are passed over
+    Tried { demand: &[0, 0, 1], capacity: &[2, 1, 1], setup: &[2, 1, 0], unit: &[0], holding: &[0], ends: (0, 0), trials: 3, claim: (&[1, 0, 0], 2, 1, 3, 2) },
+    Tried { demand: &[0, 0, 1], capacity: &[2, 1, 1], setup: &[2, 1, 0], unit: &[0], holding: &[0], ends: (0, 0), trials: 5, claim: (&[0, 1, 0], 1, 1, 5, 1) },
+    Tried { demand: &[0, 0, 1], capacity: &[2, 1, 1], setup: &[2, 1, 0], unit: &[0], holding: &[0], ends: (0, 0), trials: 9, claim: (&[0, 0, 1], 0, 1, 7, 0) },
+    Tried { demand: &[2, 0, 0, 1], capacity: &[3, 1, 3, 1], setup: &[1, 6, 5, 3], unit: &[0, 0, 1, 1], holding: &[0, 1, 0, 0],
+            ends: (0, 0), trials: 99, claim: (&[3, 0, 0, 0], 3, 1, 11, 2) },
+    // after a success the round goes on downwards: it forbids the third period and the first
+    Tried { demand: &[0, 0, 1], capacity: &[1, 3, 1], setup: &[1, 0, 3], unit: &[0, 1, 0], holding: &[1, 0, 0],
+            ends: (0, 0), trials: 9, claim: (&[0, 1, 0], 1, 1, 5, 1) },
+    // a period that can't make anything has its trials
+    Tried { demand: &[0, 0, 1], capacity: &[0, 2, 1], setup: &[0, 2, 0], unit: &[0, 0, 1], holding: &[0],
+            ends: (0, 0), trials: 9, claim: (&[0, 0, 1], 1, 1, 6, 1) },
+    // not the cheapest plan: 0 0 1 costs nothing, but no period alone leads there
+    Tried { demand: &[0, 0, 1], capacity: &[1, 3, 2], setup: &[2, 2, 0], unit: &[0], holding: &[0], ends: (0, 0), trials: 9, claim: (&[1, 0, 0], 2, 1, 4, 2) },
+];
+
+fn check_trials() {
+    for row in TRIED {
+        let n = row.demand.len();
+        let day = Day {
+            demand: row.demand.to_vec(),
+            capacity: row.capacity.to_vec(),
+            setup: all(row.setup, n),
+            unit: all(row.unit, n),
+            holding: all(row.holding, n),
+            store: vec![plain::NO_LIMIT; n],
+            opening: row.ends.0,
+            closing: row.ends.1,
+        };
+        let (plan, cost, setups, trials, gap) = row.claim;
+        let planned = Planned { plan: plan.to_vec(), totals: Totals { cost, setups } };
+        for rule in [plain::unit_by_unit, plain::in_batches] {
+            assert_eq!(plain::best_so_far(&day, row.trials, rule), Some(BestSoFar { planned: planned.clone(), trials, gap }), "{day:?}");
+        }
     }
 }
 
@@ -336,6 +400,7 @@ pub fn check(random: &mut Random, calls: &[Call], with: With, days: usize) {
     }
     check_files();
     check_loads();
+    check_trials();
     for _ in 0..days {
         let call = random.pick(&paths);
         let mut day = input::day(random, call, Size::Tiny, with);
@@ -351,6 +416,7 @@ pub fn check(random: &mut Random, calls: &[Call], with: With, days: usize) {
 fn check_day(day: &Day) {
     let found = planned(day);
     assert_eq!(found.is_some(), refused(day).is_none(), "{day:?}");
+    assert_eq!(plain::in_batches(day), plain::unit_by_unit(day), "{day:?}");
     if day.capacity.iter().map(|&c| c as f64 + 1.0).product::<f64>() <= 10_000.0 {
         let kept = kept_through(day, &mut vec![]);
         let first = (kept < day.periods()).then_some(Refusal { number: 7, period: kept + 1 });

@@ -1,4 +1,5 @@
 //! What the tests from outside compare with, the papers in plain code, and the inputs that they compare on.
+pub mod big;
 pub mod ends;
 pub mod free;
 pub mod holding;

@@ -10,7 +10,7 @@ mod shrink;
 mod test_load;
 
 use input::{Call, Input, Size, With, CALLS, EARLIER};
-use outside::{ends, free, holding, input, loads, plain, price, random, ranges, store};
+use outside::{big, ends, free, holding, input, loads, plain, price, random, ranges, store};
 use random::Random;
 use std::iter::once;
 use std::process::exit;
@@ -20,7 +20,7 @@ use test_load::TestLoad;
 const SEED: u64 = 1979;
 
 /// The last number of a refusal.
-const LAST: usize = 18;
+const LAST: usize = 19;
 
 /// The inputs of one run, counted by their outcome.
 struct Run {
@@ -39,6 +39,8 @@ struct Run {
     /// tiny days with needs known as ranges, accepted, and all tables of needs between these
     bounded: usize,
     between: usize,
+    /// of the call on big days
+    big_plans: big::Plans,
 }
 
 impl Run {
@@ -54,6 +56,9 @@ impl Run {
                 self.short_paths += usize::from(input.call.is_short_path());
                 if input.call == Call::Equal {
                     self.plan_runs.add(&input.day, &expected.plan(input.day.periods()));
+                }
+                if input.call == Call::Big {
+                    self.big_plans.add(input, expected.values()[0], expected.values()[2]);
                 }
             }
             number if number <= LAST as u64 => self.refused[number as usize] += 1,
@@ -245,6 +250,33 @@ impl Run {
         pairs.len() / 2
     }
 
+    /// Request 2.10; gives how many inputs there were.
+    fn big(&mut self) -> usize {
+        let before = self.inputs;
+        for (with, part) in [(With::NOTHING, 2), (With::ENDS, 2), (With::STORES, 2), (With::BOTH, 1)] {
+            self.made_up(&[Call::Big], with, part);
+        }
+        self.holding(Call::Big, 3);
+        for _ in 0..10_000 {
+            let input = big::with_ties(&mut self.random);
+            self.try_input(&input);
+        }
+        for _ in 0..2000 {
+            let inputs = big::every_count(&mut self.random);
+            self.try_inputs(&inputs);
+        }
+        for _ in 0..200 {
+            let input = big::large(&mut self.random);
+            self.try_input(&input);
+        }
+        let drawn = test_load::inputs(&mut self.random);
+        for inputs in [holding::dearest(), itself::inputs(), ends::limits(&[Call::Full]), drawn] {
+            self.try_inputs(&big::of_full(&inputs));
+        }
+        self.try_inputs(&big::inputs());
+        self.inputs - before
+    }
+
     fn print_counts(&self) {
         let refused = (1..=LAST).map(|number| format!("{number}: {}", self.refused[number])).collect::<Vec<_>>().join(", ");
         println!("accepted {}, refused {refused}", self.accepted);
@@ -259,7 +291,8 @@ impl Run {
 
 fn differs(input: &Input, expected: &compare::Seen) -> bool {
     let seen = compare::actual(input);
-    seen != *expected || !compare::full_agrees(input, expected) || !compare::loads_counted(input, &seen)
+    let kept = compare::loads_counted(input, &seen) && compare::big_promises_kept(input, &seen);
+    seen != *expected || !compare::full_agrees(input, expected) || !kept
 }
 
 fn fails(input: &Input) -> bool {
@@ -303,6 +336,9 @@ fn report(input: &Input) -> ! {
     if expected.code == 0 && !compare::loads_counted(&smallest, &seen) {
         println!("the slots, counted, have other loads than the answer says, or than some run may have");
     }
+    if !compare::big_promises_kept(&smallest, &seen) {
+        println!("the plan breaks a rule or costs otherwise than the answer says, a trial less gives a cheaper one, or some plan is below the bound");
+    }
     exit(1);
 }
 
@@ -331,7 +367,7 @@ fn long_files(call: Call) -> Vec<Input> {
             }
             file.extend([plain::END, 0, 1]);
             let lent = if call == Call::Read { vec![1; 6] } else { vec![] };
-            inputs.push(Input { call, day: plain::Day::default(), lowest: vec![], plans: vec![], file, period: 1, lent });
+            inputs.push(Input::on_file(call, file, 1, lent));
         }
     }
     inputs
@@ -343,9 +379,19 @@ fn main() {
         Some(word) => word.parse().expect("the seed is a number"),
     };
     let start = Instant::now();
-    let (random, refused, broken, plan_runs) = (Random::new(seed), [0; LAST + 1], [0; 4], loads::Runs::default());
-    let mut run =
-        Run { random, with: With::NOTHING, inputs: 0, accepted: 0, short_paths: 0, refused, broken, plan_runs, bounded: 0, between: 0 };
+    let mut run = Run {
+        random: Random::new(seed),
+        with: With::NOTHING,
+        inputs: 0,
+        accepted: 0,
+        short_paths: 0,
+        refused: [0; LAST + 1],
+        broken: [0; 4],
+        plan_runs: loads::Runs::default(),
+        bounded: 0,
+        between: 0,
+        big_plans: big::Plans::default(),
+    };
     run.made_up(EARLIER, With::NOTHING, 1);
     for call in [Call::Read, Call::Lookup] {
         run.try_inputs(&long_files(call));
@@ -394,13 +440,20 @@ fn main() {
     run.try_inputs(&on_test_loads);
     let priced = prices(&mut run.random);
     let pairs = run.ranges();
-    // the calls of `CALLS`, the test load and needs known as ranges; prices are counted apart
-    println!("outside: seed {seed}, {} inputs of {} calls as the plain implementation has them", run.inputs, CALLS.len() + 2);
+    let big_inputs = run.big();
+    // the calls of `CALLS`, the test load, needs known as ranges and big days; prices are counted apart
+    println!("outside: seed {seed}, {} inputs of {} calls as the plain implementation has them", run.inputs, CALLS.len() + 3);
     run.print_counts();
     println!("test loads: {} inputs, and {} of the other calls on days so drawn", test_loads.len(), on_test_loads.len());
     println!(
         "needs known as ranges: {} tiny days with {} tables between, each with its least cost between the two; {pairs} pairs with an easier day",
         run.bounded, run.between
+    );
+    let big::Plans { plans, above, cheaper, used_up, searched, trials } = run.big_plans;
+    println!(
+        "big days: {big_inputs} inputs; {plans} plans in {trials} trials, {above} of more than {} watt-hours, {cheaper} cheaper than the first \
+         trial's, {used_up} with all allowed trials used; each no dearer than with a trial less, and {searched} beside all plans, none below the bound",
+        plain::MAX_TOTAL
     );
     println!("published instances: {} inputs, each with the published cost, doubled", published.len());
     println!("prices: {priced} costs, each as the plain implementation has it");

@@ -1,4 +1,5 @@
-//! Documents 01 and 02 (requests 2.1 to 2.7 and 2.9; 2.8 is in price.rs) and the report in plain code, written from these alone: what every call should answer.
+//! Documents 01 and 02 (requests 2.1 to 2.7, 2.9 and 2.10; 2.8 is in price.rs) and the report in plain code, written from these alone: what
+//! every call should answer.
 //! Names are lot sizing's; document 01 says need for demand, start for setup, upkeep for holding.
 use std::iter::once;
 use std::ops::Range;
@@ -63,6 +64,8 @@ pub const MAX_SETUP: u64 = 1_000_000_000;
 pub const MAX_UNIT: u64 = 1_000_000;
 pub const MAX_HOLDING: u64 = 500_000;
 pub const MAX_TOTAL: u64 = 4096;
+/// That of the call on big days.
+pub const MAX_BIG_TOTAL: u64 = 60_000;
 
 /// The store limit of a period whose record in the file has none.
 pub const NO_LIMIT: u16 = 65_535;
@@ -189,6 +192,11 @@ pub fn plans(day: &Day) -> f64 {
     day.capacity.iter().map(|&c| (c as u64).min(most) as f64 + 1.0).product()
 }
 
+/// Whether these are few enough to try all.
+pub fn can_be_searched(day: &Day) -> bool {
+    plans(day) <= 2000.0
+}
+
 /// The plan of a day by trying all: of those that hold the cheapest, and of equally cheap ones the smallest.
 pub fn search(day: &Day) -> Option<Planned> {
     fn extend(day: &Day, plan: &mut Vec<u16>, best: &mut Option<Planned>) {
@@ -267,7 +275,7 @@ pub fn recursion(day: &Day) -> Option<Planned> {
 
 /// The plan of a day: by trying all plans where these are few, else by recursion (5).
 pub fn plan(day: &Day) -> Option<Planned> {
-    if plans(day) <= 2000.0 {
+    if can_be_searched(day) {
         search(day)
     } else {
         recursion(day)
@@ -299,6 +307,31 @@ pub fn unit_by_unit(day: &Day) -> Option<Planned> {
     for due in needed_in(day) {
         let cheapest = (0..=due).filter(|&i| plan[i] < day.capacity[i]).min_by_key(|&i| (price[i], i))?;
         plan[cheapest] += 1;
+    }
+    let totals = totals(day, &plan);
+    Some(Planned { plan, totals })
+}
+
+/// The same in batches, for days that need much: what is still needed in a period, from the cheapest one as much as it has left.
+pub fn in_batches(day: &Day) -> Option<Planned> {
+    day.whole()?;
+    let n = day.periods();
+    let price: Vec<i64> = (0..n).map(|i| day.unit[i] as i64 - spared(day, i)).collect();
+    let mut order: Vec<usize> = (0..n).collect();
+    order.sort_by_key(|&i| (price[i], i));
+    let mut plan = vec![0u16; n];
+    let mut served = 0;
+    for due in 0..n {
+        let mut needed = day.least_by(due + 1) - served;
+        served += needed;
+        for &i in order.iter().filter(|&&i| i <= due) {
+            let batch = needed.min((day.capacity[i] - plan[i]) as u64);
+            plan[i] += batch as u16;
+            needed -= batch;
+        }
+        if needed > 0 {
+            return None;
+        }
     }
     let totals = totals(day, &plan);
     Some(Planned { plan, totals })
@@ -383,6 +416,59 @@ pub fn tables_between(lowest: &[u16], highest: &[u16]) -> Vec<Vec<u16>> {
     tables
 }
 
+// Request 2.10: big days, best so far.
+
+/// What the call gives: the best plan, how many trials it took, and its cost less the least with all starts free.
+#[derive(Clone, Debug, PartialEq, Eq)]
+pub struct BestSoFar {
+    pub planned: Planned,
+    pub trials: usize,
+    pub gap: u64,
+}
+
+impl Day {
+    /// The same day with all starts free.
+    pub fn starts_free(&self) -> Day {
+        Day { setup: vec![0; self.periods()], ..self.clone() }
+    }
+
+    /// The same day with some periods forbidden, which make nothing.
+    pub fn without(&self, forbidden: &[bool]) -> Day {
+        let capacity = self.capacity.iter().zip(forbidden).map(|(&capacity, &forbidden)| if forbidden { 0 } else { capacity }).collect();
+        Day { capacity, ..self.clone() }
+    }
+}
+
+/// The trials that are allowed, 1 or more, each by this rule, which takes starts as free and says what its plan costs with them.
+pub fn best_so_far(day: &Day, trials: usize, rule: fn(&Day) -> Option<Planned>) -> Option<BestSoFar> {
+    let mut forbidden = vec![false; day.periods()];
+    let mut best = rule(day)?;
+    let free = cost(&day.starts_free(), &best.plan);
+    let mut used = 1;
+    'rounds: loop {
+        let before = forbidden.clone();
+        for i in (0..day.periods()).rev() {
+            if forbidden[i] {
+                continue;
+            }
+            if used == trials {
+                break 'rounds;
+            }
+            used += 1;
+            forbidden[i] = true;
+            match rule(&day.without(&forbidden)) {
+                Some(planned) if planned.totals.cost < best.totals.cost => best = planned,
+                _ => forbidden[i] = false,
+            }
+        }
+        if forbidden == before {
+            break;
+        }
+    }
+    let gap = best.totals.cost - free;
+    Some(BestSoFar { planned: best, trials: used, gap })
+}
+
 // The papers' conditions, each by itself; where tables differ in length, entries past an end count as 0.
 
 fn refused(number: u64, condition: bool) -> Option<Refusal> {
@@ -413,8 +499,9 @@ pub fn bad_value(day: &Day) -> Option<Refusal> {
     })
 }
 
-pub fn bad_total(day: &Day) -> Option<Refusal> {
-    refused(4, day.asked() > MAX_TOTAL)
+/// R + Z above what the call allows.
+pub fn bad_total(day: &Day, most: u64) -> Option<Refusal> {
+    refused(4, day.asked() > most)
 }
 
 pub fn bad_opening(day: &Day) -> Option<Refusal> {
@@ -482,6 +569,10 @@ pub fn reversed(lowest: &[u16], day: &Day) -> Option<Refusal> {
     refused_at(18, day.periods(), |i| lowest.get(i - 1).is_some_and(|&low| low > day.demand[i - 1]))
 }
 
+pub fn no_trials(trials: usize) -> Option<Refusal> {
+    refused(19, trials == 0)
+}
+
 pub fn too_few(cells: usize, needed: usize) -> Option<Refusal> {
     refused(6, cells < needed)
 }
@@ -502,9 +593,14 @@ pub fn short_area(path: Path, day: &Day, costs: usize, choices: usize) -> Option
     refused(5, costs < needed.0 || choices < needed.1)
 }
 
-/// What every call with a day to plan or to weigh refuses first, in order.
-fn day_refusals(day: &Day) -> Vec<Refusal> {
-    [bad_count(day.periods()), bad_lengths(day), bad_value(day), bad_total(day), bad_opening(day)].into_iter().flatten().collect()
+/// The cost cells that the call on big days needs.
+pub fn big_cells(day: &Day) -> usize {
+    3 * day.periods()
+}
+
+/// What every call with a day to plan or to weigh refuses first, in order; `most` is the limit of R + Z.
+fn day_refusals(day: &Day, most: u64) -> Vec<Refusal> {
+    [bad_count(day.periods()), bad_lengths(day), bad_value(day), bad_total(day, most), bad_opening(day)].into_iter().flatten().collect()
 }
 
 /// What a path refuses, in order.
@@ -517,7 +613,7 @@ pub fn path_refusals(path: Path, day: &Day, costs: usize, choices: usize, slots:
     };
     let low = if path == Path::Full { None } else { low_store(day) };
     let areas = short_area(path, day, costs, choices);
-    let mut refusals = day_refusals(day);
+    let mut refusals = day_refusals(day, MAX_TOTAL);
     refusals.extend([areas, too_few(slots, day.periods()), shortage(day), own, low].into_iter().flatten());
     refusals
 }
@@ -529,14 +625,22 @@ pub fn bounds_refusals(lowest: &[u16], day: &Day, costs: usize, choices: usize) 
     let above = refused_at(3, day.periods(), |i| lowest.get(i - 1).is_some_and(|&low| low as u64 > MAX_DEMAND));
     let values = [bad_value(day), above].into_iter().flatten().min_by_key(|refusal| refusal.period);
     let areas = short_area(Path::Full, day, costs, choices);
-    let of_day = [bad_count(day.periods()), lengths, values, bad_total(day), bad_opening(day)];
+    let of_day = [bad_count(day.periods()), lengths, values, bad_total(day, MAX_TOTAL), bad_opening(day)];
     of_day.into_iter().chain([areas, opened(day), reversed(lowest, day), shortage(day)]).flatten().collect()
+}
+
+/// What the call on big days refuses, in order.
+pub fn big_refusals(day: &Day, trials: usize, costs: usize, slots: usize) -> Vec<Refusal> {
+    let short = refused(5, costs < big_cells(day));
+    let mut refusals = day_refusals(day, MAX_BIG_TOTAL);
+    refusals.extend([short, too_few(slots, day.periods()), shortage(day), low_store(day), no_trials(trials)].into_iter().flatten());
+    refusals
 }
 
 /// What the weigher refuses, in order, for one plan or two.
 pub fn weigh_refusals(day: &Day, plans: &[&[u16]]) -> Vec<Refusal> {
     let shortest = plans.iter().map(|plan| plan.len()).min().unwrap();
-    let mut refusals = day_refusals(day);
+    let mut refusals = day_refusals(day, MAX_TOTAL);
     refusals.extend(too_few(shortest, day.periods()));
     refusals
 }

@@ -113,6 +113,9 @@ fn steps(input: &Input) -> Vec<Input> {
     for period in smaller(input.period as u64) {
         tries.push(Input { period: period as usize, ..input.clone() });
     }
+    for trials in smaller(input.trials as u64) {
+        tries.push(Input { trials: trials as usize, ..input.clone() });
+    }
     for i in 0..input.lent.len() {
         for length in smaller(input.lent[i] as u64) {
             let mut next = input.clone();
@@ -145,7 +148,7 @@ pub fn shrink(input: &Input, fails: impl Fn(&Input) -> bool) -> Input {
 
 /// An input in document 01's form.
 pub fn show(input: &Input) -> String {
-    let Input { day, lowest, plans, file, period, lent, .. } = input;
+    let Input { day, lowest, plans, file, period, trials, lent, .. } = input;
     let words = |numbers: Vec<u64>| numbers.iter().map(u64::to_string).collect::<Vec<_>>().join(" ");
     let words16 = |table: &[u16]| words(table.iter().map(|&v| v as u64).collect());
     let words32 = |table: &[u32]| words(table.iter().map(|&v| v as u64).collect());
@@ -165,6 +168,9 @@ pub fn show(input: &Input) -> String {
     }
     if input.call == Call::Bounds {
         lines.push(format!("lowest needs {}", words16(lowest)));
+    }
+    if input.call == Call::Big {
+        lines.push(format!("trials {trials}"));
     }
     for plan in plans {
         lines.push(format!("plan {}", words16(plan)));

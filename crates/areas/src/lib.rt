@@ -1,5 +1,6 @@
-//! Lent cells cleared: areas at the end of an accepted call, slots where a plan begins with nothing made.
+//! Lent cells cleared, areas at the end of an accepted call and slots where a plan begins with nothing made; cells copied.
 //! Wide cells have 64 bits, narrow ones 16.
+ghost use mathlib.Core.Path.{_≡_};
 ghost use Prim.Native.Nat.{_≤_};
 ghost use lib.ListN.{length};
 ghost use Rattle.day.specs.Outcome.{Cleared};
@@ -20,5 +21,17 @@ pub fn clear_narrow(narrow: &mut [u16], cells: usize)
 {
     for k in 0..cells {
         narrow[k] = 0;
+    }
+}
+
+// Cells as others of their length hold them.
+pub fn copy(from: &[u16], to: &mut [u16])
+    requires { ⌜ length (now to) ≡ length (now from) ⌝ }
+    ensures { λ _. ⌜ now (to .exit) ≡ now (from .entry) ⌝ }
+{
+    let mut i = 0;
+    while i < from.len() {
+        to[i] = from[i];
+        i += 1;
     }
 }

@@ -9,7 +9,7 @@ use lib.ListN.{length, drop, replicate, length-replicate}
 use lib.Seq.{drop-at}
 use Rattle.day.specs.declared.Totals.{Totals}
 use Rattle.day.specs.Sums.{at, drop-later}
-use Rattle.day.specs.Day.{Day, periods, total, withDemand}
+use Rattle.day.specs.Day.{Day, periods, total, withDemand, maxTotal}
 use Rattle.day.specs.Figures.{first-value}
 use Rattle.day.specs.Outcome.{Memory, memoryOf, Sizes, cleared, Accepted}
 use Rattle.day.specs.Paths.{full}
@@ -63,7 +63,7 @@ module _ {lowest : List ℕ} {d : Day} {s : Sizes} (r : Ranged lowest d s) (supp
   choices-le : full .choiceCells (periods low) (total low) ≤ full .choiceCells (periods d) (total d)
   choices-le = mul-le-mul (omega (arith, r .size)) (omega (arith, total-le))
 
-  low-limits : DayLimits low
+  low-limits : DayLimits maxTotal low
   low-limits =
       record { limits = r .low; small = omega (arith, total-le, r .empty, r .day .small); used = omega (arith, r .empty) }
 

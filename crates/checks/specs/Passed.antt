@@ -23,7 +23,7 @@ use Rattle.day.specs.declared.Refusal.the-variants.{PeriodCount, TableLength, A
 use Rattle.day.specs.declared.Refusal.the-variants.{Shortage, UnequalCapacities, BindingCapacity, PaidSetup, LowStore}
 use Rattle.day.specs.Sums.{at}
 use Rattle.day.specs.Find.{find, none-found, nothing-found, some-found}
-use Rattle.day.specs.Day.{Day, periods, maxPeriods, maxDemand, maxCapacity, maxSetup, maxRate, maxHalfRate, maxTotal, maxStore}
+use Rattle.day.specs.Day.{Day, periods, maxPeriods, maxDemand, maxCapacity, maxSetup, maxRate, maxHalfRate, maxStore}
 use Rattle.day.specs.Day.{demandTo, required, total, netTo, net-before}
 use Rattle.day.specs.Refusals.{numberOf, periodOf, refuseAt, anywhere, first, badCount, badLengths, aboveLimit, badValue, tableTests}
 use Rattle.day.specs.Refusals.{badTotal, badOpening, totalTests, dayTests}
@@ -139,19 +139,19 @@ tables-passed d e =
       within = λ k l. values-within d k (none-found (aboveLimit d) (periods d) value k l);
     }
 
--- what tests 1 to 4 and 14 leave
-pub record DayLimits (d : Day) : Type 0 where
+-- what tests 1 to 4 and 14 leave, where 4 has this limit
+pub record DayLimits (limit : ℕ) (d : Day) : Type 0 where
   pub limits : Limits d
-  pub small : required d ≤ maxTotal
+  pub small : required d ≤ limit
   pub used : d .opening ≤ required d
 
-pub day-passed : (d : Day) → first (dayTests d) ≡ none → DayLimits d
-day-passed d e =
-    let t = first-split (tableTests d) (totalTests d) e in
-    let s = first-split (badTotal d ∷ []) (badOpening d ∷ []) (t .1) in
+pub day-passed : {limit : ℕ} (d : Day) → first (dayTests limit d) ≡ none → DayLimits limit d
+day-passed {limit} d e =
+    let t = first-split (tableTests d) (totalTests limit d) e in
+    let s = first-split (badTotal limit d ∷ []) (badOpening d ∷ []) (t .1) in
     record {
       limits = tables-passed d (t .0);
-      small = ltb-false _ _ (not-refused (ltb maxTotal (required d)) TotalDemand (rw first-one at (s .0)));
+      small = ltb-false _ _ (not-refused (ltb limit (required d)) TotalDemand (rw first-one at (s .0)));
       used = ltb-false _ _ (not-refused (ltb (required d) (d .opening)) SurplusInventory (rw first-one at (s .1)));
     }
 
@@ -223,14 +223,14 @@ store-passed d e k l = ltb-false _ _ (none-found (tight d) (periods d) (nowhere 
 
 -- what a path relies on that refuses nothing
 pub record Admitted (P : Path) (d : Day) (s : Sizes) : Type 0 where
-  pub day : DayLimits d
+  pub day : DayLimits (P .limit) d
   pub room : Roomy P d s
   pub supplied : (k : ℕ) → k < periods d → Passes d k
   pub own : first (P .own d) ≡ none
 
 pub admitted : (P : Path) (d : Day) (s : Sizes) → refusal P d s ≡ none → Admitted P d s
 admitted P d s e =
-    let one = first-split (dayTests d) (pathTests P d s) e in
+    let one = first-split (dayTests (P .limit) d) (pathTests P d s) e in
     let two = first-split (memoryTests P d s) (shortage d ∷ P .own d) (one .1) in
     let three = first-split (shortage d ∷ []) (P .own d) (two .1) in
     record {
@@ -264,6 +264,6 @@ tables-pass d l = rw (count, lengths-pass d (l .lengths), value) refl
     value : badValue d ≡ none
     value = ap (refuseAt AboveLimit) (nothing-found (aboveLimit d) (periods d) (λ k h. inside k (l .within k h)))
 
-pub day-passes : (d : Day) → DayLimits d → first (dayTests d) ≡ none
-day-passes d g =
-    first-passed (tableTests d) (totalTests d) (tables-pass d (g .limits)) ∙ rw (le-ltb _ _ (g .small), le-ltb _ _ (g .used)) refl
+pub day-passes : {limit : ℕ} (d : Day) → DayLimits limit d → first (dayTests limit d) ≡ none
+day-passes {limit} d g =
+    first-passed (tableTests d) (totalTests limit d) (tables-pass d (g .limits)) ∙ rw (le-ltb _ _ (g .small), le-ltb _ _ (g .used)) refl

@@ -27,7 +27,7 @@ const MAX_RATE: u32 = 1_000_000;
 
 const MAX_HALF_RATE: u32 = 500_000;
 
-const MAX_TOTAL: u64 = 4096;
+pub const MAX_TOTAL: u64 = 4096;
 
 // The answers of two tests in order.
 pub fn in_order(test: Check, next: Check) -> Check
@@ -152,13 +152,13 @@ pub fn total(demand: &[u16], ends: Ends) -> u64
     required(demand, ends) - (ends.opening as u64)
 }
 
-// 4, 14
-pub fn totals(demand: &[u16], ends: Ends) -> Check
+// 4, 14: R + Z is not above the call's limit, nor A above R + Z
+pub fn totals(demand: &[u16], ends: Ends, limit: u64) -> Check
     requires { ⌜ length (now demand) ≤ maxPeriods ⌝ }
-    ensures { λ r. ⌜ r ≡ checked (first (totalTests (dayOf (now (demand .entry)) [] [] [] [] [] ends))) ⌝ }
+    ensures { λ r. ⌜ r ≡ checked (first (totalTests limit (dayOf (now (demand .entry)) [] [] [] [] [] ends))) ⌝ }
 {
     let required = required(demand, ends);
-    if MAX_TOTAL < required {
+    if limit < required {
         return Check::Refused(Refusal::TotalDemand);
     }
     if required < (ends.opening as u64) {
@@ -176,13 +176,14 @@ pub fn day(
     holding: &[u32],
     store: &[u16],
     ends: Ends,
+    limit: u64,
 ) -> Check
-    ensures { λ r. ⌜ r ≡ checked (first (dayTests (dayBefore demand capacity setup unit holding store ends))) ⌝ }
+    ensures { λ r. ⌜ r ≡ checked (first (dayTests limit (dayBefore demand capacity setup unit holding store ends))) ⌝ }
 {
     if let Check::Refused(r) = tables(demand, capacity, setup, unit, holding, store) {
         return Check::Refused(r);
     }
-    totals(demand, ends)
+    totals(demand, ends, limit)
 }
 
 // What must have been there by the end of a period: the demand so far, and Z with it after the last.

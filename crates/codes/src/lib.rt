@@ -1,11 +1,12 @@
 //! What a C program sees of an answer: one code, and its numbers in the call's out-array (include/yakkurem.h).
 ghost use mathlib.Core.Path.{_≡_};
 ghost use Rattle.day.specs.Refusals.{numberOf, periodOf};
-ghost use Rattle.day.specs.Figures.{answerFigures, equalFigures, boundsFigures};
+ghost use Rattle.day.specs.Figures.{answerFigures, equalFigures, boundsFigures, bigFigures};
 ghost use Rattle.dayfile.specs.Answers.{readFigures, writeFigures};
 ghost use Rattle.weigher.specs.Answers.{weighedFigures, comparedFigures, ruleNumber};
 ghost use Rattle.codes.specs.Codes.{codeOf, seen, seenOf, checkCode};
 use day::Answer;
+use day::BigAnswer;
 use day::BoundsAnswer;
 use day::Check;
 use day::EqualAnswer;
@@ -81,6 +82,19 @@ pub fn bounded(a: BoundsAnswer, answer: &mut [u64; 2]) -> u64
         BoundsAnswer::Refused(r) => refused(r),
         BoundsAnswer::Bounded(b) => {
             *answer = [b.lowest, b.highest];
+            0
+        }
+    }
+}
+
+// Of a big day's answer: the cost and setups of its plan, the trials used, the gap.
+pub fn planned_big(a: BigAnswer, answer: &mut [u64; 4]) -> u64
+    ensures { λ r. ⌜ seen r (now (answer .exit)) ≡ seenOf (now (answer .entry)) (bigFigures a) ⌝ }
+{
+    match a {
+        BigAnswer::Refused(r) => refused(r),
+        BigAnswer::Planned(t, b) => {
+            *answer = [t.cost, t.setups, b.used, b.gap];
             0
         }
     }

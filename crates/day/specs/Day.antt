@@ -59,7 +59,8 @@ withDemand needs d = dayOf needs (d .capacity) (d .setup) (d .unit) (d .holding)
 abbrev pub periods : Day → ℕ
 periods d = length (d .demand)
 
--- the most that the documents allow: n, r, c, b, p; h, which is paid for half a period (document 02, 2.2); and R + Z over the day.
+-- the most that the documents allow: n, r, c, b, p; h, which is paid for half a period (document 02, 2.2); R + Z over the day, and over a big
+-- day (document 02, 2.10).
 -- A and Z are numbers of 16 bits, and so is s, whose highest value is above any R + Z that is allowed: it limits nothing.
 abbrev pub maxPeriods : ℕ
 maxPeriods = 96
@@ -81,6 +82,9 @@ maxHalfRate = 500000
 
 abbrev pub maxTotal : ℕ
 maxTotal = 4096
+
+abbrev pub maxBigTotal : ℕ
+maxBigTotal = 60000
 
 abbrev pub maxStore : ℕ
 maxStore = 65535

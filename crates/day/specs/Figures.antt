@@ -1,7 +1,7 @@
 -- An answer in the documents' figures: the number and the period of what it refuses, and the values that it gives.
 -- Each answer's figures are defined in its own crate; those of answers that this crate declares here, and the promise of a call that answers with its tests.
--- Main definitions: `Figures`, `answerFigures`, `equalFigures`, `boundsFigures`, `Checks`; main statements: `same-values`, `checks-is`, `is-checks`.
--- Assumes nothing.
+-- Main definitions: `Figures`, `answerFigures`, `equalFigures`, `boundsFigures`, `bigFigures`, `Checks`; main statements: `same-values`, `checks-is`,
+-- `is-checks`. Assumes nothing.
 use mathlib.Core.Path.{_≡_, refl, sym, ap, subst}
 use mathlib.Core.List.{List, [], _∷_}
 use mathlib.Core.Option.{Option, none, some}
@@ -15,6 +15,8 @@ use Rattle.day.specs.declared.EqualAnswer.{EqualAnswer}
 use Rattle.day.specs.declared.EqualAnswer.the-variants as equalAnswer
 use Rattle.day.specs.declared.BoundsAnswer.{BoundsAnswer}
 use Rattle.day.specs.declared.BoundsAnswer.the-variants as boundsAnswer
+use Rattle.day.specs.declared.BigAnswer.{BigAnswer}
+use Rattle.day.specs.declared.BigAnswer.the-variants as bigAnswer
 use Rattle.day.specs.Refusals.{numberOf, periodOf, Gives, checked}
 use Rattle.day.specs.Tests.{gives-is, is-gives}
 
@@ -44,6 +46,11 @@ equalFigures (equalAnswer.Planned t l) = acceptedWith (t .cost ∷ t .setups ∷
 abbrev pub boundsFigures : BoundsAnswer → Figures ℕ
 boundsFigures (boundsAnswer.Refused r) = refusedWith r
 boundsFigures (boundsAnswer.Bounded b) = acceptedWith (b .lowest ∷ b .highest ∷ [])
+
+-- big days: cost and setups of the plan, the trials used, the gap
+abbrev pub bigFigures : BigAnswer → Figures ℕ
+bigFigures (bigAnswer.Refused r) = refusedWith r
+bigFigures (bigAnswer.Planned t b) = acceptedWith (t .cost ∷ t .setups ∷ b .used ∷ b .gap ∷ [])
 
 -- accepted answers with the same figures give the same values
 pub same-values : {A : Type 0} {l m : List A} → acceptedWith l ≡ acceptedWith m → l ≡ m

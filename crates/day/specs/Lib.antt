@@ -19,6 +19,8 @@ pub mod Paths
 pub mod Loads
 -- Needs known as ranges: easier days, and the call that bounds their least cost.
 pub mod Ranges
+-- Big days: trials that forbid one period more, and the call that gives the best so far.
+pub mod Drops
 -- Lent tables and memory at both moments of a call, as contracts speak of them.
 pub mod Lent
 -- The marked days: a plain search over all plans, the table, its theorem.

@@ -14,7 +14,7 @@ use Rattle.day.specs.declared.Refusal.{Refusal}
 use Rattle.day.specs.declared.Refusal.the-variants.{PaidSetup}
 use Rattle.day.specs.Sums.{at}
 use Rattle.day.specs.Find.{find}
-use Rattle.day.specs.Day.{Day, tablesOf, periods, maxStore}
+use Rattle.day.specs.Day.{Day, tablesOf, periods, maxTotal, maxStore}
 use Rattle.day.specs.Plan.{Feasible, Optimal, cost, setups}
 use Rattle.day.specs.Refusals.{numberOf, periodOf, refuse, refuseAt, orNext, first, FirstShort, paid, paidSetup, lowStore}
 use Rattle.day.specs.Outcome.{Sizes, Path, Roomy, refusal, dayRefusal, roomy-first}
@@ -67,9 +67,9 @@ pub record Costs (d : Day) (x : List ℕ) (c : ℕ) : Type 0 where
   pub feasible : Feasible d (at x)
   pub cost : cost d (at x) ≡ c
 
--- what every path refuses, given room: what the day brings by itself, else what the path alone tests
+-- what every path refuses with the limit of 4,096, given room: what the day brings by itself, else what the path alone tests
 abbrev pub Given : Day → Option Refusal → Type 0
-Given d o = (P : Path) (s : Sizes) → Roomy P d s → refusal P d s ≡ orNext o (first (P .own d))
+Given d o = (P : Path) (s : Sizes) → P .limit ≡ maxTotal → Roomy P d s → refusal P d s ≡ orNext o (first (P .own d))
 
 -- the plan of the day, with its cost and setups; a path refuses it by its own tests alone, the free path 15 with period 1 where b is above 0,
 -- and none 16
@@ -82,7 +82,7 @@ pub record PlannedAs (d : Day) (x : List ℕ) (c s : ℕ) : Type 0 where
   pub cost : cost d (at x) ≡ c
   pub setups : setups (periods d) (at x) ≡ s
 
--- there is no plan: every path gives 7 with period i, counted from 1, the first through which no amounts keep the conditions
+-- there is no plan: every such path gives 7 with period i, counted from 1, the first through which no amounts keep the conditions
 pub record RefusedAt (d : Day) (i : ℕ) : Type 0 where
   pub refusal : Refusal
   pub given : Given d (some refusal)
@@ -104,9 +104,10 @@ abbrev pub all? : {A : Type 0} {P : A → Type 0} → ((a : A) → Option (P a))
 all? p [] = some tt
 all? p (a ∷ rest) = both (p a) (all? p rest)
 
--- what the day brings by itself is what every path gives
-brought : (d : Day) {o : Option Refusal} → dayRefusal d ≡ o → Given d o
-brought d e P s room = roomy-first P d s room ∙ ap (λ (o : Option Refusal). orNext o (first (P .own d))) e
+-- what the day brings by itself is what every such path gives
+brought : (d : Day) {o : Option Refusal} → dayRefusal maxTotal d ≡ o → Given d o
+brought d e P s limit room =
+    roomy-first P d s room ∙ ap (λ (o : Option Refusal). orNext o (first (P .own d))) (ap (λ (l : ℕ). dayRefusal l d) limit ∙ e)
 
 -- the tests of what it brings: nothing; 7 with period i
 abbrev none-brought? : (o : Option Refusal) → Option (o ≡ none)
@@ -149,7 +150,7 @@ right? d (planned x c s) =
     (λ p.
     let q = p .1 .1 .1 in
     record { given = brought d (p .0); paid = p .1 .0; stores = p .1 .1 .0; amounts = q .0; plan = q .1 .0; cost = q .1 .1 .0; setups = q .1 .1 .1 })
-    (both (none-brought? (dayRefusal d))
+    (both (none-brought? (dayRefusal maxTotal d))
     (both (paid? (find (paid d) (periods d)) (ltb 0 (at (d .setup) 0)))
     (both (none-brought? (lowStore d))
     (both (sure (ℕ-discrete (length x) (periods d)))
@@ -160,7 +161,7 @@ right? d (refused zero) = none
 right? d (refused (suc k)) =
     Option·map
     (λ p. let q = p .0 in record { refusal = q .0; given = brought d (q .1 .0); first = q .1 .1 .0; period = q .1 .1 .1; none = p .1 })
-    (both (brought? d k (dayRefusal d)) (none? d (periods d)))
+    (both (brought? d k (dayRefusal maxTotal d)) (none? d (periods d)))
 
 -- Every row's claims hold of the written meaning.
 pub marked-right : All (λ r. All (ClaimHolds (dayOfRow r)) (r .claims)) marked

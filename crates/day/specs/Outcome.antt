@@ -1,6 +1,6 @@
 -- What a caller lends to a path, what the path needs of it and refuses, and what it leaves in it (document 01, "Three paths, one plan";
 -- document 02, 2.3).
--- Main definitions: `refusal`; `Runs`, the contract of every path (demands 1 to 3). Assumes nothing.
+-- Main definitions: `refusal`; `Runs`, the contract of every path that gives the plan of the day (demands 1 to 3). Assumes nothing.
 use mathlib.Core.Path.{_≡_, _∙_}
 use mathlib.Core.List.{List, [], _∷_, _++_}
 use mathlib.Core.Option.{Option, none}
@@ -39,8 +39,10 @@ sizes costs choices slots = record { costs = costs; choices = choices; slots = s
 abbrev pub sizesOf : Memory → Sizes
 sizesOf m = sizes (length (m .costs)) (length (m .choices)) (length (m .slots))
 
--- what a path needs in cost cells and choice cells, for n periods in which T is made, and the tests that it alone applies, last
+-- the most that R + Z may be in a path; what it needs in cost cells and choice cells, for n periods in which T is made; and the tests that it alone
+-- applies, last
 pub record Path : Type 0 where
+  pub limit : ℕ
   pub costCells : (n T : ℕ) → ℕ
   pub choiceCells : (n T : ℕ) → ℕ
   pub own : Day → List (Option Refusal)
@@ -65,20 +67,20 @@ pathTests P d s = memoryTests P d s ++ (shortage d ∷ P .own d)
 
 -- a path's first refusal: 1 to 4, 14, 5 to 7 in order, then its own
 abbrev pub refusal : Path → Day → Sizes → Option Refusal
-refusal P d s = first (dayTests d ++ pathTests P d s)
+refusal P d s = first (dayTests (P .limit) d ++ pathTests P d s)
 
 -- what the day brings by itself: 1 to 4, 14, 7
-abbrev pub dayRefusal : Day → Option Refusal
-dayRefusal d = first (dayTests d ++ (shortage d ∷ []))
+abbrev pub dayRefusal : (limit : ℕ) → Day → Option Refusal
+dayRefusal limit d = first (dayTests limit d ++ (shortage d ∷ []))
 
 -- with room for it, a path refuses a day for what the day is, else by its own tests
-pub roomy-first : (P : Path) (d : Day) (s : Sizes) → Roomy P d s → refusal P d s ≡ orNext (dayRefusal d) (first (P .own d))
+pub roomy-first : (P : Path) (d : Day) (s : Sizes) → Roomy P d s → refusal P d s ≡ orNext (dayRefusal (P .limit) d) (first (P .own d))
 roomy-first P d s room =
-    rw (le-ltb _ _ (room .costs), le-ltb _ _ (room .choices), le-ltb _ _ (room .slots)) (first-join (dayTests d ++ (shortage d ∷ [])) (P .own d))
+    rw (le-ltb _ _ (room .costs), le-ltb _ _ (room .choices), le-ltb _ _ (room .slots)) (first-join (dayTests (P .limit) d ++ (shortage d ∷ [])) (P .own d))
 
 -- and a day of its kind for what the day is, alone
-pub roomy-refusal : (P : Path) (d : Day) (s : Sizes) → Roomy P d s → first (P .own d) ≡ none → refusal P d s ≡ dayRefusal d
-roomy-refusal P d s room kind = roomy-first P d s room ∙ rw kind (first-one (dayRefusal d))
+pub roomy-refusal : (P : Path) (d : Day) (s : Sizes) → Roomy P d s → first (P .own d) ≡ none → refusal P d s ≡ dayRefusal (P .limit) d
+roomy-refusal P d s room kind = roomy-first P d s room ∙ rw kind (first-one (dayRefusal (P .limit) d))
 
 -- what is given is the plan's cost and setups, by the answer's figures
 abbrev pub Counts : Day → (ℕ → ℕ) → Totals → Type 0

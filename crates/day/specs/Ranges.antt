@@ -11,7 +11,7 @@ use Rattle.day.specs.declared.Bounds.{Bounds}
 use Rattle.day.specs.declared.BoundsAnswer.{BoundsAnswer}
 use Rattle.day.specs.declared.BoundsAnswer.the-variants.{Refused, Bounded}
 use Rattle.day.specs.Sums.{at}
-use Rattle.day.specs.Day.{Day, periods, total, withDemand}
+use Rattle.day.specs.Day.{Day, periods, total, withDemand, maxTotal}
 use Rattle.day.specs.Plan.{Optimal, cost}
 use Rattle.day.specs.Refusals.{Gives, first, pairTests, totalTests, opened, reversed, shortage}
 use Rattle.day.specs.Figures.{acceptedWith, boundsFigures}
@@ -47,7 +47,7 @@ boundTests lowest d s = areaTest full d s ∷ opened d ∷ reversed lowest d ∷
 
 -- the call's tests before 7, in order: 1; 2 and 3 on both tables; 4, 14, then these
 abbrev pub rangeTests : List ℕ → Day → Sizes → List (Option Refusal)
-rangeTests lowest d s = pairTests lowest d ++ (totalTests d ++ boundTests lowest d s)
+rangeTests lowest d s = pairTests lowest d ++ (totalTests maxTotal d ++ boundTests lowest d s)
 
 -- its first refusal: of these, or 7 on the highest
 abbrev pub rangeRefusal : List ℕ → Day → Sizes → Option Refusal

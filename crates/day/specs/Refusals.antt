@@ -1,4 +1,4 @@
--- What is refused, and when: document 01's conditions 1 to 9 and document 02's 14 to 18, each as a definition, and the number and period of each refusal.
+-- What is refused, and when: document 01's conditions 1 to 9 and document 02's 14 to 19, each as a definition, and the number and period of each refusal.
 -- A call's first refusal in order is `first` of a list of these; laws of such lists are in `Tests`. Conditions 10 to 13 are in `File`.
 -- Assumes nothing.
 use mathlib.Core.Path.{_≡_}
@@ -12,12 +12,12 @@ use Rattle.day.specs.declared.Refusal.{Refusal}
 use Rattle.day.specs.declared.Refusal.the-variants.{PeriodCount, TableLength, AboveLimit, TotalDemand, ShortArea, FewSlots, Shortage}
 use Rattle.day.specs.declared.Refusal.the-variants.{UnequalCapacities, BindingCapacity}
 use Rattle.day.specs.declared.Refusal.the-variants.{UnknownKind, TruncatedFile, WrongEnd, NoSuchPeriod, SurplusInventory, PaidSetup, LowStore}
-use Rattle.day.specs.declared.Refusal.the-variants.{OpeningInventory, ReversedRange}
+use Rattle.day.specs.declared.Refusal.the-variants.{OpeningInventory, ReversedRange, NoTrials}
 use Rattle.day.specs.declared.Check.{Check}
 use Rattle.day.specs.declared.Check.the-variants.{Passed, Refused}
 use Rattle.day.specs.Sums.{at, cappedTo}
 use Rattle.day.specs.Find.{find}
-use Rattle.day.specs.Day.{Day, periods, maxPeriods, maxDemand, maxCapacity, maxSetup, maxRate, maxHalfRate, maxTotal, maxStore}
+use Rattle.day.specs.Day.{Day, periods, maxPeriods, maxDemand, maxCapacity, maxSetup, maxRate, maxHalfRate, maxStore}
 use Rattle.day.specs.Day.{withDemand, demandTo, required, total, netTo}
 use Rattle.day.specs.Plan.{KeepsTo}
 
@@ -41,6 +41,7 @@ numberOf (PaidSetup i) = 15
 numberOf (LowStore i) = 16
 numberOf OpeningInventory = 17
 numberOf (ReversedRange i) = 18
+numberOf NoTrials = 19
 
 -- the period that it names, counted from 1; 0 where it names none
 abbrev pub periodOf : Refusal → ℕ
@@ -62,6 +63,7 @@ periodOf (PaidSetup i) = i
 periodOf (LowStore i) = i
 periodOf OpeningInventory = 0
 periodOf (ReversedRange i) = i
+periodOf NoTrials = 0
 
 -- the refusal, where its condition holds
 abbrev pub refuse : Bool → Refusal → Option Refusal
@@ -122,9 +124,9 @@ aboveLimit d k =
 abbrev pub badValue : Day → Option Refusal
 badValue d = refuseAt AboveLimit (find (aboveLimit d) (periods d))
 
--- 4: R + Z above 4,096
-abbrev pub badTotal : Day → Option Refusal
-badTotal d = refuse (ltb maxTotal (required d)) TotalDemand
+-- 4: R + Z above the call's limit: `maxTotal`, or `maxBigTotal` (document 02, 2.10)
+abbrev pub badTotal : (limit : ℕ) → Day → Option Refusal
+badTotal limit d = refuse (ltb limit (required d)) TotalDemand
 
 -- 14: A above R + Z
 abbrev pub badOpening : Day → Option Refusal
@@ -217,6 +219,10 @@ reverses lowest d k = ltb (at (d .demand) k) (at lowest k)
 abbrev pub reversed : List ℕ → Day → Option Refusal
 reversed lowest d = refuseAt ReversedRange (find (reverses lowest d) (periods d))
 
+-- 19: no trial is allowed
+abbrev pub noTrials : (trials : ℕ) → Option Refusal
+noTrials trials = refuse (eqb trials 0) NoTrials
+
 -- the tests that open every call on tables: 1, 2, 3
 abbrev pub tableTests : Day → List (Option Refusal)
 tableTests d = badCount (periods d) ∷ badLengths d ∷ badValue d ∷ []
@@ -226,9 +232,9 @@ abbrev pub pairTests : List ℕ → Day → List (Option Refusal)
 pairTests needs d = badCount (periods d) ∷ badLengths d ∷ badSecond needs d ∷ badValues needs d ∷ []
 
 -- those on what the day needs over all: 4, and 14 right after it
-abbrev pub totalTests : Day → List (Option Refusal)
-totalTests d = badTotal d ∷ badOpening d ∷ []
+abbrev pub totalTests : (limit : ℕ) → Day → List (Option Refusal)
+totalTests limit d = badTotal limit d ∷ badOpening d ∷ []
 
 -- and those of a call on a day: 1, 2, 3, 4, 14
-abbrev pub dayTests : Day → List (Option Refusal)
-dayTests d = tableTests d ++ totalTests d
+abbrev pub dayTests : (limit : ℕ) → Day → List (Option Refusal)
+dayTests limit d = tableTests d ++ totalTests limit d

@@ -23,6 +23,7 @@ pub enum Refusal {
     LowStore(u16),
     OpeningInventory,
     ReversedRange(u16),
+    NoTrials,
 }
 
 impl Refusal {
@@ -48,6 +49,7 @@ impl Refusal {
             Refusal::LowStore(_) => 16,
             Refusal::OpeningInventory => 17,
             Refusal::ReversedRange(_) => 18,
+            Refusal::NoTrials => 19,
         }
     }
 
@@ -73,6 +75,7 @@ impl Refusal {
             Refusal::LowStore(i) => i,
             Refusal::OpeningInventory => 0,
             Refusal::ReversedRange(i) => i,
+            Refusal::NoTrials => 0,
         }
     }
 }
@@ -83,12 +86,13 @@ pub enum Check {
     Refused(Refusal),
 }
 
-// The paths (document 01, "Three paths, one plan"; document 02, 2.3); `pathOf` gives what each needs and tests.
+// The paths (document 01, "Three paths, one plan"; document 02, 2.3, 2.10); `pathOf` gives what each needs and tests.
 pub enum PathKind {
     Full,
     Uncapped,
     Equal,
     Free,
+    Big,
 }
 
 // The inventory at both ends of a day (document 02: opening charge A, closing charge Z).
@@ -131,4 +135,16 @@ pub struct Bounds {
 pub enum BoundsAnswer {
     Refused(Refusal),
     Bounded(Bounds),
+}
+
+// How many trials a big day took, and how far its cost lies above the least with all starts free (document 02, 2.10).
+pub struct Trials {
+    pub used: u64,
+    pub gap: u64,
+}
+
+// What the call on big days answers; the plan itself is in the lent slots.
+pub enum BigAnswer {
+    Refused(Refusal),
+    Planned(Totals, Trials),
 }

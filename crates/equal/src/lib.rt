@@ -46,7 +46,7 @@ fn solve(
     }
     equal_rows::rows(demand, setup, unit, holding, full, costs, choices, slots);
     let from = n * n;
-    equal_rows::copy(&choices[from..from + n], slots);
+    areas::copy(&choices[from..from + n], slots);
 }
 
 // The work, once the tests have passed.

@@ -17,18 +17,6 @@ use equal_runs::NONE;
 use equal_runs::read_back;
 use equal_runs::run;
 
-// One row as another holds it.
-pub fn copy(from: &[u16], to: &mut [u16])
-    requires { ⌜ length (now to) ≡ length (now from) ⌝ }
-    ensures { λ _. ⌜ now (to .exit) ≡ now (from .entry) ⌝ }
-{
-    let mut i = 0;
-    while i < from.len() {
-        to[i] = from[i];
-        i += 1;
-    }
-}
-
 // Whether x has the smaller amount in the last period in which the two differ.
 fn smaller(x: &[u16], y: &[u16]) -> bool
     requires { ⌜ length (now y) ≡ length (now x) ⌝ }
@@ -208,7 +196,7 @@ fn candidate(
         ⌝ }
 {
     let from = l * demand.len();
-    copy(&choices[from..from + l], &mut slots[0..l]);
+    areas::copy(&choices[from..from + l], &mut slots[0..l]);
     let before = costs[l];
     let run = trial(
         demand,
@@ -236,7 +224,7 @@ fn keep(v: u64, n: usize, slots: &[u16], costs: &mut [u64], choices: &mut [u16])
 {
     let m = slots.len();
     let from = m * n;
-    copy(slots, &mut choices[from..from + m]);
+    areas::copy(slots, &mut choices[from..from + m]);
     costs[m] = v;
 }
 

@@ -25,9 +25,8 @@ use Rattle.theory.specs.Net.{netNeeds, ratesOf, NetTables, problemOf, periods-i
 use Rattle.theory.specs.Store.{Loose, limits-loose, loose-supplied}
 use Rattle.theory.specs.Base.{loose-optimal}
 use Rattle.theory.specs.FreeSetups.{Free}
-use Rattle.theory.specs.Batches.{Filled, Solves, greedy, greedy-right}
+use Rattle.theory.specs.Batches.{Filled, Solves, cleared-length, cleared-fresh, greedy, greedy-right}
 use Rattle.free.specs.Solved.{freeOf, Solvable, Solved}
-use Rattle.free.proofs.Solving.{cleared-length, cleared-fresh}
 
 -- what the loops run on, for a day
 abbrev loopsOf : Day → Problem

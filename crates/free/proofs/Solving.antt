@@ -4,31 +4,19 @@ use mathlib.Core.Path.{_≡_, refl, sym, ap, _∙_, subst}
 use mathlib.Core.Bool.{Bool, true, false}
 use mathlib.Core.List.{List, []}
 use mathlib.Core.Option.{Option, some, Option·none-ne-some}
-use Prim.Native.Nat.{ℕ, _≤_, _<_}
+use Prim.Native.Nat.{ℕ, _<_}
 use native.Mathlib.Omega.{arith}
-use lib.ListN.{length, drop, replicate, length-append, length-drop, length-replicate, getD-replicate, List·getD-append}
+use lib.ListN.{drop}
 use Rattle.day.specs.Sums.{at}
 use Rattle.day.specs.Outcome.{Memory, memoryOf, cleared, Cleared}
 use Rattle.theory.specs.Model.{Model}
 use Rattle.theory.specs.Problem.{Problem, periods, modelOf, model-rising, model-unlimited, supplied-covered}
 use Rattle.theory.specs.Greedy.{keyOf, greedyTo, greedyTo-same}
 use Rattle.theory.specs.FreeSetups.{key}
-use Rattle.theory.specs.Batches.{Fresh, Filled, greedy, greedy-covered}
+use Rattle.theory.specs.Batches.{Filled, greedy, greedy-covered, cleared-fresh}
 use Rattle.greedy.specs.Keys.{Keyed}
 use Rattle.greedy.specs.Search.{Told}
 use Rattle.free.specs.Solved.{freeOf, Solvable, Solved}
-
--- n slots cleared are fresh
-pub cleared-length : (n : ℕ) (slots : List ℕ) → n ≤ length slots → length (cleared n slots) ≡ length slots
-cleared-length n slots l = simp (length-append, length-drop, length-replicate) (omega arith)
-
-pub cleared-fresh : (n : ℕ) (slots : List ℕ) → n ≤ length slots → Fresh n (cleared n slots)
-cleared-fresh n slots l =
-    record {
-      long = omega (arith, cleared-length n slots l);
-      zeros = λ k h.
-          List·getD-append (replicate n 0) (drop n slots) 0 k (omega (arith, length-replicate {A = ℕ} n 0)) ∙ getD-replicate n k 0 0 h;
-    }
 
 -- what a loop tells where there is something to find
 told-found : (o : Option (List ℕ)) (g slots : List ℕ) (r : Bool) → o ≡ some g → Told r o slots → o ≡ some slots

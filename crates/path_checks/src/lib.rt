@@ -14,6 +14,9 @@ use day::Ends;
 use day::PathKind;
 use day::Refusal;
 
+// the most that R + Z may be on a big day
+const MAX_BIG_TOTAL: u64 = 60_000;
+
 // 5: the cells that are lent, and how many the call needs
 pub fn areas(costs: usize, cost_cells: usize, choices: usize, choice_cells: usize) -> Check
     ensures { λ r. ⌜ r ≡ checked (badAreas costs «cost_cells» choices «choice_cells») ⌝ }
@@ -136,7 +139,7 @@ fn low_store(demand: &[u16], store: &[u16], ends: Ends) -> Check
     Check::Passed
 }
 
-// The tests that a path alone applies: of each short path one, then 16.
+// The tests that a path alone applies: of each short path one, then 16; of big days 16.
 fn own(
     kind: PathKind,
     demand: &[u16],
@@ -167,6 +170,7 @@ fn own(
             checks::in_order(equal(demand, capacity), low_store(demand, store, ends))
         }
         PathKind::Free => { checks::in_order(paid(demand, setup), low_store(demand, store, ends)) }
+        PathKind::Big => low_store(demand, store, ends),
     }
 }
 
@@ -195,6 +199,10 @@ pub fn cells(kind: PathKind, n: usize, total: usize) -> Needed
         },
         PathKind::Free => Needed {
             costs: n,
+            choices: 0,
+        },
+        PathKind::Big => Needed {
+            costs: 3 * n,
             choices: 0,
         },
     }
@@ -234,6 +242,19 @@ fn room(
     own(kind, demand, capacity, setup, store, ends)
 }
 
+// The most that R + Z may be in a path.
+fn limit(kind: PathKind) -> u64
+    ensures { λ r. ⌜ r ≡ pathOf kind .limit ⌝ }
+{
+    match kind {
+        PathKind::Full => checks::MAX_TOTAL,
+        PathKind::Uncapped => checks::MAX_TOTAL,
+        PathKind::Equal => checks::MAX_TOTAL,
+        PathKind::Free => checks::MAX_TOTAL,
+        PathKind::Big => MAX_BIG_TOTAL,
+    }
+}
+
 // A path's tests in order: 1 to 4, 14, 5 to 7, then its own
 pub fn path(
     kind: PathKind,
@@ -250,7 +271,16 @@ pub fn path(
 ) -> Check
     ensures { λ r. ⌜ r ≡ checked (refusal (pathOf kind) (dayBefore demand capacity setup unit holding store ends) (sizes costs choices slots)) ⌝ }
 {
-    if let Check::Refused(r) = checks::day(demand, capacity, setup, unit, holding, store, ends) {
+    if let Check::Refused(r) = checks::day(
+        demand,
+        capacity,
+        setup,
+        unit,
+        holding,
+        store,
+        ends,
+        limit(kind),
+    ) {
         return Check::Refused(r);
     }
     room(

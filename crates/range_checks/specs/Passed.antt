@@ -12,7 +12,7 @@ use borrow.Author.Tests.{ltb-false, eqb-true, not-false}
 use Rattle.day.specs.declared.Refusal.the-variants.{TableLength, AboveLimit, OpeningInventory, ReversedRange}
 use Rattle.day.specs.Sums.{at}
 use Rattle.day.specs.Find.{none-found, nothing-found}
-use Rattle.day.specs.Day.{Day, periods, total, withDemand}
+use Rattle.day.specs.Day.{Day, periods, total, withDemand, maxTotal}
 use Rattle.day.specs.Refusals.{first, badCount, badLengths, aboveLimit, badSecond, eitherAbove, badValues, tableTests}
 use Rattle.day.specs.Refusals.{pairTests, totalTests, opened, reverses, reversed, shortage}
 use Rattle.day.specs.Tests.{first-split, first-passed, first-one, first-two, not-refused, nowhere, neither}
@@ -46,7 +46,7 @@ pair-passed needs d e =
 
 -- what all tests before 7 leave
 pub record Ranged (lowest : List ℕ) (d : Day) (s : Sizes) : Type 0 where
-  pub day : DayLimits d
+  pub day : DayLimits maxTotal d
   pub low : Limits (withDemand lowest d)
   pub size : length lowest ≡ periods d
   pub costs : full .costCells (periods d) (total d) ≤ s .costs
@@ -56,14 +56,14 @@ pub record Ranged (lowest : List ℕ) (d : Day) (s : Sizes) : Type 0 where
 
 pub range-passed : (lowest : List ℕ) (d : Day) (s : Sizes) → first (rangeTests lowest d s) ≡ none → Ranged lowest d s
 range-passed lowest d s e =
-    let one = first-split (pairTests lowest d) (totalTests d ++ boundTests lowest d s) e in
-    let two = first-split (totalTests d) (boundTests lowest d s) (one .1) in
+    let one = first-split (pairTests lowest d) (totalTests maxTotal d ++ boundTests lowest d s) e in
+    let two = first-split (totalTests maxTotal d) (boundTests lowest d s) (one .1) in
     let pair = pair-passed lowest d (one .0) in
     let three = first-split (areaTest full d s ∷ []) (opened d ∷ reversed lowest d ∷ []) (two .1) in
     let last = first-two (opened d) (reversed lowest d) (three .1) in
     let room = area-passed full d s (rw first-one at (three .0)) in
     record {
-      day = day-passed d (first-passed (tableTests d) (totalTests d) (pair .tables) ∙ two .0);
+      day = day-passed d (first-passed (tableTests d) (totalTests maxTotal d) (pair .tables) ∙ two .0);
       low = tables-passed (withDemand lowest d) (pair .second);
       size = pair .size;
       costs = room .0;

@@ -144,7 +144,7 @@ pub fn tests(
     if let Check::Refused(r) = tables(lowest, demand, capacity, setup, unit, holding, store) {
         return Check::Refused(r);
     }
-    if let Check::Refused(r) = checks::totals(demand, ends) {
+    if let Check::Refused(r) = checks::totals(demand, ends, checks::MAX_TOTAL) {
         return Check::Refused(r);
     }
     bounds(lowest, demand, capacity, store, costs, choices, ends)

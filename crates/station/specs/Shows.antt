@@ -1,6 +1,6 @@
 -- What a C program sees of a call: some answer that the call may give, by its code and its out-array (include/yakkurem.h).
--- Main definitions: `Shows`, and of each kind of call `PathShows`, `EqualShows`, `BoundsShows`, `ReadShows`, `LookupShows`, `WriteShows`, `LoadShows`.
--- Assumes nothing.
+-- Main definitions: `Shows`, and of each kind of call `PathShows`, `EqualShows`, `BoundsShows`, `BigShows`, `ReadShows`, `LookupShows`, `WriteShows`,
+-- `LoadShows`. Assumes nothing.
 use mathlib.Core.Path.{_≡_}
 use mathlib.Core.List.{List}
 use Prim.Native.Nat.{ℕ}
@@ -8,10 +8,11 @@ use denote.Ref.{RefT, now}
 use denote.Triple.Both.{Both}
 use Rattle.day.specs.declared.Ends.{Ends}
 use Rattle.day.specs.declared.Check.{Check}
-use Rattle.day.specs.Figures.{Figures, answerFigures, equalFigures, boundsFigures}
+use Rattle.day.specs.Figures.{Figures, answerFigures, equalFigures, boundsFigures, bigFigures}
 use Rattle.day.specs.Outcome.{Path, Memory, Runs}
 use Rattle.day.specs.Loads.{EqualRuns}
 use Rattle.day.specs.Ranges.{Bounding}
+use Rattle.day.specs.Drops.{Dropping}
 use Rattle.day.specs.Lent.{Lent, dayBefore, tablesBefore, tablesAfter}
 use Rattle.dayfile.specs.Answers.{Reading, Writing, lookupFigures, readFigures, writeFigures}
 use Rattle.test_load.specs.Load.{Loading}
@@ -38,6 +39,10 @@ EqualShows demand capacity setup unit holding store ends before after answer r =
 abbrev pub BoundsShows : (lowest demand capacity setup unit holding store : Lent) → Ends → (before after : Memory) → (answer : Lent) → ℕ → Type 0
 BoundsShows lowest demand capacity setup unit holding store ends before after answer r =
     Shows (λ a. Bounding (now (lowest .entry)) (dayBefore demand capacity setup unit holding store ends) before a after) boundsFigures answer r
+
+abbrev pub BigShows : (trials : ℕ) (demand capacity setup unit holding store : Lent) → Ends → (before after : Memory) → (answer : Lent) → ℕ → Type 0
+BigShows trials demand capacity setup unit holding store ends before after answer r =
+    Shows (λ a. Dropping trials (dayBefore demand capacity setup unit holding store ends) before a after) bigFigures answer r
 
 abbrev pub ReadShows : (file demand capacity setup unit holding store day : Lent) → ℕ → Type 0
 ReadShows file demand capacity setup unit holding store day r =

@@ -5,7 +5,7 @@ ghost use Rattle.day.specs.Day.{endsWith};
 ghost use Rattle.day.specs.Lent.{dayBefore, memoryBefore, memoryAfter, cellsBefore, cellsAfter, areasBefore, areasAfter};
 ghost use Rattle.weigher.specs.Answers.{Weighs, Compares, weighedFigures, comparedFigures};
 ghost use Rattle.price.specs.Price.{priceOf};
-ghost use Rattle.station.specs.Shows.{Shows, PathShows, EqualShows, BoundsShows, ReadShows, LookupShows, WriteShows, LoadShows};
+ghost use Rattle.station.specs.Shows.{Shows, PathShows, EqualShows, BoundsShows, BigShows, ReadShows, LookupShows, WriteShows, LoadShows};
 use day::Check;
 use day::Ends;
 
@@ -185,6 +185,42 @@ pub extern "C" fn yakkurem_bounds(
         ends,
     );
     codes::bounded(a, answer)
+}
+
+// The best plan of a big day in so many trials; the answer is its cost, setups, the trials used, and the gap. No choice area is lent.
+#[no_mangle]
+pub extern "C" fn yakkurem_big(
+    demand: &[u16],
+    capacity: &[u16],
+    setup: &[u32],
+    unit: &[u32],
+    holding: &[u32],
+    store: &[u16],
+    opening: u16,
+    closing: u16,
+    trials: usize,
+    costs: &mut [u64],
+    slots: &mut [u16],
+    answer: &mut [u64; 4],
+) -> u64
+    ensures { λ r. ⌜
+        BigShows trials demand capacity setup unit holding store (endsWith opening closing)
+        (cellsBefore costs slots) (cellsAfter costs slots) answer r ⌝ }
+{
+    let ends = Ends { opening, closing };
+    let a = big::plan(
+        demand,
+        capacity,
+        setup,
+        unit,
+        holding,
+        store,
+        costs,
+        slots,
+        ends,
+        trials,
+    );
+    codes::planned_big(a, answer)
 }
 
 // Weighs a plan; the answer is its cost and setups.

@@ -8,7 +8,7 @@ use borrow.Author.Tests.{le-ltb}
 use Rattle.day.specs.declared.Refusal.the-variants.{LowStore}
 use Rattle.day.specs.Sums.{sumTo, listOf, at-listOf, length-listOf, sum-ext}
 use Rattle.day.specs.Find.{nothing-found}
-use Rattle.day.specs.Day.{Day, noEnds, tablesOf, periods, maxStore, maxPeriods, required}
+use Rattle.day.specs.Day.{Day, noEnds, tablesOf, periods, maxStore, maxPeriods, maxTotal, required}
 use Rattle.day.specs.Refusals.{refuseAt, first, dayTests, tight, lowStore}
 use Rattle.day.specs.declared.Check.the-variants.{Passed}
 use Rattle.checks.specs.Passed.{Within, DayLimits, day-passes}
@@ -69,7 +69,7 @@ required-low seed n few =
     let same = sum-ext _ (draws.need seed) n (λ k l. at-listOf (draws.need seed) n k l) in
     rw (length-listOf (draws.need seed) n) (omega (arith, needs-low seed n, same))
 
-limits : (seed n : ℕ) → 1 ≤ n → n ≤ maxPeriods → DayLimits (loadDay seed n)
+limits : (seed n : ℕ) → 1 ≤ n → n ≤ maxPeriods → DayLimits maxTotal (loadDay seed n)
 limits seed n some few =
     let size = length-listOf (draws.need seed) n in
     record {
@@ -99,11 +99,11 @@ stores seed n few =
 
 -- the day in the tables' first n cells passes 1 to 4, 14 and 16
 pub load-within : (seed n : ℕ) (before after : Day) → Loading seed n before Passed after
-    → let d = firstOf n after noEnds in (first (dayTests d) ≡ none) × (lowStore d ≡ none)
+    → let d = firstOf n after noEnds in (first (dayTests maxTotal d) ≡ none) × (lowStore d ≡ none)
 load-within seed n before after w =
     let c = load-passed n before (w .0) in
     let front : firstOf n after noEnds ≡ loadDay seed n = rw (w .1) (simp with-front) in
     subst
-    (λ (d : Day). (first (dayTests d) ≡ none) × (lowStore d ≡ none))
+    (λ (d : Day). (first (dayTests maxTotal d) ≡ none) × (lowStore d ≡ none))
     (sym front)
     (day-passes (loadDay seed n) (limits seed n (c .nonempty) (c .few)), stores seed n (c .few))

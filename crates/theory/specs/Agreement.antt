@@ -40,16 +40,17 @@ given (Refused r) = some r
 given (Planned t) = none
 
 given-is : (P : Path) (d : Day) (m : Memory) (r : Answer) (after : Memory) → Roomy P d (sizesOf m) → first (P .own d) ≡ none
-    → Runs P d m r after → dayRefusal d ≡ given r
+    → Runs P d m r after → dayRefusal (P .limit) d ≡ given r
 given-is P d m (Refused r) after room kind a = sym (roomy-refusal P d (sizesOf m) room kind) ∙ gives-is (a .0)
 given-is P d m (Planned t) after room kind a = sym (roomy-refusal P d (sizesOf m) room kind) ∙ a .0
 
--- Two paths, on a day of both their kinds and with room for both, accept together, and then give one plan, cost and setups.
+-- Two paths with one limit, on a day of both their kinds and with room for both, accept together, and then give one plan, cost and setups.
 pub paths-agree : (P Q : Path) (d : Day) (m m′ : Memory) (r : Answer) (after : Memory) (q : Answer) (after′ : Memory)
-    → Roomy P d (sizesOf m) → Roomy Q d (sizesOf m′) → first (P .own d) ≡ none → first (Q .own d) ≡ none
+    → P .limit ≡ Q .limit → Roomy P d (sizesOf m) → Roomy Q d (sizesOf m′) → first (P .own d) ≡ none → first (Q .own d) ≡ none
     → Runs P d m r after → Runs Q d m′ q after′ → Agree d r after q after′
-paths-agree P Q d m m′ r after q after′ room room′ kind kind′ a b =
-    go r q a b (sym (given-is P d m r after room kind a) ∙ given-is Q d m′ q after′ room′ kind′ b)
+paths-agree P Q d m m′ r after q after′ limit room room′ kind kind′ a b =
+    go r q a b
+    (sym (given-is P d m r after room kind a) ∙ (ap (λ (l : ℕ). dayRefusal l d) limit ∙ given-is Q d m′ q after′ room′ kind′ b))
   where
     go : (r q : Answer) → Runs P d m r after → Runs Q d m′ q after′ → given r ≡ given q → Agree d r after q after′
     go (Refused r) (Refused q) a b e = Option·some-injective _ _ e
@@ -64,14 +65,14 @@ module _ (d : Day) (m m′ after : Memory) (q : Answer) (after′ : Memory) (roo
   -- Demand 3: where capacities can't either, the uncapped path accepts exactly when the full path does, with the same plan, cost and setups.
   pub uncapped-agrees : (r : Answer) → Roomy uncapped d (sizesOf m) → binding d ≡ none → lowStore d ≡ none
       → Runs uncapped d m r after → Agree d r after q after′
-  uncapped-agrees r room kind loose a = paths-agree uncapped full d m m′ r after q after′ room room′ (rw (kind, loose) refl) refl a b
+  uncapped-agrees r room kind loose a = paths-agree uncapped full d m m′ r after q after′ refl room room′ (rw (kind, loose) refl) refl a b
 
   -- Demand 3: and so does the equal path where capacities are equal; the full path counts no loads.
   pub equal-agrees : (r : EqualAnswer) → Roomy equal d (sizesOf m) → unequal d ≡ none → lowStore d ≡ none
       → EqualRuns d m r after → Agree d (pathAnswer r) after q after′
-  equal-agrees r room kind loose a = paths-agree equal full d m m′ (pathAnswer r) after q after′ room room′ (rw (kind, loose) refl) refl (a .runs) b
+  equal-agrees r room kind loose a = paths-agree equal full d m m′ (pathAnswer r) after q after′ refl room room′ (rw (kind, loose) refl) refl (a .runs) b
 
   -- Demand 3, by document 02, 2.3: and so does the free path where setups cost nothing.
   pub free-agrees : (r : Answer) → Roomy free d (sizesOf m) → paidSetup d ≡ none → lowStore d ≡ none
       → Runs free d m r after → Agree d r after q after′
-  free-agrees r room kind loose a = paths-agree free full d m m′ r after q after′ room room′ (rw (kind, loose) refl) refl a b
+  free-agrees r room kind loose a = paths-agree free full d m m′ r after q after′ refl room room′ (rw (kind, loose) refl) refl a b

@@ -6,9 +6,10 @@ use mathlib.Core.Option.{Option, none, some}
 use Prim.Native.Nat.{ℕ, zero, suc, _+_, _-_, _≤_, _<_}
 use native.Mathlib.Nat.{le-of-suc-le-suc}
 use native.Mathlib.Omega.{arith}
-use lib.ListN.{length, drop, set, length-set}
+use lib.ListN.{length, drop, set, replicate, length-set, length-append, length-drop, length-replicate, getD-replicate, List·getD-append}
 use lib.Seq.{getD-set-same, getD-set-other, drop-set-lt}
 use Rattle.day.specs.Sums.{at}
+use Rattle.day.specs.Outcome.{cleared}
 use Rattle.theory.specs.Model.{Model, Rising, Unlimited, FeasibleTo, OptimalTo}
 use Rattle.theory.specs.Recursion.{optimal-exists}
 use Rattle.theory.specs.Cut.{floor-grows}
@@ -24,6 +25,18 @@ Adds M n need = (k : ℕ) → k < n → M .floor k + need k ≡ M .floor (suc k)
 pub record Fresh (n : ℕ) (slots : List ℕ) : Type 0 where
   pub long : n ≤ length slots
   pub zeros : (k : ℕ) → k < n → at slots k ≡ 0
+
+-- so are n slots cleared
+pub cleared-length : (n : ℕ) (slots : List ℕ) → n ≤ length slots → length (cleared n slots) ≡ length slots
+cleared-length n slots l = simp (length-append, length-drop, length-replicate) (omega arith)
+
+pub cleared-fresh : (n : ℕ) (slots : List ℕ) → n ≤ length slots → Fresh n (cleared n slots)
+cleared-fresh n slots l =
+    record {
+      long = omega (arith, cleared-length n slots l);
+      zeros = λ k h.
+          List·getD-append (replicate n 0) (drop n slots) 0 k (omega (arith, length-replicate {A = ℕ} n 0)) ∙ getD-replicate n k 0 0 h;
+    }
 
 -- The amounts g are the plan, in the first n of the slots, and the others are unchanged.
 pub record Filled (M : Model) (n : ℕ) (slots g : List ℕ) : Type 0 where

@@ -13,7 +13,7 @@ use Rattle.day.specs.declared.Totals.{Totals}
 use Rattle.day.specs.declared.Answer.{Answer}
 use Rattle.day.specs.declared.Answer.the-variants.{Refused, Planned}
 use Rattle.day.specs.Sums.{at}
-use Rattle.day.specs.Day.{Day, periods, total}
+use Rattle.day.specs.Day.{Day, periods, total, maxTotal}
 use Rattle.day.specs.Plan.{Feasible, cost}
 use Rattle.day.specs.InTurn.{ServedTo}
 use Rattle.day.specs.Refusals.{first, dayTests, shortage, FirstShort, paidSetup, lowStore}
@@ -36,9 +36,11 @@ IsPlan (Refused r) = ⊥
 IsPlan (Planned t) = Unit {0}
 
 -- A day within the limits (1 to 4, 14) and of the path's kind, with memory that is long enough: only 7 can be refused.
-module _ (P : Path) (d : Day) (m : Memory) (limits : DayLimits d) (room : Roomy P d (sizesOf m)) (kind : first (P .own d) ≡ none) where
-  only-shortage : refusal P d (sizesOf m) ≡ shortage d
-  only-shortage = roomy-refusal P d (sizesOf m) room kind ∙ (first-passed (dayTests d) (shortage d ∷ []) (day-passes d limits) ∙ first-one (shortage d))
+module _ (P : Path) (d : Day) (m : Memory) (limits : DayLimits (P .limit) d) (room : Roomy P d (sizesOf m)) (kind : first (P .own d) ≡ none) where
+  pub only-shortage : refusal P d (sizesOf m) ≡ shortage d
+  only-shortage =
+      roomy-refusal P d (sizesOf m) room kind
+      ∙ (first-passed (dayTests (P .limit) d) (shortage d ∷ []) (day-passes d limits) ∙ first-one (shortage d))
 
   -- Demand 2: the answer is a plan exactly if some amounts keep the conditions.
   pub planned-iff : (r : Answer) (after : Memory) → Runs P d m r after → IsPlan r ↔ ((x : ℕ → ℕ) × Feasible d x)
@@ -66,7 +68,7 @@ cheapest-first P d m t after runs y f =
     (omega (arith, q .cheap), λ same. smaller-means (periods d) (at (after .slots)) y (q .small (sym e ∙ same)))
 
 -- the full path, which has no test of its own
-module _ (d : Day) (m : Memory) (limits : DayLimits d) (room : Roomy full d (sizesOf m)) where
+module _ (d : Day) (m : Memory) (limits : DayLimits maxTotal d) (room : Roomy full d (sizesOf m)) where
   pub full-planned-iff : (r : Answer) (after : Memory) → Runs full d m r after → IsPlan r ↔ ((x : ℕ → ℕ) × Feasible d x)
   full-planned-iff = planned-iff full d m limits room refl
 

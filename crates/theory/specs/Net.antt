@@ -13,7 +13,7 @@ use lib.Seq.{length-take-le}
 use Rattle.day.specs.declared.Ends.{Ends}
 use Rattle.day.specs.Sums.{at, sumTo, sum-ext, listOf, at-listOf, length-listOf}
 use Rattle.day.specs.Day.{Day, dayOf, endsOf, periods, demandTo, capacityTo, required, total, netTo, net-before, net-end}
-use Rattle.day.specs.Day.{maxPeriods, maxHalfRate, maxTotal}
+use Rattle.day.specs.Day.{maxPeriods, maxCapacity, maxHalfRate, maxTotal}
 use Rattle.checks.specs.Passed.{DayLimits}
 use Rattle.theory.specs.Problem.{Problem, problemWith, Bounded, Supplied}
 use Rattle.theory.specs.Problem as Problem
@@ -53,21 +53,21 @@ pub record Fits (d : Day) : Type 0 where
   pub nonempty : 0 < periods d
   pub used : d .opening ≤ required d
 
--- what the net needs ask to be of 16 bits: there is a period, at most 96 are there, and R + Z is within its limit
+-- what the net needs ask to be of 16 bits: there is a period, there are 96 at most, and R + Z is no more than a capacity of 16 bits can be
 pub record NetFits (d : Day) : Type 0 where
   pub nonempty : 0 < periods d
   pub few : periods d ≤ maxPeriods
-  pub small : required d ≤ maxTotal
+  pub small : required d ≤ maxCapacity
 
 -- what the rates ask to be of 32 bits, and within the loops' limit: no upkeep is above its own
 abbrev pub HalfRates : List ℕ → Type 0
 HalfRates holding = (k : ℕ) → at holding k ≤ maxHalfRate
 
 -- of a day's demands and ends alone, as the function has it that fills the net needs
-limits-net : {d : Day} → DayLimits d → NetFits (dayOf (d .demand) [] [] [] [] [] (endsOf d))
-limits-net g = record { nonempty = g .limits .nonempty; few = g .limits .few; small = g .small }
+limits-net : {limit : ℕ} {d : Day} → limit ≤ maxCapacity → DayLimits limit d → NetFits (dayOf (d .demand) [] [] [] [] [] (endsOf d))
+limits-net low g = record { nonempty = g .limits .nonempty; few = g .limits .few; small = omega (arith, g .small) }
 
-pub limits-fit : {d : Day} → DayLimits d → Fits d
+pub limits-fit : {limit : ℕ} {d : Day} → DayLimits limit d → Fits d
 limits-fit g = record { nonempty = g .limits .nonempty; used = g .used }
 
 -- past a table's end the entries are 0, and so are the rates
@@ -141,7 +141,7 @@ module _ (d : Day) where
     net-limit : (top : ℕ) → required d ≤ top → (k : ℕ) → k < n → at (netNeeds d) k ≤ top
     net-limit top h k l = omega (arith, at-listOf (netNeed d) n k l, net-below (suc k) l)
 
-  limits-half : DayLimits d → HalfRates (d .holding)
+  limits-half : {limit : ℕ} → DayLimits limit d → HalfRates (d .holding)
   limits-half g k = go (decLt k n)
     where
       go : Dec (k < n) → at (d .holding) k ≤ maxHalfRate
@@ -149,22 +149,22 @@ module _ (d : Day) where
       go (no h) = omega (arith, List·getD-eq-default (d .holding) 0 {n = k} (omega (arith, g .limits .lengths .holding)))
 
   -- what filling the two tables asks, where each is the front of n cells of 96; a part from 0 to n has n - 0
-  pub limits-fill : DayLimits d
+  pub limits-fill : {limit : ℕ} → limit ≤ maxCapacity → DayLimits limit d
       → let front : List ℕ = take (n - 0) (replicate maxPeriods 0) in
       (length front ≡ length (d .demand))
       × ((length front ≡ length (d .holding)) × (NetFits (dayOf (d .demand) [] [] [] [] [] (endsOf d)) × HalfRates (d .holding)))
-  limits-fill g =
+  limits-fill low g =
       let l = g .limits in
       let size = length-take-le (n - 0) (replicate {A = ℕ} maxPeriods 0) (omega (arith, l .few, length-replicate {A = ℕ} maxPeriods 0)) in
-      (omega (arith, size), (omega (arith, size, l .lengths .holding), (limits-net g, limits-half g)))
+      (omega (arith, size), (omega (arith, size, l .lengths .holding), (limits-net low g, limits-half g)))
 
   -- and what filling the ceilings asks
-  pub limits-ceilings : DayLimits d
+  pub limits-ceilings : DayLimits maxTotal d
       → (length (take (n - 0) (replicate {A = ℕ} maxPeriods 0)) ≡ length (d .demand))
       × ((length (d .store) ≡ length (d .demand)) × (NetFits (dayOf (d .demand) [] [] [] [] [] (endsOf d)) × (d .opening ≤ required d)))
-  limits-ceilings g = (limits-fill g .0, (g .limits .lengths .store, (limits-net g, g .used)))
+  limits-ceilings g = (limits-fill (omega arith) g .0, (g .limits .lengths .store, (limits-net (omega arith) g, g .used)))
 
-  pub bounded : DayLimits d → Bounded (problemOf d)
+  pub bounded : DayLimits maxTotal d → Bounded (problemOf d)
   bounded g =
       let e = periods-is in
       let l = g .limits in

@@ -36,9 +36,12 @@ pub record Loose (d : Day) : Type 0 where
   pub fits : Fits d
   pub takes : (k : ℕ) → k < periods d → required d ≤ at (d .store) k
 
+pub passed-loose : {limit : ℕ} {d : Day} → DayLimits limit d → lowStore d ≡ none → Loose d
+passed-loose {d} g e = record { fits = limits-fit g; takes = store-passed d e }
+
 -- of a path whose last test is 16, after one of its own
-pub limits-loose : {d : Day} (own : Option Refusal) → DayLimits d → first (own ∷ lowStore d ∷ []) ≡ none → Loose d
-limits-loose {d} own g e = record { fits = limits-fit g; takes = store-passed d (first-two own (lowStore d) e .1) }
+pub limits-loose : {limit : ℕ} {d : Day} (own : Option Refusal) → DayLimits limit d → first (own ∷ lowStore d ∷ []) ≡ none → Loose d
+limits-loose {d} own g e = passed-loose g (first-two own (lowStore d) e .1)
 
 -- one period more, cut off at T
 cut-off : (h m c T U : ℕ) → h ≡ min m T → min (h + c) (min T U) ≡ min (min (m + c) U) T

@@ -181,7 +181,7 @@ fn as_left(costs: &[u64], choices: &[u16], slots: &[u16], needed: Cells, n: usiz
         && cells::amounts_left(slots, n, false)
 }
 
-fn print_plan(t: Totals, plan: &[u16]) {
+pub fn print_plan(t: Totals, plan: &[u16]) {
     print::amounts(plan);
     print::number(b" cost ", t.cost);
     print::number(b" starts ", t.setups);

@@ -173,7 +173,7 @@ fn days(
     }
 }
 
-fn named(name: &[u8]) -> Capacities {
+pub fn named(name: &[u8]) -> Capacities {
     if check::same(name, b"equal") {
         return Capacities::Equal;
     }
@@ -184,7 +184,7 @@ fn named(name: &[u8]) -> Capacities {
 }
 
 // A field begins with the space after its ';'.
-fn stores_of(field: &[u8]) -> Stores {
+pub fn stores_of(field: &[u8]) -> Stores {
     if check::same(field, b" low") {
         return Stores::Low;
     }

@@ -2,8 +2,8 @@
 //! the file stdin beside src/, which says how its lines are laid out; what it writes is compared with the file stdout.
 use day::Ends;
 use libc::STDIN_FILENO;
+use trial_big::call;
 use trial_paths::paths;
-use trial_paths::tiny;
 use trial_text::text;
 
 // The trials of a day, by the line's kind.
@@ -28,6 +28,9 @@ fn day(
     }
     if check::same(kind, b"bounds") {
         return trial_bounds::bounds(line, demand, capacity, setup, unit, holding, store, ends);
+    }
+    if check::same(kind, b"big") {
+        return call::lent(line, demand, capacity, setup, unit, holding, store, ends);
     }
     if check::same(kind, b"write") {
         return trial_files::write(line, demand, capacity, setup, unit, holding, store, ends);
@@ -73,7 +76,10 @@ fn trial(line: &[u8]) {
         return trial_files::file(line);
     }
     if check::same(kind, b"made-up") {
-        return tiny::made_up(line);
+        return trial_paths::tiny::made_up(line);
+    }
+    if check::same(kind, b"made-up-big") {
+        return trial_big::tiny::made_up(line);
     }
     tables(line);
 }

@@ -12,7 +12,7 @@ use mir.Val.{Fits}
 use Rattle.day.specs.declared.Refusal.{Refusal}
 use Rattle.day.specs.Sums.{at, sumTo}
 use Rattle.day.specs.Find.{find}
-use Rattle.day.specs.Day.{Day, periods, demandTo, maxPeriods, maxCapacity, maxSum}
+use Rattle.day.specs.Day.{Day, periods, demandTo, maxPeriods, maxCapacity, maxTotal, maxSum}
 use Rattle.day.specs.Plan.{inventory, costAt, costTo, setupAt}
 use Rattle.day.specs.Refusals.{dayTests, badSlots}
 use Rattle.day.specs.Tests.{first-split}
@@ -66,7 +66,7 @@ module _ (d : Day) (x : ℕ → ℕ) (wide : Wide d x) (low : d .opening < 2 ^ 1
 pub weighed-signed : (d : Day) (plan : List ℕ) → Wide d (at plan) → Signed (weighedOf d plan)
 weighed-signed d plan wide = go (weighRefusal d plan) refl
   where
-    judged : DayLimits d → (f : Option ℕ) → Signed (Judged (verdictAt d (at plan) f))
+    judged : DayLimits maxTotal d → (f : Option ℕ) → Signed (Judged (verdictAt d (at plan) f))
     judged l none = cost-low d (at plan) wide (omega (arith, l .small, l .used)) (periods d) (l .limits .few)
     judged l (some k) = tt
 
@@ -74,5 +74,5 @@ weighed-signed d plan wide = go (weighRefusal d plan) refl
     go (some r) e = tt
     go none e =
         judged
-        (day-passed d (first-split (dayTests d) (badSlots (length plan) (periods d) ∷ []) e .0))
+        (day-passed d (first-split (dayTests maxTotal d) (badSlots (length plan) (periods d) ∷ []) e .0))
         (find (breaks d (at plan)) (periods d))

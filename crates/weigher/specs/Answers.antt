@@ -9,7 +9,7 @@ use lib.ListN.{length, getD}
 use lib.IntN.{ℤ, pos, _-ℤ_}
 use Rattle.day.specs.declared.Refusal.{Refusal}
 use Rattle.day.specs.Sums.{at}
-use Rattle.day.specs.Day.{Day, periods}
+use Rattle.day.specs.Day.{Day, periods, maxTotal}
 use Rattle.day.specs.Refusals.{Gives, first, dayTests, badSlots}
 use Rattle.day.specs.Tests.{gives-is, is-gives}
 use Rattle.day.specs.Figures.{Figures, acceptedWith, refusedWith}
@@ -25,7 +25,7 @@ use Rattle.weigher.specs.Verdict.{verdictOf}
 
 -- 1, 2, 3, 4, 14, 6
 abbrev pub weighRefusal : Day → List ℕ → Option Refusal
-weighRefusal d plan = first (dayTests d ++ (badSlots (length plan) (periods d) ∷ []))
+weighRefusal d plan = first (dayTests maxTotal d ++ (badSlots (length plan) (periods d) ∷ []))
 
 -- the first refusal in order, else the verdict on the plan
 abbrev pub orRefused : Option Refusal → Verdict → Weighed

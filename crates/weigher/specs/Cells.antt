@@ -10,7 +10,7 @@ use lib.ListN.{length, length-append, List·getD-append}
 use borrow.Author.Tests.{le-ltb}
 use Rattle.day.specs.declared.Refusal.the-variants.{FewSlots}
 use Rattle.day.specs.Sums.{at, sum-ext}
-use Rattle.day.specs.Day.{Day, periods}
+use Rattle.day.specs.Day.{Day, periods, maxTotal}
 use Rattle.day.specs.Plan.{setupAt}
 use Rattle.day.specs.Search.{sums-alike, kept-alike, cost-alike}
 use Rattle.day.specs.Refusals.{refuse, first, dayTests}
@@ -71,5 +71,5 @@ cells-past-unread d plan more h = go (decLe 1 (periods d))
     judged = verdict-alike d (at (plan ++ more)) (at plan) (λ k l. List·getD-append plan more 0 k (omega arith))
 
     go : Dec (1 ≤ periods d) → weighedOf d (plan ++ more) ≡ weighedOf d plan
-    go (yes l) = λ i. orRefused (first (dayTests d ++ (refuse (enough i) FewSlots ∷ []))) (judged l i)
+    go (yes l) = λ i. orRefused (first (dayTests maxTotal d ++ (refuse (enough i) FewSlots ∷ []))) (judged l i)
     go (no z) = let e : periods d ≡ 0 = omega arith in rw e refl

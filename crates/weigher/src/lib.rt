@@ -242,7 +242,16 @@ pub fn weigh(
 ) -> Weighed
     ensures { λ r. ⌜ Weighs (dayBefore demand capacity setup unit holding store ends) (now (plan .entry)) r ⌝ }
 {
-    if let Check::Refused(r) = checks::day(demand, capacity, setup, unit, holding, store, ends) {
+    if let Check::Refused(r) = checks::day(
+        demand,
+        capacity,
+        setup,
+        unit,
+        holding,
+        store,
+        ends,
+        checks::MAX_TOTAL,
+    ) {
         return Weighed::Refused(r);
     }
     if plan.len() < demand.len() {

@@ -46,6 +46,7 @@ calls_with_a_day! {
     fn yakkurem_equal(*mut u64, usize, *mut u16, usize, *mut u16, usize, *mut u64);
     fn yakkurem_free(*mut u64, usize, *mut u16, usize, *mut u64);
     fn yakkurem_bounds[*const u16, usize](*mut u64, usize, *mut u16, usize, *mut u64);
+    fn yakkurem_big(usize, *mut u64, usize, *mut u16, usize, *mut u64);
     fn yakkurem_weigh(*const u16, usize, *mut u64);
     fn yakkurem_compare(*const u16, usize, *const u16, usize, *mut i64);
     fn yakkurem_write(*mut u8, usize, *mut u64);
@@ -87,6 +88,10 @@ pub fn bounds(lowest: &[u16], day: Day, costs: &mut [u64], choices: &mut [u16], 
     let (cost_cells, choice_cells) = (costs.len(), choices.len());
     let (costs, choices) = (costs.as_mut_ptr(), choices.as_mut_ptr());
     call_with_day!(yakkurem_bounds[lowest.as_ptr(), lowest.len()], day, costs, cost_cells, choices, choice_cells, answer.as_mut_ptr())
+}
+
+pub fn big(day: Day, trials: usize, costs: &mut [u64], slots: &mut [u16], answer: &mut [u64; 4]) -> u64 {
+    call_with_day!(yakkurem_big, day, trials, costs.as_mut_ptr(), costs.len(), slots.as_mut_ptr(), slots.len(), answer.as_mut_ptr())
 }
 
 pub fn weigh(day: Day, plan: &[u16], answer: &mut [u64; 2]) -> u64 {

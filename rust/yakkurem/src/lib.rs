@@ -76,6 +76,16 @@ pub struct Bounds {
     pub highest: u64,
 }
 
+/// What the call on big days says of its plan. No plan is cheaper than its cost less the gap.
+#[derive(Clone, Copy, Debug, PartialEq, Eq)]
+pub struct BigTotals {
+    pub totals: Totals,
+    /// how many were used
+    pub trials: u64,
+    /// the plan's cost less the least cost with all starts free
+    pub gap: u64,
+}
+
 /// The documents' number of a refusal, and the period that it names; 0 where it names none.
 #[derive(Clone, Copy, Debug, PartialEq, Eq)]
 pub struct Refusal {
@@ -164,6 +174,20 @@ pub fn bounds(lowest: &[u16], day: Day, costs: &mut [u64], choices: &mut [u16]) 
     let mut answer = [0; 2];
     match codes::bounds(lowest, day, costs, choices, &mut answer) {
         0 => Ok(Bounds { lowest: answer[0], highest: answer[1] }),
+        code => Err(refusal(code)),
+    }
+}
+
+/// The plan of a big day, of up to 60,000 watt-hours, that so many trials lead to: the first plans as if starts were free, each further one
+/// also forbids a period, which stays forbidden if the plan is cheaper. It need not be the cheapest; more trials never give a dearer one. It
+/// takes no choice area.
+pub fn big(day: Day, trials: usize, costs: &mut [u64], slots: &mut [u16]) -> Result<BigTotals, Refusal> {
+    let mut answer = [0; 4];
+    match codes::big(day, trials, costs, slots, &mut answer) {
+        0 => {
+            let [cost, setups, trials, gap] = answer;
+            Ok(BigTotals { totals: Totals { cost, setups }, trials, gap })
+        }
         code => Err(refusal(code)),
     }
 }

@@ -41,7 +41,7 @@ work-requires : tie.Need-work-requires
 work-requires c κs =
     let s = begun c in
     let t = tested s in
-    let size = limits-fill (given s) (t .0 .day) .0 in
+    let size = limits-fill (given s) (omega arith) (t .0 .day) .0 in
     low-admitted (t .0) (t .1) _ (omega arith) (omega arith) (omega arith)
 
 work-requires-2 : tie.Need-work-requires-2
@@ -49,7 +49,7 @@ work-requires-2 c κs =
     let called = low c in
     let s = begun (called .before) in
     let t = tested s in
-    let size = limits-fill (given s) (t .0 .day) .0 in
+    let size = limits-fill (given s) (omega arith) (t .0 .day) .0 in
     let kept = called .work .kept .1 .1 .1 .1 .1 .1 in
     high-admitted (t .0) (t .1) _ (omega (arith, kept .0)) (omega (arith, kept .1 .0)) (omega (arith, kept .1 .1 .0))
 

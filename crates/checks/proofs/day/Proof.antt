@@ -10,10 +10,13 @@ use Rattle.checks.specs.Passed.{tables-passed}
 use Rattle.checks.proofs.day.Statement.{statement}
 use Rattle.checks.proofs.day.Tie as tie
 
--- the tables, from the place after the first call
+-- the entry and the tables, from the place after the first call
+abbrev start : tie.After-tables → tie.Start
+start c = c .before .before .before .before .before .before .before
+
 abbrev tables : tie.After-tables → Day
 tables c =
-    let a = c .before .before .before .before .before .before .before .args in
+    let a = start c .args in
     dayOf (a .demand .now) (a .capacity .now) (a .setup .now) (a .unit .now) (a .holding .now) (a .store .now) (a .ends)
 
 -- the tests of the tables passed
@@ -23,7 +26,7 @@ tested c = passed _ (c .before .before .tables .ensures) (c .enum-told .given .1
 returns : tie.Need-returns
 returns c =
     let p = c .before .before .before in
-    group-refused [] (tableTests (tables p)) refl (p .tables .ensures) (totalTests (tables p)) (c .before .r .given .1)
+    group-refused [] (tableTests (tables p)) refl (p .tables .ensures) (totalTests (start p .args .limit) (tables p)) (c .before .r .given .1)
 
 totals-requires : tie.Need-totals-requires
 totals-requires c κs = tables-passed (tables (c .before .before)) (tested c) .few
@@ -32,7 +35,7 @@ returns-2 : tie.Need-returns-2
 returns-2 c =
     let p = c .before in
     let d = tables (p .before .before) in
-    group-decides (tableTests d) (totalTests d) (tested p) (c .totals .ensures)
+    group-decides (tableTests d) (totalTests (start (p .before .before) .args .limit) d) (tested p) (c .totals .ensures)
 
 pub day-spec : {M : Type 1} → statement M
 day-spec = tie.close (tie.spec (λ c κs. search needs) (λ c. search needs) returns (λ c. search needs) totals-requires returns-2)

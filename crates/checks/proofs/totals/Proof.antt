@@ -2,11 +2,12 @@
 use mathlib.Core.Path.{_≡_}
 use mathlib.Core.Bool.{false}
 use mathlib.Core.List.{[]}
+use Prim.Native.Nat.{ℕ}
 use native.Mathlib.Omega.{arith}
 use lib.Dec.{ltb}
 use borrow.Author.Needs.{needs}
 use borrow.Author.Tests.{lt-ltb, le-ltb}
-use Rattle.day.specs.Day.{Day, dayOf, required, maxTotal}
+use Rattle.day.specs.Day.{Day, dayOf, required}
 use Rattle.checks.proofs.totals.Statement.{statement}
 use Rattle.checks.proofs.totals.Tie as tie
 
@@ -14,12 +15,15 @@ use Rattle.checks.proofs.totals.Tie as tie
 abbrev given : tie.After-required → Day
 given c = let a = c .before .before .args in dayOf (a .demand .now) [] [] [] [] [] (a .ends)
 
+abbrev limit : tie.After-required → ℕ
+limit c = c .before .before .args .limit
+
 returns : tie.Need-returns
-returns c = simp (lt-ltb maxTotal (required (given (c .before))) (omega (arith, c .before .required .ensures .is, c .if1 .taken)))
+returns c = simp (lt-ltb (limit (c .before)) (required (given (c .before))) (omega (arith, c .before .required .ensures .is, c .if1 .taken)))
 
 -- 4 passed
-small : (c : tie.Else1) → ltb maxTotal (required (given (c .before))) ≡ false
-small c = le-ltb maxTotal (required (given (c .before))) (omega (arith, c .before .required .ensures .is, c .if1 .left))
+small : (c : tie.Else1) → ltb (limit (c .before)) (required (given (c .before))) ≡ false
+small c = le-ltb (limit (c .before)) (required (given (c .before))) (omega (arith, c .before .required .ensures .is, c .if1 .left))
 
 returns-2 : tie.Need-returns-2
 returns-2 c =

@@ -42,7 +42,7 @@ total-requires c κs = let g = start c .pre .day in (g .limits .few, g .used)
 fill-requires : tie.Need-fill-requires
 fill-requires c κs =
     let s = begun (counted c) in
-    limits-fill (given s) (s .pre .day)
+    limits-fill (given s) (omega arith) (s .pre .day)
 
 fill-ceilings-requires : tie.Need-fill-ceilings-requires
 fill-ceilings-requires c κs =

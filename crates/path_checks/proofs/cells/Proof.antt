@@ -36,10 +36,13 @@ returns-3 c = rw (c .enum-told3 .given .1) (record { costs = refl; choices = ref
 returns-4 : tie.Need-returns-4
 returns-4 c = rw (c .enum-told4 .given .1) (record { costs = refl; choices = refl })
 
+returns-5 : tie.Need-returns-5
+returns-5 c = rw (c .enum-told5 .given .1) (record { costs = refl; choices = refl })
+
 pub cells-spec : {M : Type 1} → statement M
 cells-spec =
     tie.close
     (tie.spec
     (λ c. search needs) (λ c. search needs) (λ c. search needs) (λ c. search needs) mul-t8 (λ c. search needs) (λ c. search needs)
     (λ c. search needs) (λ c. search needs) (λ c. search needs) (λ c. search needs) (λ c. search needs) (λ c. search needs)
-    mul-t15 mul-t16 (λ c. search needs) returns returns-2 returns-3 returns-4)
+    mul-t15 mul-t16 (λ c. search needs) (λ c. search needs) (λ c. search needs) returns returns-2 returns-3 returns-4 returns-5)

@@ -1,9 +1,9 @@
--- `path_checks::own` meets its contract: each short path has its own test and 16 after it, the full path none. Assumes nothing.
+-- `path_checks::own` meets its contract: each short path has its own test and 16 after it, the full path none, big days 16 alone. Assumes nothing.
 use mathlib.Core.List.{[]}
 use borrow.Author.Needs.{needs}
 use Rattle.day.specs.Day.{Day, dayOf}
 use Rattle.day.specs.Refusals.{unequal, binding, paidSetup, lowStore}
-use Rattle.day.specs.Tests.{in-order}
+use Rattle.day.specs.Tests.{in-order, alone}
 use Rattle.path_checks.proofs.own.Statement.{statement}
 use Rattle.path_checks.proofs.own.Tie as tie
 
@@ -32,10 +32,16 @@ returns-4 c =
     let d = tables (told .before .before .before .before .before .before) in
     rw (told .enum-told4 .given .1) (in-order (paidSetup d) (lowStore d) (test .paid .ensures) (c .before .low-store3 .ensures) (c .in-order3 .ensures))
 
+returns-5 : tie.Need-returns-5
+returns-5 c =
+    let told = c .before in
+    let d = tables (told .before .before .before .before .before .before) in
+    rw (told .enum-told5 .given .1) (alone (lowStore d) (c .low-store4 .ensures))
+
 pub own-spec : {M : Type 1} → statement M
 own-spec =
     tie.close
     (tie.spec
     (λ c. search needs) (λ c. search needs) (λ c κs. search needs) (λ c κs. search needs) (λ c κs. search needs) (λ c. search needs)
     (λ c κs. search needs) (λ c κs. search needs) (λ c κs. search needs) (λ c. search needs) (λ c κs. search needs) (λ c κs. search needs)
-    (λ c κs. search needs) (λ c. search needs) returns-2 returns-3 returns-4)
+    (λ c κs. search needs) (λ c. search needs) (λ c κs. search needs) (λ c. search needs) returns-2 returns-3 returns-4 returns-5)

@@ -4,12 +4,12 @@ use mathlib.Core.List.{[]}
 use mathlib.Core.Option.{none}
 use borrow.Author.Needs.{needs}
 use Rattle.day.specs.declared.PathKind.{PathKind}
-use Rattle.day.specs.declared.PathKind.the-variants.{Full, Uncapped, Equal, Free}
+use Rattle.day.specs.declared.PathKind.the-variants.{Full, Uncapped, Equal, Free, Big}
 use Rattle.day.specs.Day.{Day, dayOf, endsOf}
 use Rattle.day.specs.declared.Check.{Check}
 use Rattle.day.specs.Refusals.{checked, first, dayTests}
 use Rattle.day.specs.Tests.{passed, group-refused, group-decides}
-use Rattle.day.specs.Outcome.{Sizes, sizes, pathTests}
+use Rattle.day.specs.Outcome.{Path, Sizes, sizes, pathTests}
 use Rattle.day.specs.Paths.{pathOf}
 use Rattle.checks.specs.Passed.{day-passed}
 use Rattle.path_checks.proofs.path.Statement.{statement}
@@ -23,9 +23,13 @@ four-tables Full d s is = is
 four-tables Uncapped d s is = is
 four-tables Equal d s is = is
 four-tables Free d s is = is
+four-tables Big d s is = is
 
 abbrev start : tie.After-day → tie.Start
-start c = c .before .before .before .before .before .before .before
+start c = c .before .before .before .before .before .before .before .before
+
+abbrev path : tie.After-day → Path
+path c = pathOf (start c .args .kind)
 
 abbrev given : tie.After-day → Day
 given c =
@@ -35,14 +39,18 @@ given c =
 abbrev lent : tie.After-day → Sizes
 lent c = let a = start c .args in sizes (a .costs) (a .choices) (a .slots)
 
--- 1 to 4 and 14 passed
-tested : (c : tie.After-enum-told) → first (dayTests (given (c .before .before))) ≡ none
-tested c = passed (first (dayTests (given (c .before .before)))) (c .before .before .day .ensures) (c .enum-told .given .1)
+-- 1 to 4 and 14, with the path's limit
+answered : (c : tie.After-day) → c .day .result ≡ checked (first (dayTests (path c .limit) (given c)))
+answered c = rw (c .before .limit .ensures) at (c .day .ensures)
+
+-- they passed
+tested : (c : tie.After-enum-told) → let p = c .before .before in first (dayTests (path p .limit) (given p)) ≡ none
+tested c = let p = c .before .before in passed (first (dayTests (path p .limit) (given p))) (answered p) (c .enum-told .given .1)
 
 returns : tie.Need-returns
 returns c =
     let p = c .before .before .before in
-    group-refused [] (dayTests (given p)) refl (p .day .ensures) (pathTests (pathOf (start p .args .kind)) (given p) (lent p)) (c .before .r .given .1)
+    group-refused [] (dayTests (path p .limit) (given p)) refl (answered p) (pathTests (path p) (given p) (lent p)) (c .before .r .given .1)
 
 room-requires : tie.Need-room-requires
 room-requires c κs =
@@ -53,9 +61,8 @@ room-requires c κs =
 returns-2 : tie.Need-returns-2
 returns-2 c =
     let p = c .before .before .before in
-    let kind = start p .args .kind in
-    let is = four-tables kind (given p) (lent p) (c .room .ensures) in
-    group-decides (dayTests (given p)) (pathTests (pathOf kind) (given p) (lent p)) (tested (c .before)) is
+    let is = four-tables (start p .args .kind) (given p) (lent p) (c .room .ensures) in
+    group-decides (dayTests (path p .limit) (given p)) (pathTests (path p) (given p) (lent p)) (tested (c .before)) is
 
 pub path-spec : {M : Type 1} → statement M
-path-spec = tie.close (tie.spec (λ c κs. search needs) (λ c. search needs) returns (λ c. search needs) room-requires returns-2)
+path-spec = tie.close (tie.spec (λ c κs. search needs) (λ c κs. search needs) (λ c. search needs) returns (λ c. search needs) room-requires returns-2)

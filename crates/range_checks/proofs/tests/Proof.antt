@@ -4,7 +4,7 @@ use mathlib.Core.List.{List, [], _∷_, _++_}
 use mathlib.Core.Option.{Option, none}
 use borrow.Author.Needs.{needs}
 use Prim.Native.Nat.{ℕ}
-use Rattle.day.specs.Day.{Day, dayOf}
+use Rattle.day.specs.Day.{Day, dayOf, maxTotal}
 use Rattle.day.specs.declared.Refusal.{Refusal}
 use Rattle.day.specs.Refusals.{first, tableTests, pairTests, totalTests, shortage}
 use Rattle.day.specs.Tests.{passed, group-refused, group-passed, group-decides}
@@ -40,7 +40,7 @@ tested c = passed _ (c .before .before .tables .ensures) (c .enum-told .given .1
 returns : tie.Need-returns
 returns c =
     let p = c .before .before .before in
-    group-refused [] (pairTests (lowest p) (given p)) refl (p .tables .ensures) (totalTests (given p) ++ rest p)
+    group-refused [] (pairTests (lowest p) (given p)) refl (p .tables .ensures) (totalTests maxTotal (given p) ++ rest p)
     (c .before .r .given .1)
 
 totals-requires : tie.Need-totals-requires
@@ -52,7 +52,7 @@ returns-2 : tie.Need-returns-2
 returns-2 c =
     let t = c .before .before .before in
     let p = t .before .before .before in
-    group-refused (pairTests (lowest p) (given p)) (totalTests (given p)) (tested (t .before)) (t .totals .ensures) (rest p)
+    group-refused (pairTests (lowest p) (given p)) (totalTests maxTotal (given p)) (tested (t .before)) (t .totals .ensures) (rest p)
     (c .before .r2 .given .1)
 
 -- 4 and 14 passed too
@@ -62,7 +62,7 @@ bounds-requires c κs =
     let p = t .before .before .before in
     let d = given p in
     let pair = pair-passed (lowest p) d (tested (t .before)) in
-    let day = day-passed d (group-passed (tableTests d) (totalTests d) (pair .tables) (t .totals .ensures) (c .enum-told2 .given .1)) in
+    let day = day-passed d (group-passed (tableTests d) (totalTests maxTotal d) (pair .tables) (t .totals .ensures) (c .enum-told2 .given .1)) in
     let lengths = day .limits .lengths in
     (pair .size, (lengths .capacity, (lengths .store, (day .limits .few, day .used))))
 
@@ -73,8 +73,8 @@ returns-3 c =
     let p = t .before .before .before in
     let d = given p in
     let pair = pairTests (lowest p) d in
-    let ok = group-passed pair (totalTests d) (tested (t .before)) (t .totals .ensures) (told .enum-told2 .given .1) in
-    group-decides (pair ++ totalTests d) (rest p) ok (c .bounds .ensures)
+    let ok = group-passed pair (totalTests maxTotal d) (tested (t .before)) (t .totals .ensures) (told .enum-told2 .given .1) in
+    group-decides (pair ++ totalTests maxTotal d) (rest p) ok (c .bounds .ensures)
 
 pub tests-spec : {M : Type 1} → statement M
 tests-spec =

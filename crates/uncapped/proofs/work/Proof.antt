@@ -37,7 +37,7 @@ abbrev lent : tie.Start → Memory
 lent s = let a = s .args in memoryOf (a .costs .now) (a .choices .now) (a .slots .now)
 
 fill-requires : tie.Need-fill-requires
-fill-requires c κs = let s = opened (lending c) in limits-fill (given s) (s .pre .day)
+fill-requires c κs = let s = opened (lending c) in limits-fill (given s) (omega arith) (s .pre .day)
 
 solve-requires : tie.Need-solve-requires
 solve-requires c κs = let f = at-fill c in let s = begun f in solvable (given s) (lent s) (s .pre) _ _ (f .fill .ensures)

@@ -8,7 +8,7 @@ use borrow.Author.Needs.{needs}
 use borrow.Author.Tests.{lt-ltb, le-ltb}
 use lib.ListN.{length}
 use Rattle.day.specs.Sums.{at}
-use Rattle.day.specs.Day.{Day, dayOf, periods}
+use Rattle.day.specs.Day.{Day, dayOf, periods, maxTotal}
 use Rattle.day.specs.Refusals.{first, dayTests, badSlots}
 use Rattle.day.specs.Tests.{passed, refused, is-gives, first-refused, first-passed, first-one}
 use Rattle.checks.specs.Passed.{day-passed}
@@ -28,7 +28,7 @@ abbrev slots : tie.After-day → List ℕ
 slots c = at-start c .args .plan .now
 
 -- the tests of the day passed
-tested : (c : tie.After-enum-told) → first (dayTests (tables (c .before .before))) ≡ none
+tested : (c : tie.After-enum-told) → first (dayTests maxTotal (tables (c .before .before))) ≡ none
 tested c = passed _ (c .before .before .day .ensures) (c .enum-told .given .1)
 
 -- so the plan's length decides
@@ -37,13 +37,13 @@ decides : (c : tie.After-enum-told)
 decides c =
     let p = c .before .before in
     let last = badSlots (length (slots p)) (periods (tables p)) in
-    first-passed (dayTests (tables p)) (last ∷ []) (tested c) ∙ first-one last
+    first-passed (dayTests maxTotal (tables p)) (last ∷ []) (tested c) ∙ first-one last
 
 returns : tie.Need-returns
 returns c =
     let p = c .before .before .before in
     let last = badSlots (length (slots p)) (periods (tables p)) in
-    is-gives (first-refused (dayTests (tables p)) (last ∷ []) (refused _ (p .day .ensures) (c .before .r .given .1)))
+    is-gives (first-refused (dayTests maxTotal (tables p)) (last ∷ []) (refused _ (p .day .ensures) (c .before .r .given .1)))
 
 walk-requires : tie.Need-walk-requires
 walk-requires c κs =

@@ -1,4 +1,4 @@
--- `equal_rows::copy` meets its contract. The invariant: the first i cells are alike. Assumes nothing.
+-- `areas::copy` meets its contract. The invariant: the first i cells are alike. Assumes nothing.
 use mathlib.Core.Path.{_≡_, refl, sym, ap, _∙_}
 use mathlib.Core.List.{List, [], _∷_, _++_}
 use Prim.Native.Nat.{ℕ, _+_, _-_, _≤_, _<_}
@@ -7,8 +7,8 @@ use native.Mathlib.Numerals.{add-one}
 use native.Mathlib.Omega.{arith}
 use lib.ListN.{length, take, set, getD, length-set}
 use lib.Seq.{take-suc, take-suc-set, take-all}
-use Rattle.equal_rows.proofs.copy.Statement.{statement}
-use Rattle.equal_rows.proofs.copy.Tie as tie
+use Rattle.areas.proofs.copy.Statement.{statement}
+use Rattle.areas.proofs.copy.Tie as tie
 
 one-more : (from to : List ℕ) (i : ℕ) → i < length from → i < length to → take i to ≡ take i from
     → take (i + 1) (set to i (getD from i 0)) ≡ take (i + 1) from

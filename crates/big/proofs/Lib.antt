@@ -1,0 +1,2 @@
+-- Laws of the work.
+pub mod Entry
