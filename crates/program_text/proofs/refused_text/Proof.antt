@@ -1,8 +1,8 @@
--- `plan_text::refused_text` meets its contract: the line is the refusal's that the answer holds. Assumes nothing.
+-- `program_text::refused_text` meets its contract: the line is the refusal's that the answer holds. Assumes nothing.
 use borrow.Author.Needs.{needs}
-use Rattle.plan_text.specs.Laws.{answer-refused, answer-accepted}
-use Rattle.plan_text.proofs.refused_text.Statement.{statement}
-use Rattle.plan_text.proofs.refused_text.Tie as tie
+use Rattle.program_text.specs.Laws.{answer-refused, answer-accepted}
+use Rattle.program_text.proofs.refused_text.Statement.{statement}
+use Rattle.program_text.proofs.refused_text.Tie as tie
 
 returns : tie.Need-returns
 returns c =
