@@ -1,49 +1,13 @@
-//! The program `dayplan`, run by its script as a station runs it: what it prints beside the plain implementation, and that it
-//! tells of an input or an output that fails.
-//!
-//!     programs [SEED]
+//! The files that `dayplan` is run on.
+use crate::printed::{alone, DAYPLAN, LONGEST};
+use crate::runs::Runs;
 use outside::input::{self, Call, Size, With};
-use outside::plain::{self, Day, Path, NO_LIMIT};
+use outside::plain::{self, Day, NO_LIMIT};
 use outside::random::Random;
-use std::fs::{self, File};
-use std::io::Write;
-use std::path::PathBuf;
-use std::process::{Command, Output, Stdio};
-use std::thread::sleep;
-use std::time::Duration;
-
-const SEED: u64 = 1979;
-
-/// The papers': the longest file that the program reads, and the cells of its areas.
-const LONGEST: usize = 1832;
-const COSTS: usize = 1000;
-const CHOICES: usize = 24_000;
-
-/// What the program prints on a file.
-fn printed(file: &[u8]) -> String {
-    let refused = |refusal: &plain::Refusal| format!("refused {} period {}\n", refusal.number, refusal.period);
-    if file.len() > LONGEST {
-        return refused(&plain::Refusal { number: 12, period: 0 });
-    }
-    if let Some(refusal) = plain::read_refusals(file, plain::MAX_PERIODS).first() {
-        return refused(refusal);
-    }
-    let day = plain::day_in(file, &plain::walk(file).unwrap());
-    if let Some(refusal) = plain::path_refusals(Path::Full, &day, COSTS, CHOICES, plain::MAX_PERIODS).first() {
-        return refused(refusal);
-    }
-    let planned = plain::plan(&day).expect("no plan, and no shortage");
-    let mut text = format!("periods {} cost {} starts {}\n", day.periods(), planned.totals.cost, planned.totals.setups);
-    let mut made = 0;
-    for (i, &amount) in planned.plan.iter().enumerate() {
-        made += amount as u64;
-        text += &format!("{} made {amount} left {}\n", i + 1, day.left(i + 1, made));
-    }
-    text
-}
+use std::path::Path;
 
 /// A day of n periods that needs `total` in all, as evenly as can be, with uneven costs and no store limits.
-fn day(n: usize, total: usize) -> Day {
+pub fn day(n: usize, total: usize) -> Day {
     let cost = |factor: usize, high: usize| (0..n).map(|i| (1 + factor * i % high) as u32).collect();
     Day {
         demand: (0..n).map(|i| (total * (i + 1) / n - total * i / n) as u16).collect(),
@@ -58,14 +22,14 @@ fn day(n: usize, total: usize) -> Day {
 }
 
 /// A file, what it is, and what the papers say of it, where it is in one line.
-type Case = (&'static str, Vec<u8>, Option<&'static str>);
+pub type Case = (&'static str, Vec<u8>, Option<&'static str>);
 
-fn with(mut file: Vec<u8>, more: &[u8]) -> Vec<u8> {
+pub fn with(mut file: Vec<u8>, more: &[u8]) -> Vec<u8> {
     file.extend(more);
     file
 }
 
-fn m4() -> Day {
+pub fn m4() -> Day {
     let (demand, capacity, store) = (vec![2, 3], vec![5; 2], vec![NO_LIMIT; 2]);
     Day { demand, capacity, setup: vec![10; 2], unit: vec![1; 2], holding: vec![1; 2], store, opening: 0, closing: 0 }
 }
@@ -200,114 +164,40 @@ fn files_with_stores() -> Vec<Case> {
     ]
 }
 
-/// The runs so far.
-struct Runs {
-    root: PathBuf,
-    count: usize,
+pub fn files_of_all_kinds() -> Vec<Case> {
+    [files(), files_with_ends(), files_with_holding(), files_with_stores()].concat()
 }
 
-impl Runs {
-    fn script(&self) -> Command {
-        let mut command = Command::new(self.root.join("dayplan"));
-        command.current_dir(&self.root);
-        command
-    }
-
-    /// A file of the tests' own.
-    fn put(&self, name: &str, bytes: &[u8]) -> PathBuf {
-        let path = self.root.join("target/programs").join(name);
-        fs::create_dir_all(path.parent().unwrap()).unwrap();
-        fs::write(&path, bytes).unwrap();
-        path
-    }
-
-    fn answers(&mut self, what: &str, output: Output, expected: &str) {
-        let (stdout, stderr) = (String::from_utf8_lossy(&output.stdout), String::from_utf8_lossy(&output.stderr));
-        assert!(
-            stdout == expected && stderr.is_empty() && output.status.success(),
-            "dayplan on {what}: {}\nexpected:\n{expected}seen:\n{stdout}{stderr}",
-            output.status
-        );
-        self.count += 1;
-    }
-
-    fn on_file(&mut self, what: &str, bytes: &[u8]) {
-        let file = File::open(self.put("in.day", bytes)).unwrap();
-        let output = self.script().stdin(file).output().unwrap();
-        self.answers(what, output, &printed(bytes));
-    }
-
-    /// The file comes through a pipe, a piece at a time.
-    fn in_pieces(&mut self, bytes: &[u8], piece: usize) {
-        let mut child = self.script().stdin(Stdio::piped()).stdout(Stdio::piped()).stderr(Stdio::piped()).spawn().unwrap();
-        let mut pipe = child.stdin.take().unwrap();
-        for part in bytes.chunks(piece) {
-            pipe.write_all(part).unwrap();
-            sleep(Duration::from_millis(1));
-        }
-        drop(pipe);
-        let output = child.wait_with_output().unwrap();
-        self.answers(&format!("pieces of {piece} bytes"), output, &printed(bytes));
-    }
-
-    /// A command of the shell in which input or output fails: `$day` is a file, `$to` one that can be written, `$run` the script
-    /// or the program. Both are to say so on standard error, and the script by its status.
-    fn fails(&mut self, what: &str, command: &str, bytes: &[u8]) {
-        let (day, to) = (self.put("in.day", bytes), self.put("out", b""));
-        for run in ["dayplan", "target/bin/dayplan"] {
-            let run = self.root.join(run);
-            let output = Command::new("sh").args(["-c", command]).env("day", &day).env("to", &to).env("run", &run).output().unwrap();
-            let told = !output.stderr.is_empty();
-            let ended = !output.status.success() || run.ends_with("bin/dayplan");
-            assert!(told && ended, "{}, {what}: {}, {output:?}", run.display(), output.status);
-            self.count += 1;
-        }
-    }
-
-    /// Nobody reads what is printed: the signal ends the program, and the script by it.
-    fn reader_gone(&mut self, bytes: &[u8]) {
-        let mut child = self.script().stdin(Stdio::piped()).stdout(Stdio::piped()).stderr(Stdio::null()).spawn().unwrap();
-        drop(child.stdout.take());
-        child.stdin.take().unwrap().write_all(bytes).unwrap();
-        assert!(!child.wait().unwrap().success(), "dayplan, with nobody to read what it prints");
-        self.count += 1;
-    }
+/// A made-up file, or a changed one.
+pub fn made_up(random: &mut Random, size: Size, with: With, changed: bool) -> Vec<u8> {
+    let make = if changed { input::changed } else { input::valid };
+    make(random, Call::Read, size, with).file
 }
 
-fn main() {
-    let seed = match std::env::args().nth(1) {
-        None => SEED,
-        Some(word) => word.parse().expect("the seed is a number"),
-    };
-    let root = PathBuf::from(env!("CARGO_MANIFEST_DIR")).parent().unwrap().to_path_buf();
-    let mut runs = Runs { root, count: 0 };
-    for (what, file, line) in [files(), files_with_ends(), files_with_holding(), files_with_stores()].concat() {
+/// How many of them are run, with what in their days.
+pub const MADE_UP: [(With, usize); 3] = [(With::NOTHING, 60), (With::ENDS, 40), (With::BOTH, 40)];
+
+/// Gives how many runs there were.
+pub fn run(root: &Path, random: &mut Random) -> usize {
+    let mut runs = Runs::new(root, DAYPLAN);
+    for (what, file, line) in files_of_all_kinds() {
+        let given = alone(file);
         if let Some(line) = line {
-            assert_eq!(printed(&file), line, "{what}");
+            assert_eq!(runs.program.printed(&given), line, "{what}");
         }
-        runs.on_file(what, &file);
+        runs.on(what, &given);
     }
-    let mut random = Random::new(seed);
-    for (with, times) in [(With::NOTHING, 60), (With::ENDS, 40), (With::BOTH, 40)] {
+    for (with, times) in MADE_UP {
         for _ in 0..times {
             let size = random.pick(&[Size::Tiny, Size::Middle, Size::Long]);
-            let file = input::valid(&mut random, Call::Read, size, with).file;
-            runs.on_file("a made-up file", &file);
-            let file = input::changed(&mut random, Call::Read, size, with).file;
-            runs.on_file("a changed file", &file);
+            runs.on("a made-up file", &alone(made_up(random, size, with, false)));
+            runs.on("a changed file", &alone(made_up(random, size, with, true)));
         }
     }
-    let longest = plain::file_of(&Day { closing: 1, opening: 1, store: vec![200; 96], ..day(96, 249) });
+    let longest = alone(plain::file_of(&Day { closing: 1, opening: 1, store: vec![200; 96], ..day(96, 249) }));
     for piece in [1, 16, 100, 1000] {
         runs.in_pieces(&longest, piece);
     }
-    for file in [&longest[..], b"\x07"] {
-        runs.fails("standard output closed", "\"$run\" < \"$day\" >&-", file);
-        runs.fails("a full device", "\"$run\" < \"$day\" > /dev/full", file);
-        runs.reader_gone(file);
-    }
-    runs.fails("a disk that fills up after some of it", "trap '' XFSZ; ulimit -f 1; \"$run\" < \"$day\" > \"$to\"", &longest);
-    runs.fails("standard input closed", "\"$run\" <&-", &[]);
-    runs.fails("a folder for a file", "\"$run\" < /", &[]);
-    println!("programs: seed {seed}, {} runs of dayplan, each as it should be", runs.count);
+    runs.all_fail(&longest, &alone(b"\x07".to_vec()));
+    runs.count
 }
