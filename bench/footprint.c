@@ -19,7 +19,7 @@ static uint16_t opening, closing;
 #define AREAS costs, sizeof costs / sizeof *costs, choices, sizeof choices / sizeof *choices
 #define MEMORY AREAS, plan, PERIODS
 
-static uint64_t answer[4], code;
+static uint64_t answer[5], code;
 static int64_t difference[1];
 
 static void full(void) { code = yakkurem_full(DAY, MEMORY, answer); }
@@ -30,6 +30,7 @@ static void bounds(void) { code = yakkurem_bounds(lowest, n, DAY, AREAS, answer)
 static void big(void) { code = yakkurem_big(DAY, 1000, costs, 3 * PERIODS, plan, PERIODS, answer); }
 static void weigh(void) { code = yakkurem_weigh(DAY, plan, PERIODS, answer); }
 static void compare(void) { code = yakkurem_compare(DAY, plan, PERIODS, plan, PERIODS, difference); }
+static void play(void) { code = yakkurem_play(DAY, plan, PERIODS, lowest, n, answer); }
 static void write_file(void) {
     code = yakkurem_write(DAY, file, sizeof file, answer);
     if (code == 0) file_length = answer[0];
@@ -52,8 +53,8 @@ static void test_load(void) {
 static const struct { const char *name; void (*call)(void); } calls[] = {
     {"yakkurem_full", full}, {"yakkurem_uncapped", uncapped}, {"yakkurem_equal", equal}, {"yakkurem_free", free_path},
     {"yakkurem_bounds", bounds}, {"yakkurem_big", big}, {"yakkurem_weigh", weigh}, {"yakkurem_compare", compare},
-    {"yakkurem_write", write_file}, {"yakkurem_read", read_file}, {"yakkurem_lookup", lookup}, {"yakkurem_test_load", test_load},
-    {"yakkurem_price", price},
+    {"yakkurem_play", play}, {"yakkurem_write", write_file}, {"yakkurem_read", read_file}, {"yakkurem_lookup", lookup},
+    {"yakkurem_test_load", test_load}, {"yakkurem_price", price},
 };
 enum { CALLS = sizeof calls / sizeof *calls };
 
@@ -86,7 +87,7 @@ static size_t taken(void (*call)(void), unsigned char paint) {
 /* Days of 1 to 96 periods: the whole need in one period or spread, half of it charge to hand on, with some to begin with, or spread and
  * as much as only a big day may need; costs at their limits or small, with and without start costs; capacities that can't bind, equal
  * ones that are just enough, and ones that are too small; a store limit in every other period, or none. The lowest needs are half the
- * needs, rounded down. The file that is read was written of the same day. */
+ * needs, rounded down, and are what a plan is played against. The file that is read was written of the same day. */
 static void make(size_t periods, int shape, int starts, uint16_t most, int limited) {
     n = periods;
     opening = shape == 3 ? 100 : 0;

@@ -21,8 +21,8 @@
  * Every call but yakkurem_price returns a code:
  *     0                                   accepted
  *     number + 256 * period               refused: the number is 1 to 19, the period 0 where none is named
- *     101 to 104 + 256 * period           a weighed plan breaks a rule: above capacity (101), short (102), charge over at the
- *                                         end (103), above store (104)
+ *     101 to 104 + 256 * period           a plan to weigh or to play breaks a rule: above capacity (101), short (102), charge
+ *                                         over at the end (103), above store (104)
  *
  * Refusals, of which the first in a call's order is given:
  *      1  n is 0 or above 96
@@ -131,6 +131,17 @@ uint64_t yakkurem_weigh(YAKKUREM_DAY, const uint16_t *plan, size_t amounts, uint
  * is cheaper. Where one breaks a rule its verdict is given, the first one's if both do. Refusals as yakkurem_weigh. */
 uint64_t yakkurem_compare(
     YAKKUREM_DAY, const uint16_t *first, size_t first_amounts, const uint16_t *second, size_t second_amounts, int64_t difference[1]);
+
+/* Plays somebody's plan through, against a table of actual needs in place of those that it was made for. In each period the cell
+ * makes its amount; the actual need is delivered as far as charge reaches, and the rest of it is missed; then charge above store
+ * is spilled. Accepted, the plan holds, and answer holds what was made, delivered, missed and spilled over the day, and the charge
+ * left after period n: opening + made = delivered + spilled + left, and delivered + missed = the actual needs over the day. A plan
+ * that breaks a rule is not played, and gets its verdict as from yakkurem_weigh, on the day's own needs. An actual need is at most
+ * 4096; over the day they have no limit, for 4, 14 and the rules of a plan are on the day's own. Refusals in order: 1, 2, 3, 4, 14,
+ * 6; 2 and 3 of the actual needs too (3 names the first period in which any value is above its limit). Amounts past n are not
+ * read. */
+uint64_t yakkurem_play(
+    YAKKUREM_DAY, const uint16_t *plan, size_t amounts, const uint16_t *actual, size_t actuals, uint64_t answer[5]);
 
 /* Reads a day file: exactly if opening or closing is above 0, a first record of 5 bytes (kind 3, then opening 2, closing 2
  * bytes); then period records, of 17 bytes (kind 1, then need 2, capacity 2, start 4, unit 4, upkeep 4 bytes) where store is

@@ -7,7 +7,7 @@ mod plain;
 
 use plain::{Day, Path};
 use std::hint::black_box;
-use yakkurem::{BigTotals, Memory, TablesMut};
+use yakkurem::{BigTotals, Memory, Play, TablesMut};
 
 const ROUNDS: usize = 9;
 
@@ -352,6 +352,50 @@ fn compare_big(trials: usize, day: &Day) -> (BigTotals, Spread, Spread) {
     (planned, spread(times), spread(ratios))
 }
 
+fn weigh(day: &Day, plan: &[u16]) -> u64 {
+    let Day { demand, capacity, setup, unit, holding, store, .. } = day;
+    let day = yakkurem::Day { demand, capacity, setup, unit, holding, store, opening: 0, closing: 0 };
+    yakkurem::weigh(day, plan).expect("a plan that holds").cost
+}
+
+fn play(day: &Day, plan: &[u16], actual: &[u16]) -> [u64; 5] {
+    let Day { demand, capacity, setup, unit, holding, store, .. } = day;
+    let day = yakkurem::Day { demand, capacity, setup, unit, holding, store, opening: 0, closing: 0 };
+    let Play { produced, delivered, lost, disposed, left } = yakkurem::play(day, plan, actual).expect("a plan that holds");
+    [produced, delivered, lost, disposed, left]
+}
+
+/// The call that plays a plan beside the weigher, whose work is part of it.
+fn with_plays(seed: u32) {
+    println!("\n## Plans played\n");
+    println!(
+        "n is 96; the full path's plan, with one store limit of 50 in every period, against needs as planned, and against those that the next \
+         seed draws. Beside the call the weigher on the same plan; the plain program weighs it too, but leaves out its cost.\n"
+    );
+    println!("| Capacity | Actual needs | Missed | Spilled | Weigher | Call | To the plain program |");
+    println!("|---|---|---|---|---|---|---|");
+    for capacity in [Capacity::One(60), Capacity::One(65_535)] {
+        let day = Day { store: vec![50; 96], ..capacity.set_in(drawn(seed, 96)) };
+        let mut areas = Areas::of(Path::Full, &day);
+        library(Path::Full, &day, &mut areas);
+        let plan = &areas.slots;
+        for (needs, actual) in [("as planned", &day.demand), ("the next seed's", &drawn(seed + 1, 96).demand)] {
+            let played = play(&day, plan, actual);
+            assert_eq!(methods::play(&day, plan, actual), Some(played), "the plain program gives another answer");
+            let (mut weighed, mut times, mut ratios) = (vec![], vec![], vec![]);
+            for _ in 0..ROUNDS {
+                weighed.push(time(|| weigh(black_box(&day), plan)));
+                let library = time(|| play(black_box(&day), plan, actual)[4]);
+                let same = time(|| methods::play(black_box(&day), plan, actual).expect("a plan that holds")[4]);
+                times.push(library);
+                ratios.push(library / same);
+            }
+            let [weighed, times] = [weighed, times].map(|times| spread(times).time());
+            println!("| {capacity} | {needs} | {} | {} | {weighed} | {times} | {} |", played[2], played[3], spread(ratios).ratio());
+        }
+    }
+}
+
 const LOADS: usize = 25;
 
 /// How much dearer the trials' plans are than the cheapest, on days that the full path plans too.
@@ -432,7 +476,7 @@ fn main() {
     println!(
         "The days are test loads of request 2.7, drawn by `yakkurem_test_load` with seed {seed}, the first whose load of 96 periods has a \
          plan. Where a table names a capacity, a store limit, other start costs or other needs, these take the place of the drawn ones; all else \
-         is as drawn. The days have no charge at their ends, so R is T, and but for one table no store limits.\n"
+         is as drawn. The days have no charge at their ends, so R is T, and but for two tables no store limits.\n"
     );
     println!(
         "Times are the thread's processor time on x86-64 Linux. A figure is the median of {ROUNDS} rounds, with the smallest and the \
@@ -456,6 +500,7 @@ fn main() {
     with_ranges(seed);
     with_big_days(seed);
     beside_the_cheapest();
+    with_plays(seed);
     with_n(seed);
     with_need(seed);
 }

@@ -1,6 +1,6 @@
-//! Plain programs of the methods of the four paths and of the call on big days, on the same lent memory, for comparison of speed.
-//! They are for days without charge at the ends, all but the full path's for days without store limits; they test nothing and leave
-//! their areas as they are.
+//! Plain programs of the methods of the four paths and of the call on big days, on the same lent memory, and of the call that plays a plan,
+//! for comparison of speed. They are for days without charge at the ends, all but the full path's and the play for days without store limits;
+//! but for the play, which weighs its plan, they test nothing, and they leave their areas as they are.
 use crate::plain::Day;
 
 fn production(day: &Day, i: usize, x: u64) -> u64 {
@@ -255,4 +255,36 @@ fn read_back(full: u16, picks: &[u16], width: usize, top: usize, amounts: &mut [
             _ => 1,
         };
     }
+}
+
+/// A plan weighed, then played against actual needs: made, delivered, missed, spilled, left; none where it breaks a rule.
+pub fn play(day: &Day, plan: &[u16], actual: &[u16]) -> Option<[u64; 5]> {
+    let mut planned = 0;
+    for i in 0..day.periods() {
+        planned += plan[i] as u64;
+        if plan[i] > day.capacity[i] || planned < day.demand[i] as u64 {
+            return None;
+        }
+        planned -= day.demand[i] as u64;
+        if planned > day.store[i] as u64 {
+            return None;
+        }
+    }
+    if planned > 0 {
+        return None;
+    }
+    let [mut produced, mut delivered, mut lost, mut disposed, mut left] = [0; 5];
+    for i in 0..day.periods() {
+        let (amount, need) = (plan[i] as u64, actual[i] as u64);
+        left += amount;
+        produced += amount;
+        let served = need.min(left);
+        delivered += served;
+        lost += need - served;
+        left -= served;
+        let over = left.saturating_sub(day.store[i] as u64);
+        disposed += over;
+        left -= over;
+    }
+    Some([produced, delivered, lost, disposed, left])
 }

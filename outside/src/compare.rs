@@ -2,7 +2,7 @@
 use crate::input::{Call, Input};
 use crate::plain::{self, Loads, Path, Rule, Verdict};
 use crate::random::mix;
-use yakkurem::{codes, fault, BigTotals, Bounds, Day, EqualTotals, Fault, Filled, Memory, Refusal, TablesMut, Totals};
+use yakkurem::{codes, fault, BigTotals, Bounds, Day, EqualTotals, Fault, Filled, Memory, Play, Refusal, TablesMut, Totals};
 
 /// Everything that a caller can see after a call: its code, its out-array, and each lent part, with the cells around them.
 #[derive(Clone, Debug, PartialEq)]
@@ -87,7 +87,7 @@ fn before(input: &Input) -> Vec<Vec<u64>> {
         Call::Free | Call::Bounds | Call::Big => vec![wide::<u64>(&pattern(0, l[0])), wide::<u16>(&pattern(1, l[1]))],
         Call::Read => tables_before(l),
         Call::Write => vec![wide::<u8>(&pattern(0, l[0]))],
-        Call::Weigh | Call::Compare | Call::Lookup => vec![],
+        Call::Weigh | Call::Compare | Call::Play | Call::Lookup => vec![],
     }
 }
 
@@ -110,7 +110,8 @@ pub fn fill_tables(lent: &mut [Vec<u64>], day: &plain::Day) {
 
 const NO_PLAN: &str = "no plan, and no shortage";
 
-fn broken(rule: Rule, period: usize) -> u64 {
+/// The code of a broken plan.
+pub fn broken(rule: Rule, period: usize) -> u64 {
     let number = match rule {
         Rule::AboveCapacity => 101,
         Rule::Short => 102,
@@ -175,11 +176,24 @@ fn accepted_comparison(input: &Input, seen: &mut Seen) {
     }
 }
 
+/// The weigher's verdict of a broken plan, the play of one that holds.
+fn accepted_play(input: &Input, seen: &mut Seen) {
+    let Input { day, actual, plans, .. } = input;
+    match plain::verdict(day, &plans[0]) {
+        Verdict::Holds(_) => {
+            let plain::Play { produced, delivered, lost, disposed, left } = plain::play(day, &plans[0], actual);
+            fill(&mut seen.out, &[produced, delivered, lost, disposed, left]);
+        }
+        Verdict::Broken(rule, period) => seen.code = broken(rule, period),
+    }
+}
+
 /// What the papers say.
 pub fn expected(input: &Input) -> Seen {
     let unwritten = match input.call {
         Call::Full | Call::Uncapped | Call::Free | Call::Bounds | Call::Weigh | Call::Lookup => wide::<u64>(&out(2)),
         Call::Equal | Call::Big => wide::<u64>(&out(4)),
+        Call::Play => wide::<u64>(&out(5)),
         Call::Compare => wide::<i64>(&out(1)),
         Call::Read => wide::<u64>(&out(3)),
         Call::Write => wide::<u64>(&out(1)),
@@ -201,6 +215,7 @@ pub fn expected(input: &Input) -> Seen {
             Verdict::Broken(rule, period) => seen.code = broken(rule, period),
         },
         Call::Compare => accepted_comparison(input, &mut seen),
+        Call::Play => accepted_play(input, &mut seen),
         Call::Read => {
             let day = plain::day_in(&input.file, &plain::walk(&input.file).unwrap());
             fill_tables(&mut seen.lent, &day);
@@ -288,6 +303,11 @@ pub fn actual(given: &Input) -> Seen {
             let code = codes::compare(day(input), &input.plans[0], &input.plans[1], array(&mut difference));
             Seen { code, out: wide(&difference), lent: vec![] }
         }
+        Call::Play => {
+            let mut answer = out(5);
+            let code = codes::play(day(input), &input.plans[0], &input.actual, array(&mut answer));
+            Seen { code, out: wide(&answer), lent: vec![] }
+        }
         Call::Read => run_read(input),
         Call::Lookup => {
             let mut part = out(2);
@@ -348,6 +368,26 @@ pub fn big_promises_kept(input: &Input, seen: &Seen) -> bool {
     holds && counted && no_dearer && (!plain::can_be_searched(&input.day) || bounded())
 }
 
+/// The play that the call's answer has.
+pub fn play(seen: &Seen) -> plain::Play {
+    let &[produced, delivered, lost, disposed, left] = seen.values() else { panic!("five numbers") };
+    plain::Play { produced, delivered, lost, disposed, left }
+}
+
+/// What a play promises: nothing is lost from sight, neither charge nor need; and against the needs that the plan was made for all is
+/// delivered, nothing is spilled, and the closing charge is left.
+pub fn play_promises_kept(input: &Input, seen: &Seen) -> bool {
+    if input.call != Call::Play || seen.code != 0 {
+        return true;
+    }
+    let plain::Play { produced, delivered, lost, disposed, left } = play(seen);
+    let sum = |parts: &[u64]| parts.iter().map(|&part| part as u128).sum::<u128>();
+    let needed = input.actual.iter().map(|&need| need as u128).sum();
+    let balanced = sum(&[input.day.opening as u64, produced]) == sum(&[delivered, disposed, left]) && sum(&[delivered, lost]) == needed;
+    let as_planned = || [lost, disposed, left] == [0, 0, input.day.closing as u64] && Some(produced) == input.day.whole();
+    balanced && (input.actual != input.day.demand || as_planned())
+}
+
 /// What the crate says of an input by a path with two work areas.
 fn path_result<T>(path: fn(Day, Memory) -> Result<T, Refusal>, input: &Input) -> Result<T, Refusal> {
     let (mut costs, mut choices, mut slots) = (vec![7; input.lent[0]], vec![7; input.lent[1]], vec![7; input.lent[2]]);
@@ -387,6 +427,10 @@ pub fn results_agree(input: &Input, seen: &Seen) -> bool {
         },
         Call::Compare => match yakkurem::compare(day(input), &input.plans[0], &input.plans[1]) {
             Ok(difference) => accepted && values == [difference as u64],
+            Err(why) => why == said(seen.code),
+        },
+        Call::Play => match yakkurem::play(day(input), &input.plans[0], &input.actual) {
+            Ok(Play { produced, delivered, lost, disposed, left }) => accepted && values == [produced, delivered, lost, disposed, left],
             Err(why) => why == said(seen.code),
         },
         Call::Read => {

@@ -16,10 +16,11 @@ pub enum Call {
     Free,
     Bounds,
     Big,
+    Play,
 }
 
-/// The calls of before request 2.9. Inputs of `Bounds` are drawn after all of theirs and those of `Big` last, so that what was drawn before
-/// a request stays what it was.
+/// The calls of before request 2.9. Inputs of `Bounds` are drawn after all of theirs, then those of `Big`, and those of `Play` last, so that
+/// what was drawn before a request stays what it was.
 pub const CALLS: [Call; 9] =
     [Call::Full, Call::Uncapped, Call::Equal, Call::Weigh, Call::Compare, Call::Read, Call::Lookup, Call::Write, Call::Free];
 
@@ -48,7 +49,7 @@ impl Call {
             Call::Free => &[1, 2, 3, 4, 14, 5, 6, 7, 15, 16],
             Call::Bounds => &[1, 2, 3, 4, 14, 5, 17, 18, 7],
             Call::Big => &[1, 2, 3, 4, 14, 5, 6, 7, 16, 19],
-            Call::Weigh | Call::Compare => &[1, 2, 3, 4, 14, 6],
+            Call::Weigh | Call::Compare | Call::Play => &[1, 2, 3, 4, 14, 6],
             Call::Read => &[10, 11, 12, 1, 6, 3],
             Call::Lookup => &[10, 11, 12, 1, 13],
             Call::Write => &[1, 2, 3, 6],
@@ -59,7 +60,7 @@ impl Call {
     /// How many plans the call weighs.
     fn plans(self) -> usize {
         match self {
-            Call::Weigh => 1,
+            Call::Weigh | Call::Play => 1,
             Call::Compare => 2,
             _ => 0,
         }
@@ -101,7 +102,9 @@ pub struct Input {
     pub day: Day,
     /// the lowest needs, where those of the day are the highest
     pub lowest: Vec<u16>,
-    /// plans to weigh: one, or two to compare
+    /// the needs that a plan is played against
+    pub actual: Vec<u16>,
+    /// plans to weigh: one, also to play it, or two to compare
     pub plans: Vec<Vec<u16>>,
     pub file: Vec<u8>,
     /// the asked-for period
@@ -140,13 +143,14 @@ pub enum Size {
 }
 
 impl Input {
-    /// A call on a day, with as much lent as is needed; the plans are for the calls that weigh. Needs known as ranges are all the day's own;
-    /// on a big day any number of trials is allowed.
+    /// A call on a day, with as much lent as is needed; the plans are for the calls that weigh. Needs known as ranges and actual ones are all
+    /// the day's own; on a big day any number of trials is allowed.
     pub fn exact(call: Call, day: &Day, plans: [&[u16]; 2]) -> Input {
         let plans = plans.iter().take(call.plans()).map(|plan| plan.to_vec()).collect();
         let lowest = if call == Call::Bounds { day.demand.clone() } else { vec![] };
+        let actual = if call == Call::Play { day.demand.clone() } else { vec![] };
         let trials = if call == Call::Big { usize::MAX } else { 0 };
-        let mut input = Input { call, day: day.clone(), lowest, plans, file: vec![], period: 0, trials, lent: vec![] };
+        let mut input = Input { call, day: day.clone(), lowest, actual, plans, file: vec![], period: 0, trials, lent: vec![] };
         if call.reads_file() {
             input.file = plain::file_of(day);
             input.period = day.periods();
@@ -158,7 +162,7 @@ impl Input {
 
     /// A call on a file.
     pub fn on_file(call: Call, file: Vec<u8>, period: usize, lent: Vec<usize>) -> Input {
-        Input { call, day: Day::default(), lowest: vec![], plans: vec![], file, period, trials: 0, lent }
+        Input { call, day: Day::default(), lowest: vec![], actual: vec![], plans: vec![], file, period, trials: 0, lent }
     }
 
     /// The refusals whose conditions hold, in order; the first is the answer.
@@ -173,6 +177,7 @@ impl Input {
             Call::Weigh | Call::Compare => {
                 plain::weigh_refusals(&self.day, &self.plans.iter().map(|plan| plan.as_slice()).collect::<Vec<_>>())
             }
+            Call::Play => plain::play_refusals(&self.day, &self.plans[0], &self.actual),
             Call::Read => plain::read_refusals(&self.file, *self.lent.iter().min().unwrap()),
             Call::Lookup => plain::lookup_refusals(&self.file, self.period),
             Call::Write => plain::write_refusals(&self.day, self.lent[0]),
@@ -194,7 +199,7 @@ impl Input {
             Call::Big => vec![plain::big_cells(&self.day), self.day.periods()],
             Call::Read => vec![plain::walk(&self.file).map_or(self.file.len() / 17, |records| records.periods()); 6],
             Call::Write => vec![plain::file_length(&self.day)],
-            Call::Weigh | Call::Compare | Call::Lookup => vec![],
+            Call::Weigh | Call::Compare | Call::Play | Call::Lookup => vec![],
         }
     }
 }
@@ -457,6 +462,33 @@ fn lowest(random: &mut Random, highest: &[u16]) -> Vec<u16> {
     highest.iter().map(|&high| low(high)).collect()
 }
 
+/// Actual needs for a plan that was made for others: these, shifted by a period or more, all higher by a margin or lower; or in each period the
+/// same, none, a little more or less, or anything up to a limit.
+pub fn actual(random: &mut Random, planned: &[u16]) -> Vec<u16> {
+    let mut needs = planned.to_vec();
+    let more = random.pick(&[1, 1, 2, 15]);
+    match random.between(0, 5) {
+        0 => {}
+        1 => needs.rotate_right(random.index(planned.len().max(1))),
+        2 => needs.iter_mut().for_each(|need| *need = need.saturating_sub(more)),
+        3 => needs.iter_mut().for_each(|need| *need = need.saturating_add(more)),
+        _ => {
+            let high = random.pick(&[3, 9, 100, plain::MAX_DEMAND]);
+            for need in &mut needs {
+                *need = match random.between(0, 5) {
+                    0 => 0,
+                    1 => need.saturating_sub(more),
+                    2 => need.saturating_add(more),
+                    3 => random.between(0, high) as u16,
+                    _ => *need,
+                };
+            }
+        }
+    }
+    needs.iter_mut().for_each(|need| *need = (*need).min(plain::MAX_DEMAND as u16));
+    needs
+}
+
 /// Trials to allow: few; around as many as a day has periods; more than it can use.
 fn trials(random: &mut Random, n: usize) -> usize {
     match random.between(0, 3) {
@@ -496,7 +528,8 @@ pub fn complete(random: &mut Random, call: Call, day: Day, with: With) -> Input 
     let plans = (0..call.plans()).map(|_| weighed(random, &day)).collect();
     let lowest = if call == Call::Bounds { lowest(random, &day.demand) } else { vec![] };
     let trials = if call == Call::Big { trials(random, day.periods()) } else { 0 };
-    let mut input = Input { call, day, lowest, plans, file: vec![], period: 0, trials, lent: vec![] };
+    let actual = if call == Call::Play { actual(random, &day.demand) } else { vec![] };
+    let mut input = Input { call, day, lowest, actual, plans, file: vec![], period: 0, trials, lent: vec![] };
     if call.reads_file() {
         input.file = plain::file_of(&input.day);
         input.period = random.between(1, input.day.periods() as u64) as usize;
@@ -664,19 +697,19 @@ fn damage_day(random: &mut Random, day: &mut Day, with: With, most: u64, number:
     }
 }
 
-/// Changes the lowest needs so that the numbered condition may hold.
-fn damage_lowest(random: &mut Random, lowest: &mut Vec<u16>, highest: &[u16], number: u64) {
+/// Changes a second table of needs, the lowest or the actual ones, so that the numbered condition may hold.
+fn damage_second(random: &mut Random, second: &mut Vec<u16>, needs: &[u16], number: u64) {
     match number {
-        2 => change(random, lowest),
-        3 if !lowest.is_empty() => {
-            let i = random.index(lowest.len());
-            lowest[i] = over(random, plain::MAX_DEMAND, 65_535) as u16;
+        2 => change(random, second),
+        3 if !second.is_empty() => {
+            let i = random.index(second.len());
+            second[i] = over(random, plain::MAX_DEMAND, 65_535) as u16;
         }
-        18 if !lowest.is_empty() => {
+        18 if !second.is_empty() => {
             // in one period, or in two
             for _ in 0..random.pick(&[1, 2]) {
-                let i = random.index(lowest.len());
-                lowest[i] = (highest[i].saturating_add(random.pick(&[1, 1, 2, 4096]))).min(4096);
+                let i = random.index(second.len());
+                second[i] = (needs[i].saturating_add(random.pick(&[1, 1, 2, 4096]))).min(4096);
             }
         }
         _ => {}
@@ -763,19 +796,23 @@ pub fn damaged(random: &mut Random, call: Call, size: Size, with: With, numbers:
 
 /// An input with this day, damaged for each of the numbers.
 pub fn damage(random: &mut Random, call: Call, mut day: Day, with: With, numbers: &[u64]) -> Input {
-    // 2 and 3 may be of the lowest needs instead
-    let of_lowest: &[u64] = if call == Call::Bounds && random.once_in(2) { &[18, 3, 2] } else { &[18] };
+    // 2 and 3 may be of the lowest or the actual needs instead
+    let of_second: &[u64] = if matches!(call, Call::Bounds | Call::Play) && random.once_in(2) { &[18, 3, 2] } else { &[18] };
     // in an order in which what comes later mostly keeps what came before
     for number in [15, 17, 7, 8, 9, 4, 16, 3, 1, 2, 14] {
-        if numbers.contains(&number) && !of_lowest.contains(&number) {
+        if numbers.contains(&number) && !of_second.contains(&number) {
             damage_day(random, &mut day, with, call.most(), number);
         }
     }
-    let mut input = Input { call, day, lowest: vec![], plans: vec![], file: vec![], period: 0, trials: 0, lent: vec![] };
-    if call == Call::Bounds {
-        input.lowest = lowest(random, &input.day.demand);
-        for &number in of_lowest.iter().filter(|number| numbers.contains(number)) {
-            damage_lowest(random, &mut input.lowest, &input.day.demand, number);
+    let mut input = Input { call, day, lowest: vec![], actual: vec![], plans: vec![], file: vec![], period: 0, trials: 0, lent: vec![] };
+    let (draw, second): (fn(&mut Random, &[u16]) -> Vec<u16>, _) = match call {
+        Call::Bounds => (lowest, &mut input.lowest),
+        _ => (actual, &mut input.actual),
+    };
+    if matches!(call, Call::Bounds | Call::Play) {
+        *second = draw(random, &input.day.demand);
+        for &number in of_second.iter().filter(|number| numbers.contains(number)) {
+            damage_second(random, second, &input.day.demand, number);
         }
     }
     let n = input.day.periods();
@@ -850,6 +887,7 @@ pub fn changed(random: &mut Random, call: Call, size: Size, with: With) -> Input
                 8 => input.day.store[i] = random.pick(&[0, 0, 1, 4095, 4096, 65_534, 65_535]),
                 _ if call == Call::Bounds => input.lowest[i] = random.pick(&[0, 1, 4096, 4097, 65_535]),
                 _ if call == Call::Big => input.trials = random.pick(&[0, 1, 2, n, usize::MAX]),
+                _ if call == Call::Play && random.once_in(2) => input.actual[i] = random.pick(&[0, 1, 4096, 4097, 65_535]),
                 _ if input.plans.is_empty() => {}
                 _ => {
                     let which = random.index(input.plans.len());

@@ -1,7 +1,10 @@
 //! The plain implementation against itself and the papers, before anything is compared with it.
+mod played;
+
 use crate::input::{self, Call, Input, Size, With, CALLS};
 use crate::plain::{self, BestSoFar, Day, Loads, Planned, Refusal, Totals, Verdict};
 use crate::random::Random;
+pub use played::{check_plays, plays};
 
 /// A day and its plan with cost and setups, or the number and period of the refusal. One value of b, p or h stands for all periods.
 struct Row {
@@ -401,6 +404,9 @@ pub fn check(random: &mut Random, calls: &[Call], with: With, days: usize) {
     check_files();
     check_loads();
     check_trials();
+    if paths.is_empty() {
+        return;
+    }
     for _ in 0..days {
         let call = random.pick(&paths);
         let mut day = input::day(random, call, Size::Tiny, with);

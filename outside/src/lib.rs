@@ -6,6 +6,7 @@ pub mod holding;
 pub mod input;
 pub mod loads;
 pub mod plain;
+pub mod play;
 pub mod price;
 pub mod random;
 pub mod ranges;

@@ -10,7 +10,7 @@ mod shrink;
 mod test_load;
 
 use input::{Call, Input, Size, With, CALLS, EARLIER};
-use outside::{big, ends, free, holding, input, loads, plain, price, random, ranges, store};
+use outside::{big, ends, free, holding, input, loads, plain, play, price, random, ranges, store};
 use random::Random;
 use std::iter::once;
 use std::process::exit;
@@ -41,6 +41,7 @@ struct Run {
     between: usize,
     /// of the call on big days
     big_plans: big::Plans,
+    plays: play::Plays,
 }
 
 impl Run {
@@ -59,6 +60,9 @@ impl Run {
                 }
                 if input.call == Call::Big {
                     self.big_plans.add(input, expected.values()[0], expected.values()[2]);
+                }
+                if input.call == Call::Play {
+                    self.plays.add(input, &compare::play(&expected));
                 }
             }
             number if number <= LAST as u64 => self.refused[number as usize] += 1,
@@ -277,6 +281,29 @@ impl Run {
         self.inputs - before
     }
 
+    /// Request 2.11; gives how many inputs there were.
+    fn play(&mut self) -> usize {
+        let before = self.inputs;
+        itself::check_plays();
+        for (with, part) in [(With::NOTHING, 2), (With::ENDS, 2), (With::STORES, 2), (With::BOTH, 1)] {
+            self.made_up(&[Call::Play], with, part);
+        }
+        self.holding(Call::Play, 3);
+        for (size, times) in [(Size::Tiny, 10_000), (Size::Middle, 2000), (Size::Long, 200), (Size::Limits, 100)] {
+            for _ in 0..times {
+                let input = play::that_holds(&mut self.random, size);
+                self.try_input(&input);
+            }
+        }
+        let drawn = test_load::inputs(&mut self.random);
+        for inputs in [holding::dearest(), itself::inputs(), ends::limits(&[Call::Weigh]), store::inputs(), drawn] {
+            self.try_inputs(&play::of_weighed(&inputs));
+        }
+        self.try_inputs(&itself::plays());
+        self.try_inputs(&play::inputs());
+        self.inputs - before
+    }
+
     fn print_counts(&self) {
         let refused = (1..=LAST).map(|number| format!("{number}: {}", self.refused[number])).collect::<Vec<_>>().join(", ");
         println!("accepted {}, refused {refused}", self.accepted);
@@ -291,7 +318,8 @@ impl Run {
 
 fn differs(input: &Input, expected: &compare::Seen) -> bool {
     let seen = compare::actual(input);
-    let kept = compare::loads_counted(input, &seen) && compare::big_promises_kept(input, &seen);
+    let kept =
+        compare::loads_counted(input, &seen) && compare::big_promises_kept(input, &seen) && compare::play_promises_kept(input, &seen);
     seen != *expected || !compare::full_agrees(input, expected) || !kept
 }
 
@@ -338,6 +366,9 @@ fn report(input: &Input) -> ! {
     }
     if !compare::big_promises_kept(&smallest, &seen) {
         println!("the plan breaks a rule or costs otherwise than the answer says, a trial less gives a cheaper one, or some plan is below the bound");
+    }
+    if !compare::play_promises_kept(&smallest, &seen) {
+        println!("charge or need is lost from sight, or the plan does otherwise than planned against the needs that it was made for");
     }
     exit(1);
 }
@@ -391,6 +422,7 @@ fn main() {
         bounded: 0,
         between: 0,
         big_plans: big::Plans::default(),
+        plays: play::Plays::default(),
     };
     run.made_up(EARLIER, With::NOTHING, 1);
     for call in [Call::Read, Call::Lookup] {
@@ -441,8 +473,9 @@ fn main() {
     let priced = prices(&mut run.random);
     let pairs = run.ranges();
     let big_inputs = run.big();
-    // the calls of `CALLS`, the test load, needs known as ranges and big days; prices are counted apart
-    println!("outside: seed {seed}, {} inputs of {} calls as the plain implementation has them", run.inputs, CALLS.len() + 3);
+    let played = run.play();
+    // the calls of `CALLS`, the test load, needs known as ranges, big days and plays; prices are counted apart
+    println!("outside: seed {seed}, {} inputs of {} calls as the plain implementation has them", run.inputs, CALLS.len() + 4);
     run.print_counts();
     println!("test loads: {} inputs, and {} of the other calls on days so drawn", test_loads.len(), on_test_loads.len());
     println!(
@@ -454,6 +487,11 @@ fn main() {
         "big days: {big_inputs} inputs; {plans} plans in {trials} trials, {above} of more than {} watt-hours, {cheaper} cheaper than the first \
          trial's, {used_up} with all allowed trials used; each no dearer than with a trial less, and {searched} beside all plans, none below the bound",
         plain::MAX_TOTAL
+    );
+    let play::Plays { plays, as_planned, lost, disposed, both } = run.plays;
+    println!(
+        "plays: {played} inputs; {plays} plans played, {as_planned} against the needs that they were made for; {lost} missed something, \
+         {disposed} spilled something, {both} both; each with charge and need in balance"
     );
     println!("published instances: {} inputs, each with the published cost, doubled", published.len());
     println!("prices: {priced} costs, each as the plain implementation has it");

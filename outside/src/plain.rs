@@ -1,6 +1,7 @@
-//! Documents 01 and 02 (requests 2.1 to 2.7, 2.9 and 2.10; 2.8 is in price.rs) and the report in plain code, written from these alone: what
+//! Documents 01 and 02 (requests 2.1 to 2.7 and 2.9 to 2.11; 2.8 is in price.rs) and the report in plain code, written from these alone: what
 //! every call should answer.
-//! Names are lot sizing's; document 01 says need for demand, start for setup, upkeep for holding.
+//! Names are lot sizing's; the documents say need for demand, start for setup, upkeep for holding, made for produced, missed for lost,
+//! spilled for disposed.
 use std::iter::once;
 use std::ops::Range;
 
@@ -469,6 +470,43 @@ pub fn best_so_far(day: &Day, trials: usize, rule: fn(&Day) -> Option<Planned>) 
     Some(BestSoFar { planned: best, trials: used, gap })
 }
 
+// Request 2.11: the day played through.
+
+/// What a plan did against actual needs, over the day, and the charge left after it.
+#[derive(Clone, Copy, Debug, Default, PartialEq, Eq)]
+pub struct Play {
+    pub produced: u64,
+    pub delivered: u64,
+    pub lost: u64,
+    pub disposed: u64,
+    pub left: u64,
+}
+
+/// A plan against actual needs, watt-hour by watt-hour: the cell makes each of its amount; each that is needed is delivered if there is any
+/// charge, and else missed; then one is spilled as long as there are more than s.
+pub fn play(day: &Day, plan: &[u16], actual: &[u16]) -> Play {
+    let mut play = Play { left: day.opening as u64, ..Play::default() };
+    for i in 0..day.periods() {
+        for _ in 0..plan[i] {
+            play.produced += 1;
+            play.left += 1;
+        }
+        for _ in 0..actual[i] {
+            if play.left > 0 {
+                play.delivered += 1;
+                play.left -= 1;
+            } else {
+                play.lost += 1;
+            }
+        }
+        while play.left > day.store[i] as u64 {
+            play.disposed += 1;
+            play.left -= 1;
+        }
+    }
+    play
+}
+
 // The papers' conditions, each by itself; where tables differ in length, entries past an end count as 0.
 
 fn refused(number: u64, condition: bool) -> Option<Refusal> {
@@ -618,15 +656,20 @@ pub fn path_refusals(path: Path, day: &Day, costs: usize, choices: usize, slots:
     refusals
 }
 
-/// What the call on needs known as ranges refuses, in order; the day has the highest. 2 and 3 are of both tables: 3 names the first period of
-/// either.
-pub fn bounds_refusals(lowest: &[u16], day: &Day, costs: usize, choices: usize) -> Vec<Refusal> {
-    let lengths = bad_lengths(day).or(refused(2, lowest.len() != day.periods()));
-    let above = refused_at(3, day.periods(), |i| lowest.get(i - 1).is_some_and(|&low| low as u64 > MAX_DEMAND));
+/// What a call with a second table of needs refuses first, in order. 2 and 3 are of both tables: 3 names the first period of either.
+fn second_refusals(day: &Day, second: &[u16]) -> Vec<Refusal> {
+    let lengths = bad_lengths(day).or(refused(2, second.len() != day.periods()));
+    let above = refused_at(3, day.periods(), |i| second.get(i - 1).is_some_and(|&need| need as u64 > MAX_DEMAND));
     let values = [bad_value(day), above].into_iter().flatten().min_by_key(|refusal| refusal.period);
+    [bad_count(day.periods()), lengths, values, bad_total(day, MAX_TOTAL), bad_opening(day)].into_iter().flatten().collect()
+}
+
+/// What the call on needs known as ranges refuses, in order; the day has the highest.
+pub fn bounds_refusals(lowest: &[u16], day: &Day, costs: usize, choices: usize) -> Vec<Refusal> {
+    let mut refusals = second_refusals(day, lowest);
     let areas = short_area(Path::Full, day, costs, choices);
-    let of_day = [bad_count(day.periods()), lengths, values, bad_total(day, MAX_TOTAL), bad_opening(day)];
-    of_day.into_iter().chain([areas, opened(day), reversed(lowest, day), shortage(day)]).flatten().collect()
+    refusals.extend([areas, opened(day), reversed(lowest, day), shortage(day)].into_iter().flatten());
+    refusals
 }
 
 /// What the call on big days refuses, in order.
@@ -642,6 +685,13 @@ pub fn weigh_refusals(day: &Day, plans: &[&[u16]]) -> Vec<Refusal> {
     let shortest = plans.iter().map(|plan| plan.len()).min().unwrap();
     let mut refusals = day_refusals(day, MAX_TOTAL);
     refusals.extend(too_few(shortest, day.periods()));
+    refusals
+}
+
+/// What the call that plays a plan refuses, in order.
+pub fn play_refusals(day: &Day, plan: &[u16], actual: &[u16]) -> Vec<Refusal> {
+    let mut refusals = second_refusals(day, actual);
+    refusals.extend(too_few(plan.len(), day.periods()));
     refusals
 }
 

@@ -51,9 +51,8 @@ fn values<T: Copy + Into<u64>>(input: &Input, table: Numbers<T>, of: fn(u64) -> 
 fn steps(input: &Input) -> Vec<Input> {
     let mut tries = vec![];
     let day = &input.day;
-    let lengths =
-        [input.lowest.len(), day.demand.len(), day.capacity.len(), day.setup.len(), day.unit.len(), day.holding.len(), day.store.len()];
-    for i in 0..lengths.into_iter().max().unwrap() {
+    let of_day = [day.demand.len(), day.capacity.len(), day.setup.len(), day.unit.len(), day.holding.len(), day.store.len()];
+    for i in 0..of_day.into_iter().chain([input.lowest.len(), input.actual.len()]).max().unwrap() {
         let mut next = input.clone();
         next.day.demand = without(&day.demand, i);
         next.day.capacity = without(&day.capacity, i);
@@ -62,6 +61,7 @@ fn steps(input: &Input) -> Vec<Input> {
         next.day.holding = without(&day.holding, i);
         next.day.store = without(&day.store, i);
         next.lowest = without(&input.lowest, i);
+        next.actual = without(&input.actual, i);
         next.plans = input.plans.iter().map(|plan| without(plan, i)).collect();
         tries.push(next);
     }
@@ -99,6 +99,7 @@ fn steps(input: &Input) -> Vec<Input> {
     values(input, |x| &mut x.day.store, |v| v as u16, lower, &mut tries);
     values(input, |x| &mut x.day.demand, |v| v as u16, smaller, &mut tries);
     values(input, |x| &mut x.lowest, |v| v as u16, smaller, &mut tries);
+    values(input, |x| &mut x.actual, |v| v as u16, smaller, &mut tries);
     values(input, |x| &mut x.day.capacity, |v| v as u16, smaller, &mut tries);
     values(input, |x| &mut x.day.setup, |v| v as u32, smaller, &mut tries);
     values(input, |x| &mut x.day.unit, |v| v as u32, smaller, &mut tries);
@@ -148,7 +149,7 @@ pub fn shrink(input: &Input, fails: impl Fn(&Input) -> bool) -> Input {
 
 /// An input in document 01's form.
 pub fn show(input: &Input) -> String {
-    let Input { day, lowest, plans, file, period, trials, lent, .. } = input;
+    let Input { day, lowest, actual, plans, file, period, trials, lent, .. } = input;
     let words = |numbers: Vec<u64>| numbers.iter().map(u64::to_string).collect::<Vec<_>>().join(" ");
     let words16 = |table: &[u16]| words(table.iter().map(|&v| v as u64).collect());
     let words32 = |table: &[u32]| words(table.iter().map(|&v| v as u64).collect());
@@ -171,6 +172,9 @@ pub fn show(input: &Input) -> String {
     }
     if input.call == Call::Big {
         lines.push(format!("trials {trials}"));
+    }
+    if input.call == Call::Play {
+        lines.push(format!("actual needs {}", words16(actual)));
     }
     for plan in plans {
         lines.push(format!("plan {}", words16(plan)));

@@ -4,6 +4,7 @@ ghost use Rattle.day.specs.Refusals.{numberOf, periodOf};
 ghost use Rattle.day.specs.Figures.{answerFigures, equalFigures, boundsFigures, bigFigures};
 ghost use Rattle.dayfile.specs.Answers.{readFigures, writeFigures};
 ghost use Rattle.weigher.specs.Answers.{weighedFigures, comparedFigures, ruleNumber};
+ghost use Rattle.play.specs.Answers.{playFigures};
 ghost use Rattle.codes.specs.Codes.{codeOf, seen, seenOf, checkCode};
 use day::Answer;
 use day::BigAnswer;
@@ -13,6 +14,7 @@ use day::EqualAnswer;
 use day::Refusal;
 use dayfile::ReadAnswer;
 use dayfile::WriteAnswer;
+use play::PlayAnswer;
 use weigher::Compared;
 use weigher::Rule;
 use weigher::Verdict;
@@ -125,6 +127,20 @@ pub fn compared(c: Compared, difference: &mut [i64; 1]) -> u64
         Compared::Broken(rule, period) => broken(rule, period),
         Compared::Difference(v) => {
             *difference = [v];
+            0
+        }
+    }
+}
+
+// Of a played day: what was produced, delivered, lost and disposed of (made, delivered, missed, spilled), and what is left.
+pub fn played(a: PlayAnswer, answer: &mut [u64; 5]) -> u64
+    ensures { λ r. ⌜ seen r (now (answer .exit)) ≡ seenOf (now (answer .entry)) (playFigures a) ⌝ }
+{
+    match a {
+        PlayAnswer::Refused(r) => refused(r),
+        PlayAnswer::Broken(rule, period) => broken(rule, period),
+        PlayAnswer::Played(f) => {
+            *answer = [f.produced, f.delivered, f.lost, f.disposed, f.left];
             0
         }
     }

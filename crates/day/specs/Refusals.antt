@@ -198,7 +198,7 @@ tight d k = ltb (at (d .store) k) (required d)
 abbrev pub lowStore : Day → Option Refusal
 lowStore d = refuseAt LowStore (find (tight d) (periods d))
 
--- 2 and 3 where a call reads a second table of needs (document 02, 2.9): it too is as long as the demand table, and a value of either day counts
+-- 2 and 3 where a call reads a second table of needs (document 02, 2.9, 2.11): it too is as long as the demand table, and a value of either day counts
 abbrev pub badSecond : List ℕ → Day → Option Refusal
 badSecond needs d = refuse (not (eqb (length needs) (periods d))) TableLength
 

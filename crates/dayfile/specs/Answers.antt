@@ -83,12 +83,15 @@ readFigures (Periods n ends) = acceptedWith (n ∷ ends .opening ∷ ends .closi
 
 -- refused, by number and period, no cell changes; accepted, the count of periods is given, with A and Z, and the periods' numbers fill
 -- the tables' first cells
-abbrev pub Reading : List ℕ → Day → ReadAnswer → Day → Type 0
-Reading s before (Refused r) after = Gives (badRead s (shortest before)) r × (after ≡ before)
-Reading s before (Periods n ends) after =
-    (badRead s (shortest before) ≡ none)
+abbrev pub ReadingAs : Option Refusal → List ℕ → Day → ReadAnswer → Day → Type 0
+ReadingAs o s before (Refused r) after = Gives o r × (after ≡ before)
+ReadingAs o s before (Periods n ends) after =
+    (o ≡ none)
     × (readFigures (Periods n ends) ≡ acceptedWith (periodsIn s ∷ chargeIn 0 s ∷ chargeIn 2 s ∷ []))
     × (after ≡ withDay s before)
+
+abbrev pub Reading : List ℕ → Day → ReadAnswer → Day → Type 0
+Reading s before = ReadingAs (badRead s (shortest before)) s before
 
 -- a writing: 1, 2, 3, and 6 where the slice is shorter than the file
 abbrev pub badWrite : Day → ℕ → Option Refusal

@@ -1,7 +1,7 @@
--- The lines that `dayplan` prints (document 01, "Marked days"), as bytes, and what it means that text was put into a buffer.
--- Main definitions: `planLine`, `amountLine`, `refusalLine`, `Put`. Assumes nothing.
-use mathlib.Core.Path.{_≡_, ap, _∙_}
-use mathlib.Core.List.{List, [], _∷_, _++_, append-assoc}
+-- The lines that `dayplan` prints (document 01, "Marked days") and those of `margins` (document 02, 2.11), as bytes, and what it means that text was
+-- put into a buffer. Main definitions: `planLine`, `amountLine`, `refusalLine`; `playedLine`, `marginRefusalLine`; `Put`, `Prints`. Assumes nothing.
+use mathlib.Core.Path.{_≡_, refl, sym, ap, _∙_}
+use mathlib.Core.List.{List, [], _∷_, _++_, append-nil, append-assoc}
 use mathlib.Core.Option.{Option, none, some}
 use Prim.Native.Nat.{ℕ, suc, _+_, _^_, _≤_}
 use lib.Dec.{ltb}
@@ -27,7 +27,7 @@ places n = placesOf (find (λ k. ltb n (10 ^ suc k)) 20)
 abbrev pub decimal : ℕ → List ℕ
 decimal n = digits 10 (places n) n
 
--- ASCII: "periods ", " cost ", " starts ", " made ", " left ", "refused ", " period ", the line's end
+-- ASCII: "periods ", " cost ", " starts ", " made ", " left ", "refused ", " period ", "margin ", " missed ", " spilled ", the line's end
 abbrev pub periodsWord : List ℕ
 periodsWord = 112 ∷ 101 ∷ 114 ∷ 105 ∷ 111 ∷ 100 ∷ 115 ∷ 32 ∷ []
 
@@ -48,6 +48,15 @@ refusedWord = 114 ∷ 101 ∷ 102 ∷ 117 ∷ 115 ∷ 101 ∷ 100 ∷ 32 ∷ []
 
 abbrev pub periodWord : List ℕ
 periodWord = 32 ∷ 112 ∷ 101 ∷ 114 ∷ 105 ∷ 111 ∷ 100 ∷ 32 ∷ []
+
+abbrev pub marginWord : List ℕ
+marginWord = 109 ∷ 97 ∷ 114 ∷ 103 ∷ 105 ∷ 110 ∷ 32 ∷ []
+
+abbrev pub missedWord : List ℕ
+missedWord = 32 ∷ 109 ∷ 105 ∷ 115 ∷ 115 ∷ 101 ∷ 100 ∷ 32 ∷ []
+
+abbrev pub spilledWord : List ℕ
+spilledWord = 32 ∷ 115 ∷ 112 ∷ 105 ∷ 108 ∷ 108 ∷ 101 ∷ 100 ∷ 32 ∷ []
 
 abbrev pub lineEnd : List ℕ
 lineEnd = 10 ∷ []
@@ -72,6 +81,14 @@ periodLine i amount inventory = lineOf (([], i) ∷ (madeWord, amount) ∷ (left
 abbrev pub refusalLine : Refusal → List ℕ
 refusalLine r = lineOf ((refusedWord, numberOf r) ∷ (periodWord, periodOf r) ∷ [])
 
+-- margin m cost c missed l spilled s
+abbrev pub playedLine : (margin cost lost disposed : ℕ) → List ℕ
+playedLine margin cost lost disposed = lineOf ((marginWord, margin) ∷ (costWord, cost) ∷ (missedWord, lost) ∷ (spilledWord, disposed) ∷ [])
+
+-- margin m refused r period i
+abbrev pub marginRefusalLine : ℕ → Refusal → List ℕ
+marginRefusalLine margin r = lineOf ((marginWord, margin) ∷ (32 ∷ refusedWord, numberOf r) ∷ (periodWord, periodOf r) ∷ [])
+
 -- what a line says of period k + 1 of a plan: its amount, and the inventory left after it
 abbrev pub amountLine : Day → (ℕ → ℕ) → ℕ → List ℕ
 amountLine d x k = periodLine (suc k) (x k) (inventory d x (suc k))
@@ -95,9 +112,23 @@ pub record PutWithin (most : ℕ) (before : List ℕ) (place : ℕ) (text after 
   pub put : Put before place text after next
   pub few : next ≤ place + most
 
--- the most bytes of a line
+-- some text that says what is asked, and stands where it is to
+pub record Prints (Says Stands : List ℕ → Type 0) : Type 0 where
+  pub text : List ℕ
+  pub says : Says text
+  pub put : Stands text
+
+-- the most bytes of a line of three numbers, and of a margin's line
 abbrev pub lineBytes : ℕ
 lineBytes = 96
+
+abbrev pub marginBytes : ℕ
+marginBytes = 123
+
+-- no text
+pub put-none : (text : List ℕ) (place : ℕ) → place ≤ length text → Put text place [] text place
+put-none text place h =
+    record { front = sym (append-nil (take place text)); end = omega arith; inside = h; size = refl; rest = refl }
 
 -- one text after another
 pub put-put : {a b c : List ℕ} {i j k : ℕ} {s t : List ℕ} → Put a i s b j → Put b j t c k → Put a i (s ++ t) c k

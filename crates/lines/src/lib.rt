@@ -6,7 +6,8 @@ ghost use mathlib.Core.List.{[], _∷_};
 ghost use Rattle.day.specs.Sums.{at};
 ghost use Rattle.day.specs.Day.{dayOf};
 ghost use Rattle.day.specs.Plan.{inventory as left};
-ghost use Rattle.lines.specs.Text.{lineBytes, labelled, lineOf, planLine, amountLine, refusalLine, Put, PutWithin, HavePeriods};
+ghost use Rattle.lines.specs.Text.{lineBytes, marginBytes, labelled, lineOf, planLine, amountLine, refusalLine, playedLine, marginRefusalLine};
+ghost use Rattle.lines.specs.Text.{Put, PutWithin, HavePeriods};
 use day::Ends;
 use day::Refusal;
 
@@ -126,4 +127,46 @@ pub fn refusal_line(refusal: Refusal, text: &mut [u8], place: usize) -> usize
     let a = put_labelled(text, place, b"refused ", refusal.number() as u64);
     let b = put_labelled(text, a, b" period ", refusal.period() as u64);
     put(text, b, b"\n")
+}
+
+// A margin with the cost of its plan, and what that missed and spilled when it was played.
+pub fn played_line(
+    margin: u64,
+    cost: u64,
+    lost: u64,
+    disposed: u64,
+    text: &mut [u8],
+    place: usize,
+) -> usize
+    requires { ⌜ place + marginBytes ≤ length (now text) ⌝ }
+    ensures { λ r. ⌜ PutWithin marginBytes (now (text .entry)) place (playedLine margin cost lost disposed) (now (text .exit)) r ⌝ }
+{
+    let first = put_labelled(text, place, b"margin ", margin);
+    three(
+        text,
+        first,
+        b" cost ",
+        cost,
+        b" missed ",
+        lost,
+        b" spilled ",
+        disposed,
+    )
+}
+
+// A margin whose day is refused.
+pub fn margin_refusal_line(margin: u64, refusal: Refusal, text: &mut [u8], place: usize) -> usize
+    requires { ⌜ place + marginBytes ≤ length (now text) ⌝ }
+    ensures { λ r. ⌜ PutWithin marginBytes (now (text .entry)) place (marginRefusalLine margin refusal) (now (text .exit)) r ⌝ }
+{
+    three(
+        text,
+        place,
+        b"margin ",
+        margin,
+        b" refused ",
+        refusal.number() as u64,
+        b" period ",
+        refusal.period() as u64,
+    )
 }

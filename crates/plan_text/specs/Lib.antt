@@ -1,3 +1,3 @@
--- The text that `dayplan` prints for a file.
+-- The text that `dayplan` prints for a day.
 pub mod Text
 pub mod Laws

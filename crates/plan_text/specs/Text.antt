@@ -1,35 +1,16 @@
--- What `dayplan` prints for a file (document 01, "Marked days"): a refusal's line, or the lines of the file's plan.
--- Main definition: `Printed`, the contract of the text. Assumes nothing.
+-- What `dayplan` prints for a day (document 01, "Marked days"): a refusal's line, or the lines of the day's plan.
+-- Main definitions: `SaysPlanOf`; `PrintedDay`, the contract of the text. Assumes nothing.
 use mathlib.Core.Path.{_≡_}
-use mathlib.Core.List.{List, [], _∷_, _++_}
+use mathlib.Core.List.{List, [], _++_}
 use mathlib.Core.Option.{Option, none, some}
 use Prim.Native.Nat.{ℕ, zero, suc}
-use lib.Dec.{ltb}
-use lib.ListN.{length}
 use Rattle.day.specs.declared.Refusal.{Refusal}
-use Rattle.day.specs.declared.Refusal.the-variants.{WrongEnd}
 use Rattle.day.specs.Day.{Day, periods}
 use Rattle.day.specs.Plan.{Optimal, cost, setups}
-use Rattle.day.specs.Refusals.{refuse, first}
-use Rattle.day.specs.File.{dayIn}
-use Rattle.day.specs.Outcome.{Sizes, sizes, refusal}
+use Rattle.day.specs.Outcome.{refusal}
 use Rattle.day.specs.Paths.{full}
-use Rattle.dayfile.specs.declared.ReadAnswer.{ReadAnswer}
-use Rattle.dayfile.specs.declared.ReadAnswer.the-variants.{Refused, Periods}
-use Rattle.dayfile.specs.Answers.{badRead}
-use Rattle.lines.specs.Text.{planLine, amountLine, refusalLine, Put}
-
--- what the program lends: 1,000 cost cells, 24,000 choice cells, 96 slots
-abbrev pub lent : Sizes
-lent = sizes 1000 24000 96
-
--- 12: more than 1,832 bytes, which are those of both ends, 96 periods and the end
-abbrev pub tooLong : List ℕ → Option Refusal
-tooLong s = refuse (ltb 1832 (length s)) WrongEnd
-
--- the first refusal of a file: its length, the reader's tests, the full path's
-abbrev pub textRefusal : List ℕ → Option Refusal
-textRefusal s = first (tooLong s ∷ badRead s 96 ∷ refusal full (dayIn s) lent ∷ [])
+use Rattle.lines.specs.Text.{planLine, amountLine, refusalLine, Put, Prints}
+use Rattle.program_plan.specs.Areas.{lent}
 
 -- a line for each of the first k periods of a plan
 abbrev pub amountLines : Day → (ℕ → ℕ) → ℕ → List ℕ
@@ -51,26 +32,13 @@ abbrev pub Says : Option Refusal → Day → List ℕ → Type 0
 Says (some r) d text = text ≡ refusalLine r
 Says none d text = SaysPlan d text
 
+-- text says a day's plan, by the full path with the program's areas
+abbrev pub SaysPlanOf : Day → List ℕ → Type 0
+SaysPlanOf d = Says (refusal full d lent) d
+
 -- such a text was put at a buffer's front, and is r bytes long; later bytes stay
-pub record Printed (o : Option Refusal) (d : Day) (before after : List ℕ) (r : ℕ) : Type 0 where
-  pub text : List ℕ
-  pub says : Says o d text
-  pub put : Put before 0 text after r
-
--- what the text of a day, of a file that is not too long, and of any file is
-abbrev pub PrintedDay : Day → List ℕ → List ℕ → ℕ → Type 0
-PrintedDay d = Printed (refusal full d lent) d
-
-abbrev pub PrintedFile : List ℕ → List ℕ → List ℕ → ℕ → Type 0
-PrintedFile s = Printed (first (badRead s 96 ∷ refusal full (dayIn s) lent ∷ [])) (dayIn s)
-
-abbrev pub PrintedText : List ℕ → List ℕ → List ℕ → ℕ → Type 0
-PrintedText s = Printed (textRefusal s) (dayIn s)
-
--- the line of the reader's refusal; what an accepted file's answer gives here is free
-abbrev pub PrintedAnswer : ReadAnswer → List ℕ → List ℕ → ℕ → Type 0
-PrintedAnswer (Refused r) before after next = Put before 0 (refusalLine r) after next
-PrintedAnswer (Periods n ends) before after next = Unit {0}
+abbrev pub PrintedDay : Day → (before after : List ℕ) → ℕ → Type 0
+PrintedDay d before after r = Prints (SaysPlanOf d) (λ text. Put before 0 text after r)
 
 -- room for 97 lines
 abbrev pub textBytes : ℕ

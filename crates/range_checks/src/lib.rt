@@ -30,8 +30,8 @@ fn earlier(first: Check, second: Check) -> Check
     second
 }
 
-// 1, then 2 and 3 on both, where a second table of needs is read
-fn tables(
+// 1, then 2 and 3 on both, where a second table of needs is read: the lowest, or the actual ones of a played day (document 02, 2.11)
+pub fn tables(
     needs: &[u16],
     demand: &[u16],
     capacity: &[u16],

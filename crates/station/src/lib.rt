@@ -4,6 +4,7 @@ ghost use Rattle.day.specs.Paths.{full, uncapped, free};
 ghost use Rattle.day.specs.Day.{endsWith};
 ghost use Rattle.day.specs.Lent.{dayBefore, memoryBefore, memoryAfter, cellsBefore, cellsAfter, areasBefore, areasAfter};
 ghost use Rattle.weigher.specs.Answers.{Weighs, Compares, weighedFigures, comparedFigures};
+ghost use Rattle.play.specs.Answers.{Plays, playFigures};
 ghost use Rattle.price.specs.Price.{priceOf};
 ghost use Rattle.station.specs.Shows.{Shows, PathShows, EqualShows, BoundsShows, BigShows, ReadShows, LookupShows, WriteShows, LoadShows};
 use day::Check;
@@ -278,6 +279,40 @@ pub extern "C" fn yakkurem_compare(
         ends,
     );
     codes::compared(c, difference)
+}
+
+// Plays a plan through against actual needs; the answer is what was made, delivered, missed and spilled, and what is left.
+#[no_mangle]
+pub extern "C" fn yakkurem_play(
+    demand: &[u16],
+    capacity: &[u16],
+    setup: &[u32],
+    unit: &[u32],
+    holding: &[u32],
+    store: &[u16],
+    opening: u16,
+    closing: u16,
+    plan: &[u16],
+    actual: &[u16],
+    answer: &mut [u64; 5],
+) -> u64
+    ensures { λ r. ⌜
+        Shows (Plays (now (actual .entry)) (dayBefore demand capacity setup unit holding store (endsWith opening closing)) (now (plan .entry)))
+        playFigures answer r ⌝ }
+{
+    let ends = Ends { opening, closing };
+    let a = play::play(
+        demand,
+        capacity,
+        setup,
+        unit,
+        holding,
+        store,
+        plan,
+        actual,
+        ends,
+    );
+    codes::played(a, answer)
 }
 
 // Fills tables from a day file; the answer is the count of its periods, and its ends.

@@ -11,7 +11,8 @@ use weigher::Rule;
 use weigher::Verdict;
 use weigher::Weighed;
 
-fn broken(rule: Rule, period: u16) {
+// What every call that judges a plan prints of one that breaks a rule.
+pub fn broken(rule: Rule, period: u16) {
     print::number(b" broken ", rule.number() as u64);
     print::number(b" period ", period as u64);
 }

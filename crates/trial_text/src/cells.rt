@@ -76,8 +76,8 @@ pub fn count_if(counts: &mut [u64; 16], k: usize, more: bool)
     }
 }
 
-// The day's whole demand; 4,097 where it is more than 4,096.
-fn summed(demand: &[u16]) -> usize
+// What a table needs in all; 4,097 where it is more than 4,096.
+pub fn summed(demand: &[u16]) -> usize
     ensures { λ r. ⌜ r ≤ 4097 ⌝ }
 {
     let mut sum = 0;

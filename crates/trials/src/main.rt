@@ -32,6 +32,9 @@ fn day(
     if check::same(kind, b"big") {
         return call::lent(line, demand, capacity, setup, unit, holding, store, ends);
     }
+    if check::same(kind, b"play") {
+        return trial_play::play(line, demand, capacity, setup, unit, holding, store, ends);
+    }
     if check::same(kind, b"write") {
         return trial_files::write(line, demand, capacity, setup, unit, holding, store, ends);
     }
@@ -80,6 +83,9 @@ fn trial(line: &[u8]) {
     }
     if check::same(kind, b"made-up-big") {
         return trial_big::tiny::made_up(line);
+    }
+    if check::same(kind, b"made-up-play") {
+        return trial_play::made_up(line);
     }
     tables(line);
 }

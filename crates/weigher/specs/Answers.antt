@@ -1,6 +1,6 @@
 -- What the weigher's two calls answer (document 01, "The weigher"; document 02, 2.1, 2.5), and the number of each rule.
 -- Main definitions: `Weighs`, `Compares`, the contracts of the calls; `weighedFigures`, `comparedFigures`; `ruleNumber`.
--- Main statements: `weighs-is`, `compares-is`, `compares`. Assumes nothing.
+-- Main statements: `same-verdict`, `weighs-is`, `compares-is`, `compares`. Assumes nothing.
 use mathlib.Core.Path.{_≡_, refl, sym, ap, ap₂, subst, _∙_}
 use mathlib.Core.List.{List, [], _∷_, _++_}
 use mathlib.Core.Option.{Option, none, some}
@@ -110,12 +110,14 @@ verdict-back : (v : Verdict) → verdictWith (verdictFigures v) ≡ v
 verdict-back (Holds t) = refl
 verdict-back (Broken r i) = ap (λ (q : Rule). Broken q i) (rule-back r)
 
+-- equal figures are of one verdict
+pub same-verdict : (v w : Verdict) → verdictFigures v ≡ verdictFigures w → v ≡ w
+same-verdict v w e = sym (verdict-back v) ∙ (ap verdictWith e ∙ verdict-back w)
+
 -- so there is one answer that keeps the weigher's promise
 pub weighs-is : (d : Day) (plan : List ℕ) (w : Weighed) → Weighs d plan w → w ≡ weighedOf d plan
 weighs-is d plan (Refused r) g = rw (gives-is g) refl
-weighs-is d plan (Judged v) e =
-    let same : v ≡ verdictOf d (at plan) = sym (verdict-back v) ∙ (ap verdictWith (e .1) ∙ verdict-back (verdictOf d (at plan))) in
-    rw (e .0) (ap Judged same)
+weighs-is d plan (Judged v) e = rw (e .0) (ap Judged (same-verdict v (verdictOf d (at plan)) (e .1)))
 
 -- they fix what two verdicts compare to
 abbrev betweenFigures : Figures ℤ → Option (List ℤ) → Compared

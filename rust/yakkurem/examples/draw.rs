@@ -1,6 +1,9 @@
 //! Plans a day of 96 quarter hours and draws it as an SVG: need and amounts made above, charge left and its limit below.
 //!
 //!     cargo run --offline --release --package yakkurem --example draw > docs/day.svg
+mod picture;
+
+use picture::{begin, below, end, legend, Panel, WIDTH};
 use yakkurem::{full, Day, Memory};
 
 const PERIODS: usize = 96;
@@ -28,61 +31,30 @@ fn store(i: usize) -> u16 {
     }
 }
 
-/// A panel of the picture: where its axis stands, how tall it is, and the amount that fills it.
-struct Panel {
-    bottom: f64,
-    height: f64,
-    most: f64,
-}
-
-const LEFT: f64 = 64.0;
-const WIDTH: f64 = 864.0;
-
 fn x(period: usize) -> f64 {
-    LEFT + WIDTH * period as f64 / PERIODS as f64
+    picture::x(period, PERIODS)
 }
 
-impl Panel {
-    fn y(&self, amount: f64) -> f64 {
-        self.bottom - self.height * amount / self.most
+/// A bar of the whole period's width, or a part of it, in its middle.
+fn bar(panel: &Panel, period: usize, amount: u16, part: f64, colour: &str) {
+    if amount == 0 {
+        return;
     }
-
-    /// Lines and figures at round amounts, and the panel's name.
-    fn grid(&self, step: usize, name: &str) {
-        for amount in (0..=self.most as usize).step_by(step) {
-            let y = self.y(amount as f64);
-            let colour = if amount == 0 { "#555" } else { "#ddd" };
-            println!("<line x1='{LEFT}' x2='{}' y1='{y:.1}' y2='{y:.1}' stroke='{colour}'/>", LEFT + WIDTH);
-            println!("<text x='{}' y='{:.1}' text-anchor='end'>{amount}</text>", LEFT - 8.0, y + 4.0);
-        }
-        println!("<text x='{LEFT}' y='{:.1}' font-weight='bold'>{name}</text>", self.bottom - self.height - 12.0);
-    }
-
-    /// A bar of the whole period's width, or a part of it, in its middle.
-    fn bar(&self, period: usize, amount: u16, part: f64, colour: &str) {
-        if amount == 0 {
-            return;
-        }
-        let whole = WIDTH / PERIODS as f64;
-        let (y, width) = (self.y(amount as f64), whole * part);
-        println!(
-            "<rect x='{:.1}' y='{y:.1}' width='{width:.1}' height='{:.1}' fill='{colour}'/>",
-            x(period) + (whole - width) / 2.0,
-            self.bottom - y
-        );
-    }
-
-    /// A line over the whole period, where there is a limit.
-    fn limit(&self, period: usize, limit: u16, colour: &str) {
-        if limit < NO_LIMIT {
-            let (from, to, y) = (x(period), x(period + 1), self.y(limit as f64));
-            println!("<line x1='{from:.1}' x2='{to:.1}' y1='{y:.1}' y2='{y:.1}' stroke='{colour}' stroke-width='2'/>");
-        }
-    }
+    let whole = WIDTH / PERIODS as f64;
+    let (y, width) = (panel.y(amount as f64), whole * part);
+    println!(
+        "<rect x='{:.1}' y='{y:.1}' width='{width:.1}' height='{:.1}' fill='{colour}'/>",
+        x(period) + (whole - width) / 2.0,
+        panel.bottom - y
+    );
 }
 
-fn legend(at: f64, colour: &str, name: &str) {
-    println!("<rect x='{at}' y='40' width='12' height='12' fill='{colour}'/><text x='{}' y='51'>{name}</text>", at + 18.0);
+/// A line over the whole period, where there is a limit.
+fn limit(panel: &Panel, period: usize, limit: u16, colour: &str) {
+    if limit < NO_LIMIT {
+        let (from, to, y) = (x(period), x(period + 1), panel.y(limit as f64));
+        println!("<line x1='{from:.1}' x2='{to:.1}' y1='{y:.1}' y2='{y:.1}' stroke='{colour}' stroke-width='2'/>");
+    }
 }
 
 fn main() {
@@ -105,27 +77,22 @@ fn main() {
     }
     let most = charge.iter().max().unwrap().div_ceil(20) * 20;
 
-    println!("<svg xmlns='http://www.w3.org/2000/svg' viewBox='0 0 960 540' font-family='sans-serif' font-size='13' fill='#333'>");
-    println!("<rect width='960' height='540' fill='white'/>");
-    println!(
-        "<text x='{LEFT}' y='26' font-size='17'>A planned day: {total} Wh in 96 periods, {} µl of fuel, {} starts</text>",
-        planned.cost, planned.setups
-    );
+    begin(&format!("A planned day: {total} Wh in 96 periods, {} µl of fuel, {} starts", planned.cost, planned.setups));
     legend(496.0, "#b9c6d6", "need");
     legend(576.0, "#d9772b", "amount made");
     legend(708.0, "#4f8f6b", "charge left");
     legend(824.0, "#a03050", "store limit");
-    let (above, below) = (Panel { bottom: 300.0, height: 200.0, most: 60.0 }, Panel { bottom: 500.0, height: 140.0, most: most as f64 });
-    above.grid(10, "Wh in a period (capacity 60)");
-    below.grid(20, "Wh left at a period's end");
+    let (upper, lower) = (Panel { bottom: 300.0, height: 200.0, most: 60.0 }, Panel { bottom: 500.0, height: 140.0, most: most as f64 });
+    upper.grid(10, "Wh in a period (capacity 60)");
+    lower.grid(20, "Wh left at a period's end");
     for i in 0..PERIODS {
-        above.bar(i, demand[i], 1.0, "#b9c6d6");
-        above.bar(i, amounts[i], 0.6, "#d9772b");
-        below.bar(i, charge[i] as u16, 1.0, "#4f8f6b");
-        below.limit(i, store[i], "#a03050");
+        bar(&upper, i, demand[i], 1.0, "#b9c6d6");
+        bar(&upper, i, amounts[i], 0.6, "#d9772b");
+        bar(&lower, i, charge[i] as u16, 1.0, "#4f8f6b");
+        limit(&lower, i, store[i], "#a03050");
     }
     for hour in (0..=24).step_by(3) {
-        println!("<text x='{:.1}' y='522' text-anchor='middle'>{hour}:00</text>", x(4 * hour));
+        below(x(4 * hour), &format!("{hour}:00"));
     }
-    println!("</svg>");
+    end();
 }

@@ -49,6 +49,7 @@ calls_with_a_day! {
     fn yakkurem_big(usize, *mut u64, usize, *mut u16, usize, *mut u64);
     fn yakkurem_weigh(*const u16, usize, *mut u64);
     fn yakkurem_compare(*const u16, usize, *const u16, usize, *mut i64);
+    fn yakkurem_play(*const u16, usize, *const u16, usize, *mut u64);
     fn yakkurem_write(*mut u8, usize, *mut u64);
 }
 
@@ -100,6 +101,10 @@ pub fn weigh(day: Day, plan: &[u16], answer: &mut [u64; 2]) -> u64 {
 
 pub fn compare(day: Day, first: &[u16], second: &[u16], difference: &mut [i64; 1]) -> u64 {
     call_with_day!(yakkurem_compare, day, first.as_ptr(), first.len(), second.as_ptr(), second.len(), difference.as_mut_ptr())
+}
+
+pub fn play(day: Day, plan: &[u16], actual: &[u16], answer: &mut [u64; 5]) -> u64 {
+    call_with_day!(yakkurem_play, day, plan.as_ptr(), plan.len(), actual.as_ptr(), actual.len(), answer.as_mut_ptr())
 }
 
 #[rustfmt::skip]

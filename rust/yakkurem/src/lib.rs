@@ -1,7 +1,7 @@
 //! Safe calls of the proved planner. The meaning of each is in include/yakkurem.h; this crate turns codes into results.
 //!
 //! Names are lot sizing's. The documents': demand is need, setup is start cost, holding is upkeep, setups are starts, loads are full-load and
-//! part-loaded periods.
+//! part-loaded periods; produced is made, lost is missed, disposed is spilled.
 pub mod codes;
 
 /// A day: one entry a period in each table, the charge at its beginning, and the charge that it is to hand on.
@@ -86,6 +86,20 @@ pub struct BigTotals {
     pub gap: u64,
 }
 
+/// What a plan did against actual needs, over the day. The opening charge and what was produced are delivered, disposed or left; what was
+/// needed is delivered or lost.
+#[derive(Clone, Copy, Debug, PartialEq, Eq)]
+pub struct Play {
+    pub produced: u64,
+    pub delivered: u64,
+    /// needed where the charge did not reach
+    pub lost: u64,
+    /// charge above the store's limit
+    pub disposed: u64,
+    /// the charge after the last period
+    pub left: u64,
+}
+
 /// The documents' number of a refusal, and the period that it names; 0 where it names none.
 #[derive(Clone, Copy, Debug, PartialEq, Eq)]
 pub struct Refusal {
@@ -102,7 +116,7 @@ pub enum Rule {
     Over,
 }
 
-/// Why a plan was not weighed, or the first rule that it breaks and the period.
+/// Why a plan was not weighed or played, or the first rule that it breaks and the period.
 #[derive(Clone, Copy, Debug, PartialEq, Eq)]
 pub enum Fault {
     Refused(Refusal),
@@ -206,6 +220,18 @@ pub fn compare(day: Day, first: &[u16], second: &[u16]) -> Result<i64, Fault> {
     let mut difference = [0];
     match codes::compare(day, first, second, &mut difference) {
         0 => Ok(difference[0]),
+        code => Err(fault(code)),
+    }
+}
+
+/// Plays a plan that holds against actual needs, in place of the day's, which it was made for. One that breaks a rule is not played.
+pub fn play(day: Day, plan: &[u16], actual: &[u16]) -> Result<Play, Fault> {
+    let mut answer = [0; 5];
+    match codes::play(day, plan, actual, &mut answer) {
+        0 => {
+            let [produced, delivered, lost, disposed, left] = answer;
+            Ok(Play { produced, delivered, lost, disposed, left })
+        }
         code => Err(fault(code)),
     }
 }

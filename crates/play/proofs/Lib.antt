@@ -1,0 +1,2 @@
+-- What the proof of the call shares.
+pub mod Laws

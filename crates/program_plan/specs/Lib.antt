@@ -1,0 +1,2 @@
+-- The full path in the areas of document 01.
+pub mod Areas
