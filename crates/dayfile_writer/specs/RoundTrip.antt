@@ -263,6 +263,10 @@ records-rest d (suc n) k l =
     (λ lt. let w = records-rest d n k lt in (w .0 ++ recordOf d n, rw (w .1) (simp append-assoc)))
     (eq-or-lt-of-le (le-of-suc-le-suc l))
 
+-- the parts of a file in two groupings
+regroup : (h a b r e : List ℕ) → h ++ ((a ++ (b ++ r)) ++ e) ≡ (h ++ a) ++ (b ++ (r ++ e))
+regroup h a b r e = simp append-assoc
+
 -- the body of record k is as long as its kind says
 abbrev fieldsAt : Day → ℕ → List ℕ
 fieldsAt d k = fieldsOf (at (d .demand) k) (at (d .capacity) k) (at (d .setup) k) (at (d .unit) k) (at (d .holding) k)
@@ -304,16 +308,20 @@ module _ (t : Stamp) (d : Day) where
   before k = upTo t d k
 
   before-length : (k : ℕ) → length (before k) ≡ length (headOf t (d .opening) (d .closing)) + recordBytes (at (d .store)) k
-  before-length k = rw (length-append, records-length) refl
+  before-length k = rw (length-append (headOf t (d .opening) (d .closing)) (recordsOf d k), records-length) refl
 
-  pub file-length : length file ≡ length (headOf t (d .opening) (d .closing)) + recordBytes (at (d .store)) (periods d) + 3
-  file-length = rw (length-append, length-append, records-length) (omega arith)
+  pub file-length : length file ≡ 5 + length (chargesOf (d .opening) (d .closing)) + recordBytes (at (d .store)) (periods d) + 3
+  file-length =
+      let end = endKind ∷ bytes2 (periods d) in
+      let records = recordsOf d (periods d) in
+      rw (length-append (headOf t (d .opening) (d .closing)) (records ++ end), length-append records end, records-length) (omega arith)
 
   -- what follows k records
   from : (k : ℕ) → k < periods d → (rest : List ℕ) × (file ≡ before k ++ (recordOf d k ++ rest))
   from k l =
       let w = records-rest d (periods d) k l in
-      (w .0 ++ (endKind ∷ bytes2 (periods d)), rw (w .1) (simp append-assoc))
+      let end = endKind ∷ bytes2 (periods d) in
+      (w .0 ++ end, rw (w .1) (regroup (headOf t (d .opening) (d .closing)) (recordsOf d k) (recordOf d k) (w .0) end))
 
   placed : (k : ℕ) → k < periods d → Stands file (length (before k)) (kindOf (at (d .store) k)) (periodBody d k)
   placed k l = let w = from k l in rw (w .1) (stands (before k) (kindOf (at (d .store) k)) (periodBody d k) (w .0) (body-fits d k))
@@ -329,7 +337,10 @@ module _ (t : Stamp) (d : Day) where
       let n = periods d in
       ⊎-elim
       (λ (e : 0 ≡ n). (endKind, bytes2 n, ap (λ (k : ℕ). head ++ (recordsOf d k ++ endKind ∷ bytes2 n)) (sym e), λ q. omega arith))
-      (λ l. let w = from 0 l in (kindOf (at (d .store) 0), periodBody d 0 ++ w .0, rw append-nil at (w .1), kind (ltb (at (d .store) 0) maxStore)))
+      (λ l.
+        let w = from 0 l in
+        let next : file ≡ head ++ (recordOf d 0 ++ w .0) = w .1 ∙ ap (λ (h : List ℕ). h ++ (recordOf d 0 ++ w .0)) (append-nil head) in
+        (kindOf (at (d .store) 0), periodBody d 0 ++ w .0, next, kind (ltb (at (d .store) 0) maxStore)))
       (eq-or-lt-of-le z)
     where
       kind : (b : Bool) → cond b storeKind periodKind ≡ chargeKind → ⊥
@@ -344,7 +355,7 @@ module _ (t : Stamp) (d : Day) where
   file-stamp = (head-of-file .stamped, head-of-file .stamp)
 
   record-place : (k : ℕ) → k ≤ periods d → recordAt file k ≡ length (before k)
-  record-place zero l = rw append-nil (head-of-file .place)
+  record-place zero l = head-of-file .place ∙ sym (ap length (append-nil (headOf t (d .opening) (d .closing))))
   record-place (suc k) l =
       rw (record-place k (omega arith), placed k l .kind) (omega (arith, body-fits d k, before-length k, before-length (suc k)))
 

@@ -25,7 +25,7 @@ use Rattle.day.specs.declared.Refusal.the-variants.{WrongStamp}
 use Rattle.day.specs.Refusals.{Gives, badCount, badValue, badSlots, tableTests}
 use Rattle.day.specs.Tests.{first-split, first-passed}
 use Rattle.day.specs.Figures.{first-value}
-use Rattle.day.specs.File.{number2, periodsIn, stampIn, isExpected, field, dayIn, fileOf}
+use Rattle.day.specs.File.{number2, periodsIn, stampIn, sameStamp, isExpected, field, dayIn, fileOf}
 use Rattle.checks.specs.Passed.{Limits, tables-passed, lengths-pass, tables-pass}
 use Rattle.dayfile.specs.declared.ReadAnswer.{ReadAnswer}
 use Rattle.dayfile.specs.declared.ReadAnswer.the-variants as reader
@@ -78,7 +78,8 @@ read-is-written t s n ends before after out out′ answer h r w room =
     let day = day-in-front s n ends before after (given .0) (given .1) (r .2) in
     let made : fileOf t (dayIn s) ≡ s = rw (← stamp) (sym (only-file s h (found .0) (laid-out s (each .0)))) in
     let counts : badCount (periods (dayIn s)) ≡ none = ap badCount (length-listOf (field number2 0 s) (periodsIn s)) ∙ each .1 .1 .0 in
-    let fits : badSlots (length out) (length (fileOf t (dayIn s))) ≡ none = rw (made, le-ltb (length out) (length s) room) refl in
+    let fits : badSlots (length out) (length (fileOf t (dayIn s))) ≡ none =
+    ap (λ (file : List ℕ). badSlots (length out) (length file)) made ∙ rw (le-ltb (length out) (length s) room) refl in
     let ok : badWrite t (dayIn s) (length out) ≡ none =
     rw (counts, lengths-pass (dayIn s) (day-lengths s), each .1 .1 .1 .1 .0, fits) refl in
     subst
@@ -99,8 +100,9 @@ file-taken t d room cells e l =
     let each = each-passed (tableTests d ++ (last ∷ [])) e in
     let value = ap badValue (reads-back t d (limits .lengths) (λ k l. limits .within k l .store)) ∙ each .1 .1 .0 in
     let laid = file-layout t d in
+    let same : sameStamp t t ≡ true = rw (eq-eqb (t .station) (t .station) refl, eq-eqb (t .date) (t .date) refl) refl in
     let stamped : isExpected (Only t) s ≡ true =
-    rw (file-stamp t d .0, file-stamp t d .1, eq-eqb (t .station) (t .station) refl, eq-eqb (t .date) (t .date) refl) refl in
+    rw (file-stamp t d .0) (ap (λ (u : Stamp). sameStamp u t) (file-stamp t d .1) ∙ same) in
     rw (value, walk-clean s (periods d) laid, stamped, counted s (periods d) laid, each .0, le-ltb cells (periods d) l) refl
 
 pub written-is-read : (t : Stamp) (d : Day) (n : ℕ) (out out′ : List ℕ) (before after : Day) (answer : ReadAnswer)

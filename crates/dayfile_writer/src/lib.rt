@@ -117,17 +117,17 @@ fn head_record(kind: u8, first: u16, second: u16) -> [u8; 5]
     ]
 }
 
-// How long the charges are: they are written exactly if A or Z is above 0.
-fn charges_size(ends: Ends) -> usize
-    ensures { λ r. ⌜ Term (length (chargesOf (ends .opening) (ends .closing))) 5 r ⌝ }
+// How long the head is: 5 bytes for the stamp, and 5 for charges, which are written exactly if A or Z is above 0.
+fn head_size(ends: Ends) -> usize
+    ensures { λ r. ⌜ Term (5 + length (chargesOf (ends .opening) (ends .closing))) 10 r ⌝ }
 {
     if ends.opening != 0 {
-        return 5;
+        return 10;
     }
     if ends.closing != 0 {
-        return 5;
+        return 10;
     }
-    0
+    5
 }
 
 // The end record.
@@ -154,7 +154,7 @@ fn put_charges(out: &mut [u8], at: usize, ends: Ends)
     requires { ⌜ at + length (chargesOf (ends .opening) (ends .closing)) ≤ length (now out) ⌝ }
     ensures { λ _. ⌜ now (out .exit) ≡ sets (now (out .entry)) at (chargesOf (ends .opening) (ends .closing)) ⌝ }
 {
-    if charges_size(ends) == 0 {
+    if head_size(ends) == 5 {
         return;
     }
     let record = head_record(CHARGES, ends.opening, ends.closing);
@@ -235,7 +235,7 @@ fn put_file(
     ensures { λ _. ⌜ now (out .exit) ≡ withFile stamp (dayBefore demand capacity setup unit holding store ends) (now (out .entry)) ⌝ }
 {
     put_head(out, ends, stamp);
-    let first = 5 + charges_size(ends);
+    let first = head_size(ends);
     let end = put_periods(demand, capacity, setup, unit, holding, store, out, first);
     let record = end_record(demand.len() as u16);
     copy(&record, out, end);
@@ -258,7 +258,7 @@ pub fn write(
     if let Check::Refused(r) = checks::tables(demand, capacity, setup, unit, holding, store) {
         return WriteAnswer::Refused(r);
     }
-    let size = 5 + charges_size(ends) + records_size(store) + 3;
+    let size = head_size(ends) + records_size(store) + 3;
     if out.len() < size {
         return WriteAnswer::Refused(Refusal::FewSlots);
     }

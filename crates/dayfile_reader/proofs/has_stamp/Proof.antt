@@ -34,7 +34,7 @@ returns-2 : tie.Need-returns-2
 returns-2 c =
     let s = c .before in
     let b = s .before in
-    rw (found (b .before), ← b .body .ensures .bytes, ← s .stamp .ensures) (c .same-stamp .ensures)
+    rw (found (b .before)) (rw (s .stamp .ensures, b .body .ensures .bytes) at (c .same-stamp .ensures))
 
 pub has-stamp-spec : {M : Type 1} → statement M
 has-stamp-spec = tie.close (tie.spec (λ c κs. search needs) returns body-requires stamp-requires (λ c κs. search needs) returns-2)

@@ -4,7 +4,7 @@ use Rattle.dayfile_reader.proofs.same_stamp.Statement.{statement}
 use Rattle.dayfile_reader.proofs.same_stamp.Tie as tie
 
 returns : tie.Need-returns
-returns c = simp (eq-eqb _ _ (c .if1 .taken))
+returns c = simp (eq-eqb _ _ (c .before .before .if1 .taken))
 
 returns-2 : tie.Need-returns-2
 returns-2 c = simp (ne-eqb _ _ (c .if1 .left))

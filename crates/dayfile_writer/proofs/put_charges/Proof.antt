@@ -1,6 +1,7 @@
 -- `dayfile_writer::put_charges` meets its contract: charges of no bytes change none, any others are their record. Assumes nothing.
-use mathlib.Core.Path.{_≡_, refl, sym, ap, _∙_}
+use mathlib.Core.Path.{_≡_, refl, ap, _∙_}
 use mathlib.Core.List.{_∷_, _++_}
+use Prim.Native.Nat.{ℕ, _+_}
 use native.Mathlib.Omega.{arith}
 use borrow.Author.Needs.{needs}
 use denote.Ref.{now}
@@ -13,12 +14,13 @@ use Rattle.dayfile_writer.proofs.put_charges.Tie as tie
 returns : tie.Need-returns
 returns c =
     let a = c .before .before .before .args in
-    sets-none (chargesOf (a .ends .opening) (a .ends .closing)) (now (a .out)) (a .at) (sym (c .before .charges-size .ensures .is) ∙ c .if1 .taken)
+    sets-none (chargesOf (a .ends .opening) (a .ends .closing)) (now (a .out)) (a .at)
+    (omega (arith, c .before .head-size .ensures .is, c .if1 .taken))
 
 -- the charges are a record
 written : (c : tie.Else1) → let e = c .before .before .before .args .ends in
     chargesOf (e .opening) (e .closing) ≡ chargeKind ∷ bytes2 (e .opening) ++ bytes2 (e .closing)
-written c = charges-record _ _ (λ z. c .if1 .left (c .before .charges-size .ensures .is ∙ z))
+written c = charges-record _ _ (λ z. c .if1 .left (c .before .head-size .ensures .is ∙ ap (λ (n : ℕ). 5 + n) z))
 
 copy-requires : tie.Need-copy-requires
 copy-requires c κs =

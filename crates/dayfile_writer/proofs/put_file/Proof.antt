@@ -13,7 +13,7 @@ use Rattle.dayfile_writer.proofs.put_file.Tie as tie
 abbrev start : tie.After-put-head → tie.Start
 start c = c .before .before .before .before .before .before .before .before .before
 
-abbrev at-head : tie.After-charges-size → tie.After-put-head
+abbrev at-head : tie.After-head-size → tie.After-put-head
 at-head c = c .before .before .before
 
 abbrev day : tie.Start → Day
@@ -33,7 +33,7 @@ put-periods-requires c κs =
     let s = start f in
     let w = s .pre .0 .lengths in (
       record { capacity = w .capacity; setup = w .setup; unit = w .unit; holding = w .holding; store = w .store },
-      omega (arith, s .pre .1, file-length (s .args .stamp) (day s), z .charges-size .ensures .is, f .put-head .kept),
+      omega (arith, s .pre .1, file-length (s .args .stamp) (day s), z .head-size .ensures .is, f .put-head .kept),
     )
 
 copy-requires : tie.Need-copy-requires
@@ -44,7 +44,7 @@ copy-requires c κs =
     let f = at-head z in
     let s = start f in
     let end = ap length (e .end-record .ensures) in
-    omega (arith, s .pre .1, file-length (s .args .stamp) (day s), z .charges-size .ensures .is, f .put-head .kept, q .put-periods .kept, q .put-periods .ensures .0, end)
+    omega (arith, s .pre .1, file-length (s .args .stamp) (day s), z .head-size .ensures .is, f .put-head .kept, q .put-periods .kept, q .put-periods .ensures .0, end)
 
 returns : tie.Need-returns
 returns c =
@@ -54,7 +54,8 @@ returns c =
     let z = q .before .before in
     let f = at-head z in
     let s = start f in
-    file-stored (s .args .stamp) (day s) (now (s .args .out)) _ _ _ (s .pre .1) (z .charges-size .ensures .is) (f .put-head .ensures) (q .put-periods .ensures)
+    file-stored (s .args .stamp) (day s) (now (s .args .out)) _ _ _ (s .pre .1)
+    (omega (arith, z .head-size .ensures .is)) (f .put-head .ensures) (q .put-periods .ensures)
     (e .end-record .ensures) (p .copy .ensures)
 
 pub put-file-spec : {M : Type 1} → statement M

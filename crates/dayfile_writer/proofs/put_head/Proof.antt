@@ -16,14 +16,13 @@ copy-requires c κs =
 
 put-charges-requires : tie.Need-put-charges-requires
 put-charges-requires c κs =
-    let p = c .before .before in
-    let r = p .before .before .before in
-    omega (arith, p .copy .kept, r .before .before .pre)
+    let p = c .before .before .before in
+    omega (arith, p .copy .kept, p .before .before .before .before .before .pre)
 
 returns : tie.Need-returns
 returns c =
     let q = c .before .before in
-    let p = q .before .before in
+    let p = q .before .before .before .before in
     let r = p .before .before .before in
     let a = r .before .before .args in
     rw (q .put-charges .ensures, p .copy .ensures, r .head-record .ensures)
@@ -33,4 +32,4 @@ pub put-head-spec : {M : Type 1} → statement M
 put-head-spec =
     tie.close
     (tie.spec
-    (λ c κs. search needs) (λ c. search needs) copy-requires (λ c. search needs) put-charges-requires (λ c. search needs) returns)
+    (λ c κs. search needs) (λ c. search needs) copy-requires put-charges-requires (λ c. search needs) returns)

@@ -49,16 +49,16 @@ records-size-requires : tie.Need-records-size-requires
 records-size-requires c κs = let w = limits (c .before) in omega (arith, w .few, w .lengths .store)
 
 add-size : tie.Need-add-size
-add-size c = omega (arith, c .records-size .ensures .low, c .before .charges-size .ensures .low)
+add-size c = omega (arith, c .records-size .ensures .low, c .before .head-size .ensures .low)
 
 -- the sum is the file's length
 size-is : (c : tie.After-records-size) → let p = c .before .before .before .before in
-    5 + c .before .charges-size .result + c .records-size .result + 3 ≡ length (fileOf (start p .args .stamp) (day p))
+    c .before .head-size .result + c .records-size .result + 3 ≡ length (fileOf (start p .args .stamp) (day p))
 size-is c =
     let h = c .before in
     let p = h .before .before .before in
     let records = ap (recordBytes (at (day p .store))) (limits (h .before) .lengths .store) in
-    omega (arith, file-length (start p .args .stamp) (day p), h .charges-size .ensures .is, c .records-size .ensures .is, records)
+    omega (arith, file-length (start p .args .stamp) (day p), h .head-size .ensures .is, c .records-size .ensures .is, records)
 
 returns-2 : tie.Need-returns-2
 returns-2 c =
@@ -90,4 +90,4 @@ write-spec =
     tie.close
     (tie.spec
     (λ c κs. search needs) (λ c. search needs) returns (λ c. search needs) (λ c κs. search needs) records-size-requires
-    add-size (λ c. omega (arith, c .records-size .ensures .low, c .before .charges-size .ensures .low)) returns-2 put-file-requires (λ c. search needs) returns-3)
+    add-size (λ c. omega (arith, c .records-size .ensures .low, c .before .head-size .ensures .low)) returns-2 put-file-requires (λ c. search needs) returns-3)

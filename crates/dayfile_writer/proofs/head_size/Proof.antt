@@ -1,8 +1,8 @@
--- `dayfile_writer::charges_size` meets its contract: each `return` by its tests. Assumes nothing.
+-- `dayfile_writer::head_size` meets its contract: each `return` by its tests. Assumes nothing.
 use native.Mathlib.Omega.{arith}
 use borrow.Author.Tests.{eq-eqb, ne-eqb}
-use Rattle.dayfile_writer.proofs.charges_size.Statement.{statement}
-use Rattle.dayfile_writer.proofs.charges_size.Tie as tie
+use Rattle.dayfile_writer.proofs.head_size.Statement.{statement}
+use Rattle.dayfile_writer.proofs.head_size.Tie as tie
 
 returns : tie.Need-returns
 returns c = record { is = simp (ne-eqb _ _ (c .if1 .taken)); low = omega arith }
@@ -13,5 +13,5 @@ returns-2 c = record { is = simp (eq-eqb _ _ (c .before .before .if1 .left), ne-
 returns-3 : tie.Need-returns-3
 returns-3 c = record { is = simp (eq-eqb _ _ (c .before .before .if1 .left), eq-eqb _ _ (c .if2 .left)); low = omega arith }
 
-pub charges-size-spec : {M : Type 1} → statement M
-charges-size-spec = tie.close (tie.spec returns returns-2 returns-3)
+pub head-size-spec : {M : Type 1} → statement M
+head-size-spec = tie.close (tie.spec returns returns-2 returns-3)
