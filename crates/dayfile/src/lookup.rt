@@ -24,7 +24,10 @@ pub fn check(file: &[u8], period: usize) -> Check
 {
     let n = layout::periods(file);
     let walked = layout::walk(file, n);
-    checks::in_order(walked, checks::in_order(checks::count(n), number(n, period)))
+    checks::in_order(
+        walked,
+        checks::in_order(checks::count(n), number(n, period)),
+    )
 }
 
 // The body of the record of `period`, counted from 1: that very part of the file's bytes. An empty part where `check` refuses.

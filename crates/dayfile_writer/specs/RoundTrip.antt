@@ -338,9 +338,9 @@ module _ (t : Stamp) (d : Day) where
       ⊎-elim
       (λ (e : 0 ≡ n). (endKind, bytes2 n, ap (λ (k : ℕ). head ++ (recordsOf d k ++ endKind ∷ bytes2 n)) (sym e), λ q. omega arith))
       (λ l.
-        let w = from 0 l in
-        let next : file ≡ head ++ (recordOf d 0 ++ w .0) = w .1 ∙ ap (λ (h : List ℕ). h ++ (recordOf d 0 ++ w .0)) (append-nil head) in
-        (kindOf (at (d .store) 0), periodBody d 0 ++ w .0, next, kind (ltb (at (d .store) 0) maxStore)))
+      let w = from 0 l in
+      let next : file ≡ head ++ (recordOf d 0 ++ w .0) = w .1 ∙ ap (λ (h : List ℕ). h ++ (recordOf d 0 ++ w .0)) (append-nil head) in
+      (kindOf (at (d .store) 0), periodBody d 0 ++ w .0, next, kind (ltb (at (d .store) 0) maxStore)))
       (eq-or-lt-of-le z)
     where
       kind : (b : Bool) → cond b storeKind periodKind ≡ chargeKind → ⊥

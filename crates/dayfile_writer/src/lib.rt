@@ -263,7 +263,15 @@ pub fn write(
         return WriteAnswer::Refused(Refusal::FewSlots);
     }
     put_file(
-        demand, capacity, setup, unit, holding, store, out, ends, stamp,
+        demand,
+        capacity,
+        setup,
+        unit,
+        holding,
+        store,
+        out,
+        ends,
+        stamp,
     );
     WriteAnswer::Bytes(size)
 }

@@ -49,7 +49,14 @@ fn read(
         return ReadAnswer::Refused(Refusal::WrongEnd);
     }
     dayfile_reader::read(
-        file, demand, capacity, setup, unit, holding, store, expected,
+        file,
+        demand,
+        capacity,
+        setup,
+        unit,
+        holding,
+        store,
+        expected,
     )
 }
 

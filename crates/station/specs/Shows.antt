@@ -49,12 +49,12 @@ abbrev pub ReadShows : (file expected demand capacity setup unit holding store d
 ReadShows file expected demand capacity setup unit holding store day r =
     Shows
     (λ a.
-      Reading
-      (expectedOf (now (expected .entry)))
-      (now (file .entry))
-      (tablesBefore demand capacity setup unit holding store)
-      a
-      (tablesAfter demand capacity setup unit holding store))
+    Reading
+    (expectedOf (now (expected .entry)))
+    (now (file .entry))
+    (tablesBefore demand capacity setup unit holding store)
+    a
+    (tablesAfter demand capacity setup unit holding store))
     readFigures
     day
     r

@@ -366,19 +366,26 @@ pub extern "C" fn yakkurem_write(
     opening: u16,
     closing: u16,
     station: u16,
-    day_number: u16,
+    date: u16,
     out: &mut [u8],
     count: &mut [u64; 1],
 ) -> u64
     ensures { λ r. ⌜
-        WriteShows (stampWith station day_number) demand capacity setup unit holding store (endsWith opening closing) out count r ⌝ }
+        WriteShows (stampWith station date) demand capacity setup unit holding store (endsWith opening closing) out count r ⌝ }
 {
     let ends = Ends { opening, closing };
-    let stamp = Stamp {
-        station,
-        date: day_number,
-    };
-    let a = dayfile_writer::write(demand, capacity, setup, unit, holding, store, out, ends, stamp);
+    let stamp = Stamp { station, date };
+    let a = dayfile_writer::write(
+        demand,
+        capacity,
+        setup,
+        unit,
+        holding,
+        store,
+        out,
+        ends,
+        stamp,
+    );
     codes::written(a, count)
 }
 
