@@ -1,6 +1,6 @@
 //! Makes a failing input smaller as long as it still fails, and prints it.
 use crate::input::{Call, Input};
-use crate::plain::{self, Day};
+use crate::plain::{self, Day, Stamp};
 use std::time::{Duration, Instant};
 
 /// Smaller numbers to try in place of one.
@@ -76,14 +76,29 @@ fn steps(input: &Input) -> Vec<Input> {
             tries.push(Input { file, ..input.clone() });
         }
     }
-    // records of any file: the first may have 5 bytes
-    for (first, length) in [(0, 5), (0, 17), (5, 17), (0, 19), (5, 19)] {
+    // records of any file: the first two may have 5 bytes each
+    for (first, length) in [(0, 5), (0, 17), (5, 17), (10, 17), (0, 19), (5, 19), (10, 19)] {
         for at in (first..input.file.len()).step_by(length) {
             let mut next = input.clone();
             next.file.drain(at..(at + length).min(input.file.len()));
             tries.push(next);
         }
     }
+    // a file's stamp together with the expected one
+    if let [station, date] = input.expected[..] {
+        if input.file.starts_with(&plain::stamp_record(Stamp { station, date })) {
+            let unstamped = Input { file: input.file[1 + plain::STAMP_BODY..].to_vec(), ..input.clone() };
+            tries.extend(smaller(station as u64).into_iter().map(|v| unstamped.stamped(Stamp { station: v as u16, date })));
+            tries.extend(smaller(date as u64).into_iter().map(|v| unstamped.stamped(Stamp { station, date: v as u16 })));
+        }
+    }
+    for station in smaller(input.stamp.station as u64) {
+        tries.push(Input { stamp: Stamp { station: station as u16, ..input.stamp }, ..input.clone() });
+    }
+    for date in smaller(input.stamp.date as u64) {
+        tries.push(Input { stamp: Stamp { date: date as u16, ..input.stamp }, ..input.clone() });
+    }
+    tries.extend((0..input.expected.len()).map(|i| Input { expected: without(&input.expected, i), ..input.clone() }));
     // the charge at both ends, together and alone
     let both = day.opening.min(day.closing) as u64;
     for less in smaller(both).into_iter().map(|v| (both - v) as u16) {
@@ -105,6 +120,7 @@ fn steps(input: &Input) -> Vec<Input> {
     values(input, |x| &mut x.day.unit, |v| v as u32, smaller, &mut tries);
     values(input, |x| &mut x.day.holding, |v| v as u32, smaller, &mut tries);
     values(input, |x| &mut x.file, |v| v as u8, smaller, &mut tries);
+    values(input, |x| &mut x.expected, |v| v as u16, smaller, &mut tries);
     if !input.plans.is_empty() {
         values(input, |x| &mut x.plans[0], |v| v as u16, smaller, &mut tries);
     }
@@ -149,7 +165,7 @@ pub fn shrink(input: &Input, fails: impl Fn(&Input) -> bool) -> Input {
 
 /// An input in document 01's form.
 pub fn show(input: &Input) -> String {
-    let Input { day, lowest, actual, plans, file, period, trials, lent, .. } = input;
+    let Input { day, lowest, actual, plans, file, expected, stamp, period, trials, lent, .. } = input;
     let words = |numbers: Vec<u64>| numbers.iter().map(u64::to_string).collect::<Vec<_>>().join(" ");
     let words16 = |table: &[u16]| words(table.iter().map(|&v| v as u64).collect());
     let words32 = |table: &[u32]| words(table.iter().map(|&v| v as u64).collect());
@@ -182,8 +198,14 @@ pub fn show(input: &Input) -> String {
     if matches!(input.call, Call::Read | Call::Lookup) {
         lines.push(format!("file {}", file.iter().map(|byte| format!("{byte:02X}")).collect::<Vec<_>>().join(" ")));
     }
+    if input.call == Call::Read {
+        lines.push(format!("expected {}", words16(expected)));
+    }
     if input.call == Call::Lookup {
         lines.push(format!("period {period}"));
+    }
+    if input.call == Call::Write {
+        lines.push(format!("station {}, date {}", stamp.station, stamp.date));
     }
     if !lent.is_empty() {
         lines.push(format!("cells lent {}", words(lent.iter().map(|&v| v as u64).collect())));
