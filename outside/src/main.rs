@@ -67,7 +67,7 @@ impl Run {
 
     fn try_input(&mut self, input: &Input) {
         let expected = compare::expected(input);
-        // every seventh, so that of those with and without a stamp, which take turns, some of each are
+        // every seventh by the crate's results too, an odd number as inputs without a stamp and with one take turns
         if differs(input, &expected) || self.inputs % 7 == 0 && !compare::results_agree(input, &expected) {
             report(input);
         }
