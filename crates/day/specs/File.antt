@@ -82,7 +82,7 @@ bothZero opening closing = eqb opening 0 && eqb closing 0
 abbrev pub isCharges : List ℕ → ℕ → Bool
 isCharges s p = isRecord chargeKind s p && not (bothZero (number2 (body s p) 0) (number2 (body s p) 2))
 
--- a file with a stamp: a whole one stands first
+-- a file with a stamp (document 02: the pair): a whole record of it stands first
 abbrev pub isStamped : List ℕ → Bool
 isStamped s = isRecord stampKind s 0
 
@@ -90,7 +90,7 @@ isStamped s = isRecord stampKind s 0
 abbrev pub chargesAt : List ℕ → ℕ
 chargesAt s = cond (isStamped s) (next s 0) 0
 
--- there are some
+-- whether there are some
 abbrev pub hasCharges : List ℕ → Bool
 hasCharges s = isCharges s (chargesAt s)
 
@@ -150,7 +150,7 @@ badEnd s p n = first (unknownKind s p ∷ misplaced s p ∷ truncated s p ∷ wr
 abbrev pub walk : List ℕ → Option Refusal
 walk s = badEnd s (recordAt s (periodsIn s)) (periodsIn s)
 
--- the stamp that a body of kind 5 holds, and a file that has one
+-- the stamp of two numbers; that of a body of kind 5; that of a file, where it has one
 abbrev pub stampWith : (station date : ℕ) → Stamp
 stampWith station date = record { station = station; date = date }
 
@@ -160,7 +160,7 @@ stampOf b = stampWith (number2 b 0) (number2 b 2)
 abbrev pub stampIn : List ℕ → Stamp
 stampIn s = stampOf (body s 0)
 
--- 20: there is no stamp, or not the one that is expected; no file has it where nothing is
+-- 20: the file has no stamp, or not the expected one; where nothing is expected no file has it
 abbrev pub sameStamp : Stamp → Stamp → Bool
 sameStamp t u = eqb (t .station) (u .station) && eqb (t .date) (u .date)
 
@@ -204,7 +204,8 @@ dayIn s = record {
   closing = chargeIn 2 s;
 }
 
--- the bytes of numbers; the head: stamp, charges; a period's body and record; the file of a day: the head, the period records, the end record
+-- the bytes of numbers; the head: its stamp, then charges, where they are not both 0; a period's body and record; the file of a stamp and a day: the
+-- head, the period records, the end record
 abbrev pub bytes2 : ℕ → List ℕ
 bytes2 v = v / 256 ∷ v % 256 ∷ []
 

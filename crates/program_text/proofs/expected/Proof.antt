@@ -1,6 +1,4 @@
 -- `program_text::expected` meets its contract: by the test of the length. Assumes nothing.
-use mathlib.Core.Path.{ap, _∙_}
-use native.Mathlib.Omega.{arith}
 use borrow.Author.Needs.{needs}
 use borrow.Author.Tests.{eq-eqb, ne-eqb}
 use Rattle.program_text.proofs.expected.Statement.{statement}

@@ -1,7 +1,5 @@
 -- `dayfile::lookup::check` meets its contract: the walk's refusal, or that of the count, or that of the period's number after it. Assumes nothing.
-use mathlib.Core.Path.{refl}
-use mathlib.Core.List.{List, [], _∷_}
-use Prim.Native.Nat.{ℕ}
+use mathlib.Core.List.{[], _∷_}
 use borrow.Author.Needs.{needs}
 use denote.Ref.{now}
 use Rattle.day.specs.Refusals.{badCount}
