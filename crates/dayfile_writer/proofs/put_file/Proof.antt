@@ -44,7 +44,8 @@ copy-requires c κs =
     let f = at-head z in
     let s = start f in
     let end = ap length (e .end-record .ensures) in
-    omega (arith, s .pre .1, file-length (s .args .stamp) (day s), z .head-size .ensures .is, f .put-head .kept, q .put-periods .kept, q .put-periods .ensures .0, end)
+    let long = file-length (s .args .stamp) (day s) in
+    omega (arith, s .pre .1, long, z .head-size .ensures .is, f .put-head .kept, q .put-periods .kept, q .put-periods .ensures .0, end)
 
 returns : tie.Need-returns
 returns c =

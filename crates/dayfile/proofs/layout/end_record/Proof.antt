@@ -106,5 +106,5 @@ pub end-record-spec : {M : Type 1} → statement M
 end-record-spec =
     tie.close
     (tie.spec
-    returns (λ c. search needs) (λ c κs. search needs) returns-2 (λ c. search needs) (λ c κs. search needs) (λ c κs. search needs) returns-3 (λ c κs. search needs)
-    returns-4 (λ c. search needs) returns-5 returns-6 (λ c κs. search needs) number2-requires (λ c. search needs) returns-7 returns-8)
+    returns (λ c. search needs) (λ c κs. search needs) returns-2 (λ c. search needs) (λ c κs. search needs) (λ c κs. search needs) returns-3
+    (λ c κs. search needs) returns-4 (λ c. search needs) returns-5 returns-6 (λ c κs. search needs) number2-requires (λ c. search needs) returns-7 returns-8)

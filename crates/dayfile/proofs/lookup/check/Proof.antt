@@ -19,12 +19,14 @@ returns c =
     let a = p .before .before .args in
     let s = now (a .file) in
     let n = p .periods .ensures in
-    let rest = in-order-two (badCount (periodsIn s)) (noSuchPeriod (periodsIn s) (a .period))
-    (rw n at (counted .count .ensures)) (rw n at (named .number .ensures)) (later .in-order .ensures) in
-    is-checks _ _ (in-order (walk s) (badCount (periodsIn s) ∷ noSuchPeriod (periodsIn s) (a .period) ∷ []) (walked .walk .ensures) rest (c .in-order2 .ensures))
+    let count = badCount (periodsIn s) in
+    let number = noSuchPeriod (periodsIn s) (a .period) in
+    let rest = in-order-two count number (rw n at (counted .count .ensures)) (rw n at (named .number .ensures)) (later .in-order .ensures) in
+    is-checks _ _ (in-order (walk s) (count ∷ number ∷ []) (walked .walk .ensures) rest (c .in-order2 .ensures))
 
 pub check-spec : {M : Type 1} → statement M
 check-spec =
     tie.close
     (tie.spec
-    (λ c κs. search needs) (λ c κs. search needs) (λ c κs. search needs) (λ c κs. search needs) (λ c κs. search needs) (λ c κs. search needs) returns)
+    (λ c κs. search needs) (λ c κs. search needs) (λ c κs. search needs) (λ c κs. search needs) (λ c κs. search needs) (λ c κs. search needs)
+    returns)
