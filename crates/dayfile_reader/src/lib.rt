@@ -4,17 +4,16 @@ ghost use mathlib.Core.Path.{_≡_};
 ghost use Prim.Native.Nat.{_≤_};
 ghost use lib.ListN.{length};
 ghost use Rattle.day.specs.Day.{tablesOf, endsOf, maxPeriods};
-ghost use Rattle.day.specs.Refusals.{checked, first, badValue};
-ghost use Rattle.day.specs.File.{bodyLength, limitIn, periodsIn, sameStamp, hasStamp, isExpected, wrongStamp, dayIn};
+ghost use Rattle.day.specs.Refusals.{checked, badValue};
+ghost use Rattle.day.specs.File.{bodyLength, limitIn, periodsIn, dayIn};
 ghost use Rattle.day.specs.Lent.{tablesBefore, tablesAfter};
 ghost use Rattle.tables.specs.Filled.{Cells};
-ghost use Rattle.dayfile.specs.Answers.{fileTests, withDay, badRead, Reading};
+ghost use Rattle.dayfile.specs.Answers.{withDay, badRead, Reading};
 ghost use Rattle.dayfile_reader.specs.Numbers.{numbersIn};
 use day::Check;
 use day::Ends;
 use day::Expected;
 use day::Refusal;
-use day::Stamp;
 use dayfile::ReadAnswer;
 use dayfile::layout;
 use tables::Numbers;
@@ -134,57 +133,12 @@ fn values(file: &[u8], n: usize) -> Check
     )
 }
 
-fn same_stamp(a: Stamp, b: Stamp) -> bool
-    ensures { λ r. ⌜ r ≡ sameStamp a b ⌝ }
-{
-    a.station == b.station && a.date == b.date
-}
-
-fn has_stamp(file: &[u8], stamp: Stamp) -> bool
-    ensures { λ r. ⌜ r ≡ hasStamp stamp (now (file .entry)) ⌝ }
-{
-    if !layout::is_stamped(file) {
-        return false;
-    }
-    same_stamp(layout::stamp(layout::body(file, 0)), stamp)
-}
-
-// Whether the file has the expected stamp; none has where nothing is expected.
-fn is_expected(file: &[u8], expected: Expected) -> bool
-    ensures { λ r. ⌜ r ≡ isExpected expected (now (file .entry)) ⌝ }
-{
-    match expected {
-        Expected::Nothing => false,
-        Expected::Only(stamp) => has_stamp(file, stamp),
-    }
-}
-
-// 20
-fn stamp(file: &[u8], expected: Expected) -> Check
-    ensures { λ r. ⌜ r ≡ checked (wrongStamp expected (now (file .entry))) ⌝ }
-{
-    if is_expected(file, expected) {
-        return Check::Passed;
-    }
-    Check::Refused(Refusal::WrongStamp)
-}
-
-// What is tested of a file of `n` periods itself: 10, 11, 12, then 20, then 1.
-fn file_tests(file: &[u8], n: usize, expected: Expected) -> Check
-    requires { ⌜ n ≡ periodsIn (now file) ⌝ }
-    ensures { λ r. ⌜ r ≡ checked (first (fileTests expected (now (file .entry)))) ⌝ }
-{
-    let walked = layout::walk(file, n);
-    let stamped = stamp(file, expected);
-    checks::in_order(walked, checks::in_order(stamped, checks::count(n)))
-}
-
 // The reader's tests in order, for a file of `n` periods and tables of at least `cells` cells.
 fn tests(file: &[u8], n: usize, cells: usize, expected: Expected) -> Check
     requires { ⌜ n ≡ periodsIn (now file) ⌝ }
     ensures { λ r. ⌜ r ≡ checked (badRead expected (now (file .entry)) cells) ⌝ }
 {
-    if let Check::Refused(r) = file_tests(file, n, expected) {
+    if let Check::Refused(r) = file_checks::tests(file, n, expected) {
         return Check::Refused(r);
     }
     if cells < n {

@@ -15,30 +15,30 @@ use Rattle.dayfile.specs.Passed.{file-passed}
 use Rattle.dayfile_reader.proofs.tests.Statement.{statement}
 use Rattle.dayfile_reader.proofs.tests.Tie as tie
 
-abbrev start : tie.After-file-tests → tie.Start
+abbrev start : tie.After-tests → tie.Start
 start c = c .before .before
 
-abbrev file : tie.After-file-tests → List ℕ
+abbrev file : tie.After-tests → List ℕ
 file c = now (start c .args .file)
 
 -- what is tested of the file itself, and what after it
-abbrev tests : tie.After-file-tests → List (Option Refusal)
+abbrev tests : tie.After-tests → List (Option Refusal)
 tests c = fileTests (start c .args .expected) (file c)
 
-abbrev room : tie.After-file-tests → Option Refusal
+abbrev room : tie.After-tests → Option Refusal
 room c = badSlots (start c .args .cells) (periodsIn (file c))
 
-abbrev value : tie.After-file-tests → Option Refusal
+abbrev value : tie.After-tests → Option Refusal
 value c = badValue (dayIn (file c))
 
 -- the file's tests passed
 sound : (c : tie.After-enum-told) → first (tests (c .before .before)) ≡ none
-sound c = passed (first (tests (c .before .before))) (c .before .before .file-tests .ensures) (c .enum-told .given .1)
+sound c = passed (first (tests (c .before .before))) (c .before .before .tests .ensures) (c .enum-told .given .1)
 
 returns : tie.Need-returns
 returns c =
     let p = c .before .before .before in
-    group-refused [] (tests p) refl (p .file-tests .ensures) (room p ∷ value p ∷ []) (c .before .r .given .1)
+    group-refused [] (tests p) refl (p .tests .ensures) (room p ∷ value p ∷ []) (c .before .r .given .1)
 
 returns-2 : tie.Need-returns-2
 returns-2 c =

@@ -1,7 +1,7 @@
--- `dayfile_reader::same_stamp` meets its contract: by both comparisons. Assumes nothing.
+-- `file_checks::same_stamp` meets its contract: by both comparisons. Assumes nothing.
 use borrow.Author.Tests.{eq-eqb, ne-eqb}
-use Rattle.dayfile_reader.proofs.same_stamp.Statement.{statement}
-use Rattle.dayfile_reader.proofs.same_stamp.Tie as tie
+use Rattle.file_checks.proofs.same_stamp.Statement.{statement}
+use Rattle.file_checks.proofs.same_stamp.Tie as tie
 
 returns : tie.Need-returns
 returns c = simp (eq-eqb _ _ (c .before .before .if1 .taken))

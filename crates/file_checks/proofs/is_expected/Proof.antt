@@ -1,8 +1,8 @@
--- `dayfile_reader::is_expected` meets its contract, case by case. Assumes nothing.
+-- `file_checks::is_expected` meets its contract, case by case. Assumes nothing.
 use mathlib.Core.Path.{refl}
 use borrow.Author.Needs.{needs}
-use Rattle.dayfile_reader.proofs.is_expected.Statement.{statement}
-use Rattle.dayfile_reader.proofs.is_expected.Tie as tie
+use Rattle.file_checks.proofs.is_expected.Statement.{statement}
+use Rattle.file_checks.proofs.is_expected.Tie as tie
 
 returns : tie.Need-returns
 returns c = rw (c .enum-told .given .1) refl

@@ -1,12 +1,12 @@
--- `dayfile_reader::file_tests` meets its contract: the walk's refusal, or that of the stamp, or that of the count after it. Assumes nothing.
+-- `file_checks::tests` meets its contract: the walk's refusal, or that of the stamp, or that of the count after it. Assumes nothing.
 use mathlib.Core.List.{[], _∷_}
 use borrow.Author.Needs.{needs}
 use denote.Ref.{now}
 use Rattle.day.specs.Refusals.{badCount}
 use Rattle.day.specs.Tests.{in-order, in-order-two}
 use Rattle.day.specs.File.{periodsIn, walk, wrongStamp}
-use Rattle.dayfile_reader.proofs.file_tests.Statement.{statement}
-use Rattle.dayfile_reader.proofs.file_tests.Tie as tie
+use Rattle.file_checks.proofs.tests.Statement.{statement}
+use Rattle.file_checks.proofs.tests.Tie as tie
 
 returns : tie.Need-returns
 returns c =
@@ -21,8 +21,8 @@ returns c =
     let rest = in-order-two wrong count (stamped .stamp .ensures) (rw (start .pre) at (counted .count .ensures)) (later .in-order .ensures) in
     in-order (walk s) (wrong ∷ count ∷ []) (walked .walk .ensures) rest (c .in-order2 .ensures)
 
-pub file-tests-spec : {M : Type 1} → statement M
-file-tests-spec =
+pub tests-spec : {M : Type 1} → statement M
+tests-spec =
     tie.close
     (tie.spec
     (λ c κs. search needs) (λ c κs. search needs) (λ c κs. search needs) (λ c κs. search needs) (λ c κs. search needs) returns)

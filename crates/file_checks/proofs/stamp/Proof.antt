@@ -1,7 +1,7 @@
--- `dayfile_reader::stamp` meets its contract: each `return` by the test. Assumes nothing.
+-- `file_checks::stamp` meets its contract: each `return` by the test. Assumes nothing.
 use borrow.Author.Needs.{needs}
-use Rattle.dayfile_reader.proofs.stamp.Statement.{statement}
-use Rattle.dayfile_reader.proofs.stamp.Tie as tie
+use Rattle.file_checks.proofs.stamp.Statement.{statement}
+use Rattle.file_checks.proofs.stamp.Tie as tie
 
 returns : tie.Need-returns
 returns c = simp (← c .before .is-expected .ensures, c .if1 .taken)

@@ -1,4 +1,4 @@
--- `dayfile_reader::has_stamp` meets its contract: by the test of the stamp, and its two numbers. Assumes nothing.
+-- `file_checks::has_stamp` meets its contract: by the test of the stamp, and its two numbers. Assumes nothing.
 use mathlib.Core.Path.{_≡_, refl, sym, _∙_}
 use mathlib.Core.Bool.{true}
 use mathlib.Core.List.{List}
@@ -9,8 +9,8 @@ use borrow.Author.Tests.{not-true, not-false}
 use denote.Ref.{now}
 use Rattle.day.specs.File.{stampKind, isStamped}
 use Rattle.dayfile.specs.Layout.{WholeRecord, whole-record, whole-body}
-use Rattle.dayfile_reader.proofs.has_stamp.Statement.{statement}
-use Rattle.dayfile_reader.proofs.has_stamp.Tie as tie
+use Rattle.file_checks.proofs.has_stamp.Statement.{statement}
+use Rattle.file_checks.proofs.has_stamp.Tie as tie
 
 abbrev file : tie.Else1 → List ℕ
 file c = now (c .before .before .before .args .file)
