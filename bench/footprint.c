@@ -5,7 +5,7 @@
 #include <ucontext.h>
 #include "yakkurem.h"
 
-enum { PERIODS = 96, MOST = 4096, BIG = 60000, STACK = 1 << 18, FILE_BYTES = 19 * PERIODS + 8 };
+enum { PERIODS = 96, MOST = 4096, BIG = 60000, STACK = 1 << 18, FILE_BYTES = 19 * PERIODS + 13 };
 
 static uint16_t need[PERIODS], lowest[PERIODS], capacity[PERIODS], store[PERIODS], plan[PERIODS];
 static uint32_t start[PERIODS], unit[PERIODS], upkeep[PERIODS];
@@ -14,6 +14,7 @@ static uint16_t choices[PERIODS * (MOST + 1)];
 static uint8_t file[FILE_BYTES];
 static size_t n, file_length;
 static uint16_t opening, closing;
+static const uint16_t stamp[2] = {17, 9816}; /* station and day number of every file */
 
 #define DAY need, n, capacity, n, start, n, unit, n, upkeep, n, store, n, opening, closing
 #define AREAS costs, sizeof costs / sizeof *costs, choices, sizeof choices / sizeof *choices
@@ -32,13 +33,13 @@ static void weigh(void) { code = yakkurem_weigh(DAY, plan, PERIODS, answer); }
 static void compare(void) { code = yakkurem_compare(DAY, plan, PERIODS, plan, PERIODS, difference); }
 static void play(void) { code = yakkurem_play(DAY, plan, PERIODS, lowest, n, answer); }
 static void write_file(void) {
-    code = yakkurem_write(DAY, file, sizeof file, answer);
+    code = yakkurem_write(DAY, stamp[0], stamp[1], file, sizeof file, answer);
     if (code == 0) file_length = answer[0];
 }
 static void lookup(void) { code = yakkurem_lookup(file, file_length, n, answer); }
 static void read_file(void) {
     code = yakkurem_read(
-        file, file_length, need, PERIODS, capacity, PERIODS, start, PERIODS, unit, PERIODS, upkeep, PERIODS, store, PERIODS, answer);
+        file, file_length, stamp, 2, need, PERIODS, capacity, PERIODS, start, PERIODS, unit, PERIODS, upkeep, PERIODS, store, PERIODS, answer);
 }
 static void price(void) {
     code = 0;

@@ -20,7 +20,7 @@
  *
  * Every call but yakkurem_price returns a code:
  *     0                                   accepted
- *     number + 256 * period               refused: the number is 1 to 19, the period 0 where none is named
+ *     number + 256 * period               refused: the number is 1 to 20, the period 0 where none is named
  *     101 to 104 + 256 * period           a plan to weigh or to play breaks a rule: above capacity (101), short (102), charge
  *                                         over at the end (103), above store (104)
  *
@@ -35,10 +35,10 @@
  *         closing in period n
  *      8  capacities differ (yakkurem_equal)
  *      9  a capacity may bind, in this period (yakkurem_uncapped)
- *     10  a kind byte of the file is not 1, 2, 3 or 4
+ *     10  a kind byte of the file is not 1 to 5
  *     11  the file ends inside a record or before the end record
- *     12  the end record's count is wrong, or bytes follow it; or a record of kind 3 is not the file's first, or holds two
- *         zeros; or a record of kind 4 holds a store of 65535
+ *     12  the end record's count is wrong, or bytes follow it; or a record of kind 5 is not the file's first; or one of kind 3 is
+ *         neither the first nor next after a first one of kind 5, or holds two zeros; or one of kind 4 holds a store of 65535
  *     13  the asked-for period is 0 or above n
  *     14  opening is above need over the day + closing: charge would be over at the end, whatever is made
  *     15  a start cost above 0, in this period (yakkurem_free)
@@ -47,6 +47,7 @@
  *     17  opening is above 0 (yakkurem_bounds)
  *     18  a lowest need above its highest, in this period (yakkurem_bounds)
  *     19  no trial is allowed (yakkurem_big)
+ *     20  the file has no record of kind 5, or another station or day in it than expected (yakkurem_read)
  *
  * On any code but 0 nothing that was lent changes, and the out-array (the last parameter) is not written.
  * The calls keep no state and use no heap, no file and no clock. Of the C library they use memset and memcpy alone.
@@ -143,23 +144,28 @@ uint64_t yakkurem_compare(
 uint64_t yakkurem_play(
     YAKKUREM_DAY, const uint16_t *plan, size_t amounts, const uint16_t *actual, size_t actuals, uint64_t answer[5]);
 
-/* Reads a day file: exactly if opening or closing is above 0, a first record of 5 bytes (kind 3, then opening 2, closing 2
- * bytes); then period records, of 17 bytes (kind 1, then need 2, capacity 2, start 4, unit 4, upkeep 4 bytes) where store is
- * 65535, else of 19 (kind 4, then the same and store 2 bytes); then an end record of 3 (kind 2, count of period records 2);
- * most significant byte first. Accepted, the first n cells of the six tables hold the day, later ones keep their contents,
- * and day holds n, opening and closing. Refusals: the first fault from front to back of 10, 11, 12; then in order 1, 6, 3. */
+/* Reads a day file that is for the expected station and day. Its records, most significant byte first: one of 5 bytes (kind 5,
+ * then station 2, day number 2 bytes; a day number counts days since 1 January 2000); exactly if opening or closing is above 0,
+ * one of 5 (kind 3, then opening 2, closing 2); then period records, of 17 bytes (kind 1, then need 2, capacity 2, start 4, unit
+ * 4, upkeep 4 bytes) where store is 65535, else of 19 (kind 4, then the same and store 2 bytes); then an end record of 3 (kind 2,
+ * count of period records 2). expected holds two numbers, station and day number; with any other length of it no file is as
+ * expected. Accepted, the first n cells of the six tables hold the day, later ones keep their contents, and day holds n, opening
+ * and closing. Refusals: the first fault from front to back of 10, 11, 12; then in order 20, 1, 6, 3. A file that
+ * lacks kind 5 may be without a fault, and is then refused 20. */
 uint64_t yakkurem_read(
-    const uint8_t *file, size_t bytes, uint16_t *need, size_t needs, uint16_t *capacity, size_t capacities, uint32_t *start, size_t starts,
-    uint32_t *unit, size_t units, uint32_t *upkeep, size_t upkeeps, uint16_t *store, size_t stores, uint64_t day[3]);
+    const uint8_t *file, size_t bytes, const uint16_t *expected, size_t numbers, uint16_t *need, size_t needs, uint16_t *capacity,
+    size_t capacities, uint32_t *start, size_t starts, uint32_t *unit, size_t units, uint32_t *upkeep, size_t upkeeps, uint16_t *store,
+    size_t stores, uint64_t day[3]);
 
-/* Finds the body of the numbered period record of a day file: part holds where it begins in file, counted from 0, and its
- * length, 16 or for kind 4 18. No byte is copied: the body is file + part[0]. Refusals as yakkurem_read up to 12; then in
- * order 1, 13. */
+/* Finds the body of the numbered period record of a day file, for whichever station and day it is, also of one without kind 5:
+ * part holds where it begins in file, counted from 0, and its length, 16 or for kind 4 18. No byte is copied: the body is
+ * file + part[0]. Refusals as yakkurem_read up to 12; then in order 1, 13. */
 uint64_t yakkurem_lookup(const uint8_t *file, size_t bytes, size_t period, uint64_t part[2]);
 
-/* Writes the day file at the front of out: 17 * n + 3 bytes, 2 more for each store below 65535, and 5 more if opening or
- * closing is above 0, so at most 1832; count is how many. Later bytes keep their contents. Refusals in order: 1, 2, 3, 6. */
-uint64_t yakkurem_write(YAKKUREM_DAY, uint8_t *out, size_t bytes, uint64_t count[1]);
+/* Writes the day file, for this station and day, at the front of out: 17 * n + 8 bytes, 2 more for each store below 65535, and 5
+ * more if opening or closing is above 0, so at most 1837; count is how many. Any two numbers are written as they are. Later bytes
+ * keep their contents. Refusals in order: 1, 2, 3, 6. */
+uint64_t yakkurem_write(YAKKUREM_DAY, uint16_t station, uint16_t day_number, uint8_t *out, size_t bytes, uint64_t count[1]);
 
 /* Draws a test load: a made-up day of n periods that anyone can draw again from its seed. Each draw sets the seed to
  * (1664525 * seed + 1013904223) modulo 4294967296 and takes its upper 16 bits; per period five draws, in order need modulo

@@ -2,7 +2,7 @@
 use crate::input::{Call, Input};
 use crate::plain::{self, Loads, Path, Rule, Verdict};
 use crate::random::mix;
-use yakkurem::{codes, fault, BigTotals, Bounds, Day, EqualTotals, Fault, Filled, Memory, Play, Refusal, TablesMut, Totals};
+use yakkurem::{codes, fault, BigTotals, Bounds, Day, EqualTotals, Fault, Filled, Memory, Play, Refusal, Stamp, TablesMut, Totals};
 
 /// Everything that a caller can see after a call: its code, its out-array, and each lent part, with the cells around them.
 #[derive(Clone, Debug, PartialEq)]
@@ -223,7 +223,7 @@ pub fn expected(input: &Input) -> Seen {
         }
         Call::Lookup => fill(&mut seen.out, &plain::walk(&input.file).unwrap().places[input.period - 1].map(|v| v as u64)),
         Call::Write => {
-            let file = plain::file_of(&input.day);
+            let file = plain::file_of(input.stamp, &input.day);
             fill(&mut seen.lent[0], &file);
             fill(&mut seen.out, &[file.len() as u64]);
         }
@@ -234,6 +234,10 @@ pub fn expected(input: &Input) -> Seen {
 fn day(input: &Input) -> Day<'_> {
     let plain::Day { demand, capacity, setup, unit, holding, store, opening, closing } = &input.day;
     Day { demand, capacity, setup, unit, holding, store, opening: *opening, closing: *closing }
+}
+
+fn stamp(plain::Stamp { station, date }: plain::Stamp) -> Stamp {
+    Stamp { station, date }
 }
 
 /// A path's call with its code, whose answer has N numbers.
@@ -279,7 +283,7 @@ pub fn run_tables(l: &[usize], call: impl FnOnce(TablesMut) -> u64) -> (u64, Vec
 
 fn run_read(input: &Input) -> Seen {
     let mut day = out(3);
-    let (code, lent) = run_tables(&input.lent, |tables| codes::read(&input.file, tables, array(&mut day)));
+    let (code, lent) = run_tables(&input.lent, |tables| codes::read(&input.file, &input.expected, tables, array(&mut day)));
     Seen { code, out: wide(&day), lent }
 }
 
@@ -317,7 +321,7 @@ pub fn actual(given: &Input) -> Seen {
         Call::Write => {
             let mut bytes: Vec<u8> = pattern(0, input.lent[0]);
             let mut count = out(1);
-            let code = codes::write(day(input), lent(&mut bytes), array(&mut count));
+            let code = codes::write(day(input), stamp(input.stamp), lent(&mut bytes), array(&mut count));
             Seen { code, out: wide(&count), lent: vec![wide(&bytes)] }
         }
     };
@@ -446,13 +450,21 @@ pub fn results_agree(input: &Input, seen: &Seen) -> bool {
                 store: &mut store,
             };
             let day = Filled { periods: values[0], opening: values[1] as u16, closing: values[2] as u16 };
-            yakkurem::read(&input.file, filled) == if accepted { Ok(day) } else { Err(refusal) }
+            // any but two numbers are no stamp
+            let expected = match input.expected[..] {
+                [station, date] => Some(Stamp { station, date }),
+                _ => None,
+            };
+            yakkurem::read(&input.file, expected, filled) == if accepted { Ok(day) } else { Err(refusal) }
         }
         Call::Lookup => match yakkurem::lookup(&input.file, input.period) {
             Ok(body) => accepted && std::ptr::eq(body, plain::body(&input.file, &plain::walk(&input.file).unwrap(), input.period)),
             Err(why) => why == refusal,
         },
-        Call::Write => yakkurem::write(day(input), &mut vec![0; input.lent[0]]) == if accepted { Ok(values[0]) } else { Err(refusal) },
+        Call::Write => {
+            let mut out = vec![0; input.lent[0]];
+            yakkurem::write(day(input), stamp(input.stamp), &mut out) == if accepted { Ok(values[0]) } else { Err(refusal) }
+        }
     }
 }
 

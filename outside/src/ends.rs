@@ -52,7 +52,7 @@ pub fn files() -> Vec<Vec<u8>> {
     for (n, (opening, closing)) in (0..=3).flat_map(|n| [(0, 0), (1, 0), (0, 1), (0x0102, 0xfffe)].map(|ends| (n, ends))) {
         let mut day = day(3, 5, 3, opening, closing);
         day.demand.truncate(n);
-        let file = plain::file_of(&day);
+        let file = plain::unstamped(&day);
         files.extend(cuts(&file, 0));
         let periods = file.len() - (17 * n + 3);
         let records = (0..=n).map(|i| periods + 17 * i);

@@ -1,5 +1,5 @@
 //! Inputs of every call but the test load (test_load.rs): valid ones of several sizes, at the limits, and damaged so that a wanted refusal's condition holds.
-use crate::plain::{self, Day, Path};
+use crate::plain::{self, Day, Path, Stamp};
 use crate::random::Random;
 use std::iter::repeat;
 
@@ -50,11 +50,17 @@ impl Call {
             Call::Bounds => &[1, 2, 3, 4, 14, 5, 17, 18, 7],
             Call::Big => &[1, 2, 3, 4, 14, 5, 6, 7, 16, 19],
             Call::Weigh | Call::Compare | Call::Play => &[1, 2, 3, 4, 14, 6],
-            Call::Read => &[10, 11, 12, 1, 6, 3],
+            Call::Read => &[10, 11, 12, 20, 1, 6, 3],
             Call::Lookup => &[10, 11, 12, 1, 13],
             Call::Write => &[1, 2, 3, 6],
         };
-        order.iter().copied().filter(|number| (with.ends || ![14, 17].contains(number)) && (with.stores || *number != 16)).collect()
+        let can_be = |number: &u64| match number {
+            14 | 17 => with.ends,
+            16 => with.stores,
+            20 => with.stamps,
+            _ => true,
+        };
+        order.iter().copied().filter(can_be).collect()
     }
 
     /// How many plans the call weighs.
@@ -88,6 +94,11 @@ impl Call {
         matches!(self, Call::Read | Call::Lookup)
     }
 
+    /// Whether the call reads a day file or writes one.
+    pub fn has_file(self) -> bool {
+        self.reads_file() || self == Call::Write
+    }
+
     /// Whether the call is a path for some days only.
     pub fn is_short_path(self) -> bool {
         matches!(self, Call::Uncapped | Call::Equal | Call::Free)
@@ -107,6 +118,10 @@ pub struct Input {
     /// plans to weigh: one, also to play it, or two to compare
     pub plans: Vec<Vec<u16>>,
     pub file: Vec<u8>,
+    /// the numbers that the reader expects in the file's stamp
+    pub expected: Vec<u16>,
+    /// the stamp that the writer puts in front
+    pub stamp: Stamp,
     /// the asked-for period
     pub period: usize,
     /// the allowed trials
@@ -116,18 +131,24 @@ pub struct Input {
     pub lent: Vec<usize>,
 }
 
-/// What made-up days may have: charge at their ends, store limits. Those without are drawn as they were before there were any.
+/// What made-up days may have: charge at their ends, store limits; and whether their files have a stamp. Those without are drawn as they were
+/// before there were any.
 #[derive(Clone, Copy, Debug, PartialEq)]
 pub struct With {
     pub ends: bool,
     pub stores: bool,
+    pub stamps: bool,
 }
 
 impl With {
-    pub const NOTHING: With = With { ends: false, stores: false };
-    pub const ENDS: With = With { ends: true, stores: false };
-    pub const STORES: With = With { ends: false, stores: true };
-    pub const BOTH: With = With { ends: true, stores: true };
+    pub const NOTHING: With = With { ends: false, stores: false, stamps: false };
+    pub const ENDS: With = With { ends: true, ..With::NOTHING };
+    pub const STORES: With = With { stores: true, ..With::NOTHING };
+    pub const BOTH: With = With { ends: true, stores: true, stamps: false };
+
+    pub fn stamps(self) -> With {
+        With { stamps: true, ..self }
+    }
 }
 
 /// How large a day is, and how its numbers are drawn.
@@ -143,26 +164,63 @@ pub enum Size {
 }
 
 impl Input {
-    /// A call on a day, with as much lent as is needed; the plans are for the calls that weigh. Needs known as ranges and actual ones are all
-    /// the day's own; on a big day any number of trials is allowed.
+    /// A call on a day, and nothing else yet.
+    fn on_day(call: Call, day: Day) -> Input {
+        Input {
+            call,
+            day,
+            lowest: vec![],
+            actual: vec![],
+            plans: vec![],
+            file: vec![],
+            expected: vec![],
+            stamp: Stamp::default(),
+            period: 0,
+            trials: 0,
+            lent: vec![],
+        }
+    }
+
+    /// A call on a day, with as much lent as is needed but for a stamp; the plans are for the calls that weigh. Needs known as ranges and actual
+    /// ones are all the day's own; on a big day any number of trials is allowed. A file to read has no stamp.
     pub fn exact(call: Call, day: &Day, plans: [&[u16]; 2]) -> Input {
         let plans = plans.iter().take(call.plans()).map(|plan| plan.to_vec()).collect();
         let lowest = if call == Call::Bounds { day.demand.clone() } else { vec![] };
         let actual = if call == Call::Play { day.demand.clone() } else { vec![] };
         let trials = if call == Call::Big { usize::MAX } else { 0 };
-        let mut input = Input { call, day: day.clone(), lowest, actual, plans, file: vec![], period: 0, trials, lent: vec![] };
+        let mut input = Input { lowest, actual, plans, trials, ..Input::on_day(call, day.clone()) };
         if call.reads_file() {
-            input.file = plain::file_of(day);
+            input.file = plain::unstamped(day);
             input.period = day.periods();
             input.day = Day::default();
         }
-        input.lent = input.needed();
+        input.lent = input.needed_unstamped();
         input
     }
 
     /// A call on a file.
     pub fn on_file(call: Call, file: Vec<u8>, period: usize, lent: Vec<usize>) -> Input {
-        Input { call, day: Day::default(), lowest: vec![], actual: vec![], plans: vec![], file, period, trials: 0, lent }
+        Input { file, period, lent, ..Input::on_day(call, Day::default()) }
+    }
+
+    /// With a stamp that the reader expects or the writer is given; file and room stay as they are.
+    pub fn for_stamp(&self, stamp: Stamp) -> Input {
+        match self.call {
+            Call::Read => Input { expected: stamp.numbers(), ..self.clone() },
+            Call::Write => Input { stamp, ..self.clone() },
+            _ => self.clone(),
+        }
+    }
+
+    /// The same with the stamp in front of the file, or with room for it.
+    pub fn stamped(&self, stamp: Stamp) -> Input {
+        let mut input = self.for_stamp(stamp);
+        let record = plain::stamp_record(stamp);
+        match self.call {
+            Call::Write => input.lent[0] += record.len(),
+            _ => input.file = [&record[..], &self.file].concat(),
+        }
+        input
     }
 
     /// The refusals whose conditions hold, in order; the first is the answer.
@@ -178,7 +236,7 @@ impl Input {
                 plain::weigh_refusals(&self.day, &self.plans.iter().map(|plan| plan.as_slice()).collect::<Vec<_>>())
             }
             Call::Play => plain::play_refusals(&self.day, &self.plans[0], &self.actual),
-            Call::Read => plain::read_refusals(&self.file, *self.lent.iter().min().unwrap()),
+            Call::Read => plain::read_refusals(&self.file, &self.expected, *self.lent.iter().min().unwrap()),
             Call::Lookup => plain::lookup_refusals(&self.file, self.period),
             Call::Write => plain::write_refusals(&self.day, self.lent[0]),
         }
@@ -200,6 +258,14 @@ impl Input {
             Call::Read => vec![plain::walk(&self.file).map_or(self.file.len() / 17, |records| records.periods()); 6],
             Call::Write => vec![plain::file_length(&self.day)],
             Call::Weigh | Call::Compare | Call::Play | Call::Lookup => vec![],
+        }
+    }
+
+    /// The same without a stamp to write.
+    fn needed_unstamped(&self) -> Vec<usize> {
+        match self.call {
+            Call::Write => vec![plain::unstamped_length(&self.day)],
+            _ => self.needed(),
         }
     }
 }
@@ -529,17 +595,30 @@ pub fn complete(random: &mut Random, call: Call, day: Day, with: With) -> Input 
     let lowest = if call == Call::Bounds { lowest(random, &day.demand) } else { vec![] };
     let trials = if call == Call::Big { trials(random, day.periods()) } else { 0 };
     let actual = if call == Call::Play { actual(random, &day.demand) } else { vec![] };
-    let mut input = Input { call, day, lowest, actual, plans, file: vec![], period: 0, trials, lent: vec![] };
+    let mut input = Input { lowest, actual, plans, trials, ..Input::on_day(call, day) };
     if call.reads_file() {
-        input.file = plain::file_of(&input.day);
+        input.file = plain::unstamped(&input.day);
         input.period = random.between(1, input.day.periods() as u64) as usize;
         input.day = Day::default();
     }
-    input.lent = lend(random, input.needed(), with);
+    input.lent = lend(random, input.needed_unstamped(), with);
     if call == Call::Lookup {
         input.lent.clear();
     }
+    if with.stamps {
+        input = input.stamped(stamp(random));
+    }
     input
+}
+
+/// A stamp: of few stations and days, at the ends, or any.
+pub fn stamp(random: &mut Random) -> Stamp {
+    let mut number = || match random.between(0, 3) {
+        0 => random.pick(&[0, 1, 255, 256, 65_535]),
+        1 => random.pick(&[17, 9816, 9817]),
+        _ => random.next() as u16,
+    };
+    Stamp { station: number(), date: number() }
 }
 
 /// An input that is refused, if at all, for a shortage, a capacity, a store limit or, where needs are known as ranges, charge to begin with alone.
@@ -738,8 +817,19 @@ fn misplace_charge(random: &mut Random, store: &[u16], file: &mut Vec<u8>) {
     let places = boundaries(store, file);
     let at = random.pick(&places);
     let record = if at == 0 { plain::charge_record(0, 0) } else { plain::charge_record(random.pick(&[0, 1]), 2) };
+    put_in(random, file, at, record);
+}
+
+/// Puts in a stamp, which is not the first once the file's own is in front of it.
+fn misplace_stamp(random: &mut Random, store: &[u16], file: &mut Vec<u8>) {
+    let places = boundaries(store, file);
+    let (at, record) = (random.pick(&places), plain::stamp_record(stamp(random)));
+    put_in(random, file, at, record);
+}
+
+/// Puts a record in that must not be there; one that does not stand first now and then as the last, cut short.
+fn put_in(random: &mut Random, file: &mut Vec<u8>, at: usize, record: Vec<u8>) {
     if at > 0 && random.once_in(3) {
-        // cut short as well
         file.truncate(at);
         file.extend(&record[..random.between(1, 4) as usize]);
     } else {
@@ -774,6 +864,7 @@ fn damage_file(random: &mut Random, store: &[u16], file: &mut Vec<u8>, with: Wit
                 if random.once_in(3) { file.len().saturating_sub(random.between(1, 3) as usize) } else { random.index(file.len()) };
             file.truncate(length);
         }
+        12 if with.stamps && random.once_in(2) => misplace_stamp(random, store, file),
         12 if with.stores && random.once_in(2) => write_no_limit(random, store, file),
         12 if with.ends && random.once_in(2) => misplace_charge(random, store, file),
         12 => {
@@ -785,6 +876,25 @@ fn damage_file(random: &mut Random, store: &[u16], file: &mut Vec<u8>, with: Wit
             }
         }
         _ => {}
+    }
+}
+
+/// Takes the stamp away from a file, or makes the reader expect another: one or both numbers otherwise, or exchanged, or not two of them.
+fn damage_stamp(random: &mut Random, input: &mut Input) {
+    let expected = &mut input.expected;
+    if expected.len() != 2 {
+        return;
+    }
+    let which = random.index(2);
+    match random.between(0, 5) {
+        0 => {
+            input.file.drain(..=plain::STAMP_BODY);
+        }
+        1 => expected[which] = expected[which].wrapping_add(random.pick(&[1, 256, 255, 65_535, 65_280])),
+        2 => expected[which] = random.next() as u16,
+        3 => expected.reverse(),
+        4 => expected.truncate(which),
+        _ => expected.extend(vec![expected[which]; random.between(1, 3) as usize]),
     }
 }
 
@@ -804,7 +914,7 @@ pub fn damage(random: &mut Random, call: Call, mut day: Day, with: With, numbers
             damage_day(random, &mut day, with, call.most(), number);
         }
     }
-    let mut input = Input { call, day, lowest: vec![], actual: vec![], plans: vec![], file: vec![], period: 0, trials: 0, lent: vec![] };
+    let mut input = Input::on_day(call, day);
     let (draw, second): (fn(&mut Random, &[u16]) -> Vec<u16>, _) = match call {
         Call::Bounds => (lowest, &mut input.lowest),
         _ => (actual, &mut input.actual),
@@ -824,7 +934,7 @@ pub fn damage(random: &mut Random, call: Call, mut day: Day, with: With, numbers
     if call.reads_file() {
         let mut day = std::mem::take(&mut input.day);
         day.capacity.truncate(n);
-        input.file = plain::file_of(&day);
+        input.file = plain::unstamped(&day);
         input.period = if n > 0 { random.between(1, n as u64) as usize } else { 1 };
         if numbers.contains(&13) {
             input.period = random.pick(&[0, n + 1, n + 2, usize::MAX]);
@@ -835,8 +945,8 @@ pub fn damage(random: &mut Random, call: Call, mut day: Day, with: With, numbers
             }
         }
     }
-    input.lent = lend(random, input.needed(), with);
-    let needed = input.needed();
+    let needed = input.needed_unstamped();
+    input.lent = lend(random, needed.clone(), with);
     let short = |random: &mut Random, needed: usize| if random.once_in(3) { 0 } else { needed.saturating_sub(1) };
     if numbers.contains(&5) {
         let area = random.index(call.areas());
@@ -851,26 +961,39 @@ pub fn damage(random: &mut Random, call: Call, mut day: Day, with: With, numbers
             input.lent[which] = short(random, needed[which]);
         }
     }
+    if with.stamps {
+        input = input.stamped(stamp(random));
+        if numbers.contains(&20) {
+            damage_stamp(random, &mut input);
+        }
+    }
     input
 }
 
 /// An input with something changed that no rule names: any value, length or byte.
 pub fn changed(random: &mut Random, call: Call, size: Size, with: With) -> Input {
     let mut input = valid(random, call, size, with);
-    let kinds: &[u8] = if with.stores { &[0, 1, 2, 3, 4] } else { &[0, 1, 2, 3] };
+    let kinds: &[u8] = match with {
+        With { stamps: true, .. } => &[0, 1, 2, 3, 4, 5],
+        With { stores: true, .. } => &[0, 1, 2, 3, 4],
+        _ => &[0, 1, 2, 3],
+    };
+    // the last is for a reader that expects a stamp
+    let ways = if with.stamps && call == Call::Read { 5 } else { 4 };
     let mut parts = vec![0, 1, 2, 3, 4, 5];
     parts.extend(if with.ends { vec![6, 7] } else { vec![] });
     parts.extend(with.stores.then_some(8));
     for _ in 0..random.between(1, 3) {
         if call.reads_file() {
             let at = random.index(input.file.len());
-            match random.between(0, 4) {
+            match random.between(0, ways) {
                 0 => input.file[at] = random.next() as u8,
                 1 => input.file[at] = random.pick(kinds),
                 2 => input.file.insert(at, random.pick(&[0, 1, 2])),
                 3 if input.file.len() > 1 => {
                     input.file.remove(at);
                 }
+                5 => damage_stamp(random, &mut input),
                 _ => input.period = random.between(0, 100) as usize,
             }
         } else {

@@ -1,10 +1,13 @@
 //! The plain implementation against itself and the papers, before anything is compared with it.
 mod played;
+mod stamped;
 
 use crate::input::{self, Call, Input, Size, With, CALLS};
 use crate::plain::{self, BestSoFar, Day, Loads, Planned, Refusal, Totals, Verdict};
 use crate::random::Random;
+use crate::stamp;
 pub use played::{check_plays, plays};
+pub use stamped::check_stamps;
 
 /// A day and its plan with cost and setups, or the number and period of the refusal. One value of b, p or h stands for all periods.
 struct Row {
@@ -334,7 +337,8 @@ fn standing(day: &Day) -> u64 {
     (1..=day.periods()).map(|i| day.holding[i - 1] as u64 * (held(day, i - 1) + held(day, i))).sum()
 }
 
-/// Document 01's file of the fourth marked day, alone, with charge at both ends and with a store limit; what a walk says of broken files.
+/// Document 01's file of the fourth marked day, alone, with charge at both ends and with a store limit, each also behind a stamp; what a walk says
+/// of broken files.
 fn check_files() {
     #[rustfmt::skip]
     let file = [
@@ -361,8 +365,15 @@ fn check_files() {
         let records = plain::walk(&file).unwrap();
         assert_eq!(records.places, places);
         assert_eq!(plain::day_in(&file, &records), day);
-        assert_eq!(plain::file_of(&day), file);
-        assert_eq!(plain::file_length(&day), file.len());
+        assert_eq!(plain::unstamped(&day), file);
+        assert_eq!(plain::unstamped_length(&day), file.len());
+        let stamped = [&[5, 0x00, 0x11, 0x26, 0x58], &file[..]].concat();
+        let records = plain::walk(&stamped).unwrap();
+        assert_eq!(records.places, places.map(|[start, length]| [start + 5, length]));
+        assert_eq!(plain::day_in(&stamped, &records), day);
+        assert_eq!(plain::file_of(stamp::EXAMPLE, &day), stamped);
+        assert_eq!(plain::file_length(&day), stamped.len());
+        assert!(plain::read_refusals(&stamped, &[17, 9816], 2).is_empty());
     }
     let no_limit = stored(first, &[255, 255]);
     let broken: &[(&[u8], u64)] = &[
@@ -386,7 +397,7 @@ fn check_files() {
         (&no_limit, 12),
         (&[&no_limit[..], &[7]].concat(), 12),
         (&[2, 0, 0, 4], 12),
-        (&[5], 10),
+        (&[6], 10),
     ];
     for &(bytes, number) in broken {
         assert_eq!(plain::walk(bytes), Err(Refusal { number, period: 0 }), "{bytes:?}");

@@ -10,4 +10,5 @@ pub mod play;
 pub mod price;
 pub mod random;
 pub mod ranges;
+pub mod stamp;
 pub mod store;

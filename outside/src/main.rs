@@ -10,7 +10,7 @@ mod shrink;
 mod test_load;
 
 use input::{Call, Input, Size, With, CALLS, EARLIER};
-use outside::{big, ends, free, holding, input, loads, plain, play, price, random, ranges, store};
+use outside::{big, ends, free, holding, input, loads, plain, play, price, random, ranges, stamp, store};
 use random::Random;
 use std::iter::once;
 use std::process::exit;
@@ -20,7 +20,7 @@ use test_load::TestLoad;
 const SEED: u64 = 1979;
 
 /// The last number of a refusal.
-const LAST: usize = 19;
+const LAST: usize = 20;
 
 /// The inputs of one run, counted by their outcome.
 struct Run {
@@ -45,9 +45,30 @@ struct Run {
 }
 
 impl Run {
+    /// An input from before files had a stamp: one with a file to read or to write is seen as it is, and with a stamp in front, by which it
+    /// has the answer that it had.
+    fn try_unstamped(&mut self, input: &Input) {
+        if !input.call.has_file() {
+            return self.try_input(input);
+        }
+        let stamp = stamp::numbered(self.inputs);
+        self.try_input(&input.for_stamp(stamp));
+        self.try_input(&input.stamped(stamp));
+    }
+
+    /// A made-up one, which may have a stamp.
+    fn try_made_up(&mut self, input: &Input) {
+        if self.with.stamps {
+            self.try_input(input);
+        } else {
+            self.try_unstamped(input);
+        }
+    }
+
     fn try_input(&mut self, input: &Input) {
         let expected = compare::expected(input);
-        if differs(input, &expected) || self.inputs % 8 == 0 && !compare::results_agree(input, &expected) {
+        // every seventh by the crate's results too, an odd number as inputs without a stamp and with one take turns
+        if differs(input, &expected) || self.inputs % 7 == 0 && !compare::results_agree(input, &expected) {
             report(input);
         }
         self.inputs += 1;
@@ -83,7 +104,16 @@ impl Run {
 
     fn try_inputs(&mut self, inputs: &[Input]) {
         for input in inputs {
-            self.try_input(input);
+            self.try_unstamped(input);
+        }
+    }
+
+    /// Its refusals where the file has a stamp that is as expected, which are those of before there were any.
+    fn refusals(&self, input: &Input) -> Vec<plain::Refusal> {
+        if input.call.has_file() && !self.with.stamps {
+            input.stamped(stamp::EXAMPLE).refusals()
+        } else {
+            input.refusals()
         }
     }
 
@@ -94,7 +124,7 @@ impl Run {
             for &second in &order[place..] {
                 for _ in 0..times {
                     let input = self.refused_input(call, first, second);
-                    self.try_input(&input);
+                    self.try_made_up(&input);
                 }
             }
         }
@@ -106,7 +136,7 @@ impl Run {
         for _ in 0..10_000 {
             let size = self.random.pick(&[Size::Tiny, Size::Tiny, Size::Middle]);
             let input = input::damaged(&mut self.random, call, size, self.with, &[first, second]);
-            let refusals = input.refusals();
+            let refusals = self.refusals(&input);
             let alone = matches!((first, second), (10..=12, _) | (14, 9));
             if refusals.first().is_some_and(|r| r.number == first) && (alone || refusals.iter().any(|r| r.number == second)) {
                 return input;
@@ -122,7 +152,7 @@ impl Run {
             for other in once(3).chain(order.iter().copied().filter(|&number| number != 3)) {
                 for _ in 0..times {
                     let input = self.holding_input(call, value, other);
-                    self.try_input(&input);
+                    self.try_made_up(&input);
                 }
             }
         }
@@ -139,7 +169,7 @@ impl Run {
                 3 => input::complete(&mut self.random, call, day, self.with),
                 _ => input::damage(&mut self.random, call, day, self.with, &[other]),
             };
-            let refusals = input.refusals();
+            let refusals = self.refusals(&input);
             let tested = call != Call::Lookup && !matches!(other, 10..=12);
             let above = value as u64 > plain::MAX_HOLDING;
             let by_value = refusals.contains(&plain::Refusal { number: 3, period: i + 1 });
@@ -153,14 +183,14 @@ impl Run {
     fn valid(&mut self, call: Call, size: Size, times: usize) {
         for _ in 0..times {
             let input = input::valid(&mut self.random, call, size, self.with);
-            self.try_input(&input);
+            self.try_made_up(&input);
         }
     }
 
     fn changed(&mut self, call: Call, size: Size, times: usize) {
         for _ in 0..times {
             let input = input::changed(&mut self.random, call, size, self.with);
-            self.try_input(&input);
+            self.try_made_up(&input);
         }
     }
 
@@ -168,7 +198,7 @@ impl Run {
         for _ in 0..times {
             let numbers: Vec<u64> = (0..3).map(|_| self.random.pick(&call.refusals(self.with))).collect();
             let input = input::damaged(&mut self.random, call, Size::Tiny, self.with, &numbers);
-            self.try_input(&input);
+            self.try_made_up(&input);
         }
     }
 
@@ -302,6 +332,49 @@ impl Run {
         self.try_inputs(&itself::plays());
         self.try_inputs(&play::inputs());
         self.inputs - before
+    }
+
+    /// Request 2.12; gives how many inputs there were.
+    fn stamps(&mut self) -> usize {
+        let before = self.inputs;
+        itself::check_stamps();
+        for (with, part) in [(With::NOTHING, 2), (With::ENDS, 2), (With::STORES, 2), (With::BOTH, 1)] {
+            self.made_up(&[Call::Read, Call::Lookup, Call::Write], with.stamps(), part);
+        }
+        self.holding(Call::Read, 3);
+        for (size, times) in [(Size::Tiny, 2000), (Size::Middle, 500), (Size::Long, 100), (Size::Limits, 50)] {
+            for _ in 0..times {
+                self.round_trip(size);
+            }
+        }
+        for input in stamp::inputs() {
+            self.try_input(&input);
+        }
+        self.inputs - before
+    }
+
+    /// A day that is written and read again, by its own stamp and by another one, and looked up period by period.
+    fn round_trip(&mut self, size: Size) {
+        let with = self.random.pick(&[With::NOTHING, With::ENDS, With::STORES, With::BOTH]).stamps();
+        let [write, other] = [(); 2].map(|_| input::valid(&mut self.random, Call::Write, size, with));
+        self.try_input(&write);
+        let written = compare::actual(&write);
+        let n = write.day.periods();
+        let bytes = written.lent[0][compare::AROUND..][..written.values()[0] as usize].iter().map(|&byte| byte as u8).collect();
+        let read = Input::on_file(Call::Read, bytes, 0, vec![n; 6]).for_stamp(write.stamp);
+        let mut tables = compare::tables_before(&read.lent);
+        compare::fill_tables(&mut tables, &write.day);
+        let seen = compare::actual(&read);
+        let ends = [write.day.opening as u64, write.day.closing as u64];
+        if seen.code != 0 || seen.lent != tables || seen.values()[1..] != ends {
+            println!("failed: what is written is not read again\n  {}", shrink::show(&write));
+            exit(1);
+        }
+        self.try_input(&read);
+        self.try_input(&read.for_stamp(other.stamp));
+        for period in 1..=n {
+            self.try_input(&Input::on_file(Call::Lookup, read.file.clone(), period, vec![]));
+        }
     }
 
     fn print_counts(&self) {
@@ -474,6 +547,7 @@ fn main() {
     let pairs = run.ranges();
     let big_inputs = run.big();
     let played = run.play();
+    let stamped = run.stamps();
     // the calls of `CALLS`, the test load, needs known as ranges, big days and plays; prices are counted apart
     println!("outside: seed {seed}, {} inputs of {} calls as the plain implementation has them", run.inputs, CALLS.len() + 4);
     run.print_counts();
@@ -493,6 +567,7 @@ fn main() {
         "plays: {played} inputs; {plays} plans played, {as_planned} against the needs that they were made for; {lost} missed something, \
          {disposed} spilled something, {both} both; each with charge and need in balance"
     );
+    println!("stamps: {stamped} inputs, and each file of before with one and without");
     println!("published instances: {} inputs, each with the published cost, doubled", published.len());
     println!("prices: {priced} costs, each as the plain implementation has it");
     eprintln!("{} seconds", start.elapsed().as_secs());

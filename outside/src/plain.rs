@@ -1,4 +1,4 @@
-//! Documents 01 and 02 (requests 2.1 to 2.7 and 2.9 to 2.11; 2.8 is in price.rs) and the report in plain code, written from these alone: what
+//! Documents 01 and 02 (requests 2.1 to 2.7 and 2.9 to 2.12; 2.8 is in price.rs) and the report in plain code, written from these alone: what
 //! every call should answer.
 //! Names are lot sizing's; the documents say need for demand, start for setup, upkeep for holding, made for produced, missed for lost,
 //! spilled for disposed.
@@ -17,6 +17,20 @@ pub struct Day {
     pub store: Vec<u16>,
     pub opening: u16,
     pub closing: u16,
+}
+
+/// What a day file is for, the documents' pair: a station, and a day as so many since 1 January 2000.
+#[derive(Clone, Copy, Debug, Default, PartialEq, Eq)]
+pub struct Stamp {
+    pub station: u16,
+    pub date: u16,
+}
+
+impl Stamp {
+    /// As the reader is told to expect it.
+    pub fn numbers(self) -> Vec<u16> {
+        vec![self.station, self.date]
+    }
 }
 
 #[derive(Clone, Copy, Debug, PartialEq, Eq)]
@@ -71,16 +85,18 @@ pub const MAX_BIG_TOTAL: u64 = 60_000;
 /// The store limit of a period whose record in the file has none.
 pub const NO_LIMIT: u16 = 65_535;
 
-/// The file's kinds: a period, the end, the charge at both ends of the day, and a period with a store limit; with the lengths of their
-/// bodies.
+/// The file's kinds: a period, the end, the charge at both ends of the day, a period with a store limit, and what the file is for; with the
+/// lengths of their bodies.
 pub const PERIOD: u8 = 1;
 pub const END: u8 = 2;
 pub const CHARGE: u8 = 3;
 pub const STORED: u8 = 4;
+pub const STAMP: u8 = 5;
 pub const PERIOD_BODY: usize = 16;
 pub const END_BODY: usize = 2;
 pub const CHARGE_BODY: usize = 4;
 pub const STORED_BODY: usize = 18;
+pub const STAMP_BODY: usize = 4;
 
 const INFINITE: u64 = u64::MAX;
 
@@ -700,6 +716,8 @@ pub fn play_refusals(day: &Day, plan: &[u16], actual: &[u16]) -> Vec<Refusal> {
 /// What a file that walks cleanly holds.
 #[derive(Clone, Debug, Default, PartialEq)]
 pub struct Records {
+    /// the body of kind 5, where there is one
+    pub stamp: Option<Vec<u8>>,
     pub opening: u16,
     pub closing: u16,
     /// where the body of each period record begins in the file, and how long it is
@@ -720,38 +738,88 @@ fn four(bytes: &[u8], at: usize) -> u32 {
     u32::from_be_bytes(bytes[at..at + 4].try_into().unwrap())
 }
 
-/// What the walk says of a file, front to back: what it holds, or its first fault.
-pub fn walk(file: &[u8]) -> Result<Records, Refusal> {
-    let fault = |number| Err(Refusal { number, period: 0 });
-    let mut records = Records::default();
+/// What a kind byte cuts out of a file: where it stands, and what follows it, as far as the kind asks and the file goes.
+struct Record<'a> {
+    at: usize,
+    kind: u8,
+    body: &'a [u8],
+}
+
+/// The length of a kind's body; none of an unknown kind.
+fn body_length(kind: u8) -> Option<usize> {
+    match kind {
+        PERIOD => Some(PERIOD_BODY),
+        END => Some(END_BODY),
+        CHARGE => Some(CHARGE_BODY),
+        STORED => Some(STORED_BODY),
+        STAMP => Some(STAMP_BODY),
+        _ => None,
+    }
+}
+
+/// A file cut into records, whatever they hold and wherever they stand: up to its end, an end record or an unknown kind.
+fn split(file: &[u8]) -> Vec<Record<'_>> {
+    let mut records = vec![];
     let mut at = 0;
-    loop {
-        let Some(&kind) = file.get(at) else { return fault(11) };
-        let length = match kind {
-            PERIOD => PERIOD_BODY,
-            STORED => STORED_BODY,
-            END => END_BODY,
-            // only as the first record; elsewhere its kind byte is the fault
-            CHARGE if at == 0 => CHARGE_BODY,
-            CHARGE => return fault(12),
-            _ => return fault(10),
-        };
-        let Some(body) = file.get(at + 1..at + 1 + length) else { return fault(11) };
-        let next = at + 1 + length;
-        match kind {
-            STORED if two(body, PERIOD_BODY) == NO_LIMIT => return fault(12),
-            PERIOD | STORED => records.places.push([at + 1, length]),
-            CHARGE => {
-                (records.opening, records.closing) = (two(body, 0), two(body, 2));
-                if records.opening == 0 && records.closing == 0 {
-                    return fault(12);
-                }
-            }
-            _ if two(body, 0) as usize != records.periods() || next < file.len() => return fault(12),
-            _ => return Ok(records),
+    while at < file.len() {
+        let kind = file[at];
+        let length = body_length(kind);
+        let next = (at + 1 + length.unwrap_or(0)).min(file.len());
+        records.push(Record { at, kind, body: &file[at + 1..next] });
+        if kind == END || length.is_none() {
+            break;
         }
         at = next;
     }
+    records
+}
+
+/// The number of what is wrong with the i-th record, counted from 0: its kind; where it stands; its length; what it holds; that the file ends
+/// with it.
+fn fault(file: &[u8], records: &[Record], i: usize) -> Option<u64> {
+    let Record { at, kind, body } = records[i];
+    let Some(length) = body_length(kind) else { return Some(10) };
+    let in_place = match kind {
+        STAMP => i == 0,
+        CHARGE => i == 0 || i == 1 && records[0].kind == STAMP,
+        _ => true,
+    };
+    if !in_place {
+        return Some(12);
+    }
+    if body.len() < length {
+        return Some(11);
+    }
+    let periods = || records[..i].iter().filter(|record| [PERIOD, STORED].contains(&record.kind)).count();
+    let right = match kind {
+        CHARGE => body != [0; CHARGE_BODY],
+        STORED => two(body, PERIOD_BODY) != NO_LIMIT,
+        END => two(body, 0) as usize == periods() && at + 1 + length == file.len(),
+        _ => true,
+    };
+    if !right {
+        return Some(12);
+    }
+    (kind != END && i + 1 == records.len()).then_some(11)
+}
+
+/// What the walk says of a file: what it holds, or the fault of the first record that has one; a file without any has ended too early.
+pub fn walk(file: &[u8]) -> Result<Records, Refusal> {
+    let split = split(file);
+    let first = if split.is_empty() { Some(11) } else { (0..split.len()).find_map(|i| fault(file, &split, i)) };
+    if let Some(number) = first {
+        return Err(Refusal { number, period: 0 });
+    }
+    let mut records = Records::default();
+    for Record { at, kind, body } in split {
+        match kind {
+            STAMP => records.stamp = Some(body.to_vec()),
+            CHARGE => (records.opening, records.closing) = (two(body, 0), two(body, 2)),
+            PERIOD | STORED => records.places.push([at + 1, body.len()]),
+            _ => {}
+        }
+    }
+    Ok(records)
 }
 
 /// The body of period i, counted from 1, of a file that walks cleanly.
@@ -783,13 +851,26 @@ pub fn charge_record(opening: u16, closing: u16) -> Vec<u8> {
     record
 }
 
+/// The record of what a file is for.
+pub fn stamp_record(stamp: Stamp) -> Vec<u8> {
+    let mut record = vec![STAMP];
+    record.extend(stamp.station.to_be_bytes());
+    record.extend(stamp.date.to_be_bytes());
+    record
+}
+
 /// How many bytes the record of a period with this store limit has.
 pub fn period_record(store: u16) -> usize {
     1 + if store < NO_LIMIT { STORED_BODY } else { PERIOD_BODY }
 }
 
 /// The file of a day whose tables are as long as the first.
-pub fn file_of(day: &Day) -> Vec<u8> {
+pub fn file_of(stamp: Stamp, day: &Day) -> Vec<u8> {
+    [stamp_record(stamp), unstamped(day)].concat()
+}
+
+/// What follows the stamp in it, which is the whole file as it was before there was one.
+pub fn unstamped(day: &Day) -> Vec<u8> {
     let mut file = Vec::new();
     if day.opening > 0 || day.closing > 0 {
         file.extend(charge_record(day.opening, day.closing));
@@ -812,18 +893,29 @@ pub fn file_of(day: &Day) -> Vec<u8> {
 }
 
 pub fn file_length(day: &Day) -> usize {
+    1 + STAMP_BODY + unstamped_length(day)
+}
+
+pub fn unstamped_length(day: &Day) -> usize {
     let first = if day.opening > 0 || day.closing > 0 { 1 + CHARGE_BODY } else { 0 };
     let periods: usize = (0..day.periods()).map(|i| period_record(day.store.get(i).copied().unwrap_or(0))).sum();
     first + periods + 1 + END_BODY
 }
 
+/// Another stamp than the expected one, which has two numbers, or none.
+fn bad_stamp(records: &Records, expected: &[u16]) -> Option<Refusal> {
+    let bytes: Vec<u8> = expected.iter().flat_map(|number| [number / 256, number % 256]).map(|byte| byte as u8).collect();
+    refused(20, expected.len() != 2 || records.stamp != Some(bytes))
+}
+
 /// What the reader refuses, in order; `shortest` is the length of the shortest of the lent tables.
-pub fn read_refusals(file: &[u8], shortest: usize) -> Vec<Refusal> {
+pub fn read_refusals(file: &[u8], expected: &[u16], shortest: usize) -> Vec<Refusal> {
     match walk(file) {
         Err(fault) => vec![fault],
         Ok(records) => {
             let n = records.periods();
-            [bad_count(n), too_few(shortest, n), bad_value(&day_in(file, &records))].into_iter().flatten().collect()
+            let value = bad_value(&day_in(file, &records));
+            [bad_stamp(&records, expected), bad_count(n), too_few(shortest, n), value].into_iter().flatten().collect()
         }
     }
 }

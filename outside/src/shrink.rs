@@ -1,6 +1,6 @@
 //! Makes a failing input smaller as long as it still fails, and prints it.
 use crate::input::{Call, Input};
-use crate::plain::{self, Day};
+use crate::plain::{self, Day, Stamp};
 use std::time::{Duration, Instant};
 
 /// Smaller numbers to try in place of one.
@@ -76,14 +76,29 @@ fn steps(input: &Input) -> Vec<Input> {
             tries.push(Input { file, ..input.clone() });
         }
     }
-    // records of any file: the first may have 5 bytes
-    for (first, length) in [(0, 5), (0, 17), (5, 17), (0, 19), (5, 19)] {
+    // records of any file: the first two may have 5 bytes each
+    for (first, length) in [(0, 5), (0, 17), (5, 17), (10, 17), (0, 19), (5, 19), (10, 19)] {
         for at in (first..input.file.len()).step_by(length) {
             let mut next = input.clone();
             next.file.drain(at..(at + length).min(input.file.len()));
             tries.push(next);
         }
     }
+    // a file's stamp together with the expected one
+    if let [station, date] = input.expected[..] {
+        if input.file.starts_with(&plain::stamp_record(Stamp { station, date })) {
+            let unstamped = Input { file: input.file[1 + plain::STAMP_BODY..].to_vec(), ..input.clone() };
+            tries.extend(smaller(station as u64).into_iter().map(|v| unstamped.stamped(Stamp { station: v as u16, date })));
+            tries.extend(smaller(date as u64).into_iter().map(|v| unstamped.stamped(Stamp { station, date: v as u16 })));
+        }
+    }
+    for station in smaller(input.stamp.station as u64) {
+        tries.push(Input { stamp: Stamp { station: station as u16, ..input.stamp }, ..input.clone() });
+    }
+    for date in smaller(input.stamp.date as u64) {
+        tries.push(Input { stamp: Stamp { date: date as u16, ..input.stamp }, ..input.clone() });
+    }
+    tries.extend((0..input.expected.len()).map(|i| Input { expected: without(&input.expected, i), ..input.clone() }));
     // the charge at both ends, together and alone
     let both = day.opening.min(day.closing) as u64;
     for less in smaller(both).into_iter().map(|v| (both - v) as u16) {
@@ -105,6 +120,7 @@ fn steps(input: &Input) -> Vec<Input> {
     values(input, |x| &mut x.day.unit, |v| v as u32, smaller, &mut tries);
     values(input, |x| &mut x.day.holding, |v| v as u32, smaller, &mut tries);
     values(input, |x| &mut x.file, |v| v as u8, smaller, &mut tries);
+    values(input, |x| &mut x.expected, |v| v as u16, smaller, &mut tries);
     if !input.plans.is_empty() {
         values(input, |x| &mut x.plans[0], |v| v as u16, smaller, &mut tries);
     }
@@ -134,12 +150,23 @@ fn steps(input: &Input) -> Vec<Input> {
     tries
 }
 
+/// Inputs with half of the file or of the expected numbers, for one that is too long to keep a copy for each step.
+fn halves(input: &Input) -> Vec<Input> {
+    let Input { file, expected, .. } = input;
+    let (bytes, numbers) = (file.len() / 2, expected.len() / 2);
+    let files = [&file[..bytes], &file[bytes..]].map(|file| Input { file: file.to_vec(), ..input.clone() });
+    let counts = [&expected[..numbers], &expected[numbers..]].map(|expected| Input { expected: expected.to_vec(), ..input.clone() });
+    [files, counts].into_iter().flatten().filter(|half| half != input).collect()
+}
+
 /// The smallest failing input that is found in a few seconds.
 pub fn shrink(input: &Input, fails: impl Fn(&Input) -> bool) -> Input {
     let end = Instant::now() + Duration::from_secs(10);
     let mut best = input.clone();
     loop {
-        let next = steps(&best).into_iter().find(|next| Instant::now() < end && fails(next));
+        let long = best.file.len() > 5000 || best.expected.len() > 300;
+        let next = if long { halves(&best) } else { steps(&best) };
+        let next = next.into_iter().find(|next| Instant::now() < end && fails(next));
         match next {
             Some(next) => best = next,
             None => return best,
@@ -149,7 +176,7 @@ pub fn shrink(input: &Input, fails: impl Fn(&Input) -> bool) -> Input {
 
 /// An input in document 01's form.
 pub fn show(input: &Input) -> String {
-    let Input { day, lowest, actual, plans, file, period, trials, lent, .. } = input;
+    let Input { day, lowest, actual, plans, file, expected, stamp, period, trials, lent, .. } = input;
     let words = |numbers: Vec<u64>| numbers.iter().map(u64::to_string).collect::<Vec<_>>().join(" ");
     let words16 = |table: &[u16]| words(table.iter().map(|&v| v as u64).collect());
     let words32 = |table: &[u32]| words(table.iter().map(|&v| v as u64).collect());
@@ -182,8 +209,14 @@ pub fn show(input: &Input) -> String {
     if matches!(input.call, Call::Read | Call::Lookup) {
         lines.push(format!("file {}", file.iter().map(|byte| format!("{byte:02X}")).collect::<Vec<_>>().join(" ")));
     }
+    if input.call == Call::Read {
+        lines.push(format!("expected {}", words16(expected)));
+    }
     if input.call == Call::Lookup {
         lines.push(format!("period {period}"));
+    }
+    if input.call == Call::Write {
+        lines.push(format!("station {}, date {}", stamp.station, stamp.date));
     }
     if !lent.is_empty() {
         lines.push(format!("cells lent {}", words(lent.iter().map(|&v| v as u64).collect())));

@@ -29,7 +29,7 @@ fn limits() -> Vec<Input> {
         }
     }
     let longest = Day { store: vec![NO_LIMIT - 1; 96], ..ends::day(96, 100, 65_535, 1, 1) };
-    assert_eq!(plain::file_of(&longest).len(), 1832);
+    assert_eq!(plain::unstamped(&longest).len(), 1832);
     inputs.extend(calls(&longest));
     inputs
 }
@@ -125,7 +125,7 @@ pub fn files() -> Vec<Vec<u8>> {
     for (n, (opening, closing)) in (0..=3).flat_map(|n| [(0, 0), (1, 2)].map(|ends| (n, ends))) {
         for limited in 0..1 << n {
             let store = (0..n).map(|i| if limited >> i & 1 == 1 { [0, 258, NO_LIMIT - 1][i] } else { NO_LIMIT }).collect();
-            let file = plain::file_of(&Day { store, ..ends::day(n, 5 * n, 3, opening, closing) });
+            let file = plain::unstamped(&Day { store, ..ends::day(n, 5 * n, 3, opening, closing) });
             files.extend(cuts(&file, 0));
             for [body, length] in plain::walk(&file).unwrap().places {
                 let mut no_limit = file.clone();

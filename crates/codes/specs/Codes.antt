@@ -1,14 +1,22 @@
 -- What a C program sees of a call's answer: one code, and the call's out-array (include/yakkurem.h).
--- Main definitions: `codeOf`; `seenOf`, what is seen of an answer's figures; `checkCode`, of a call without an out-array.
+-- Main definitions: `codeOf`; `seenOf`, what is seen of an answer's figures; `checkCode`, of a call without an out-array. And the other way `expectedOf`,
+-- the stamp that a C program expects.
 -- Main statement: `code-splits` takes a code apart. Assumes nothing.
 use mathlib.Core.Path.{_≡_, _∙_}
+use mathlib.Core.Bool.{cond}
 use mathlib.Core.List.{List}
 use mathlib.Core.Option.{Option, none, some}
 use Prim.Native.Nat.{ℕ, _+_, _*_, _/_, _%_, _<_}
 use native.Mathlib.Nat.{add-mul-mod-self-left, mod-eq-of-lt, add-mul-div-left, div-eq-of-lt, zero-add}
 use native.Mathlib.Omega.{arith}
+use lib.Dec.{eqb}
+use lib.ListN.{length}
 use Rattle.day.specs.declared.Check.{Check}
 use Rattle.day.specs.declared.Check.the-variants.{Passed, Refused}
+use Rattle.day.specs.declared.Expected.{Expected}
+use Rattle.day.specs.declared.Expected.the-variants.{Nothing, Only}
+use Rattle.day.specs.Sums.{at}
+use Rattle.day.specs.File.{stampWith}
 use Rattle.day.specs.Refusals.{numberOf, periodOf}
 use Rattle.day.specs.Figures.{Figures}
 
@@ -43,3 +51,7 @@ seenOf before f = seen (codeOf (f .number) (f .period)) (outOf before (f .values
 abbrev pub checkCode : Check → ℕ
 checkCode Passed = codeOf 0 0
 checkCode (Refused r) = codeOf (numberOf r) (periodOf r)
+
+-- the expected stamp, where two numbers say it: station and date; none where they are fewer or more
+abbrev pub expectedOf : List ℕ → Expected
+expectedOf numbers = cond (eqb (length numbers) 2) (Only (stampWith (at numbers 0) (at numbers 1))) Nothing

@@ -1,17 +1,19 @@
-//! What a C program sees of an answer: one code, and its numbers in the call's out-array (include/yakkurem.h).
+//! What a C program sees of an answer: one code, and its numbers in the call's out-array; the stamp that it expects (include/yakkurem.h).
 ghost use mathlib.Core.Path.{_≡_};
 ghost use Rattle.day.specs.Refusals.{numberOf, periodOf};
 ghost use Rattle.day.specs.Figures.{answerFigures, equalFigures, boundsFigures, bigFigures};
 ghost use Rattle.dayfile.specs.Answers.{readFigures, writeFigures};
 ghost use Rattle.weigher.specs.Answers.{weighedFigures, comparedFigures, ruleNumber};
 ghost use Rattle.play.specs.Answers.{playFigures};
-ghost use Rattle.codes.specs.Codes.{codeOf, seen, seenOf, checkCode};
+ghost use Rattle.codes.specs.Codes.{codeOf, seen, seenOf, checkCode, expectedOf};
 use day::Answer;
 use day::BigAnswer;
 use day::BoundsAnswer;
 use day::Check;
 use day::EqualAnswer;
+use day::Expected;
 use day::Refusal;
+use day::Stamp;
 use dayfile::ReadAnswer;
 use dayfile::WriteAnswer;
 use play::PlayAnswer;
@@ -144,6 +146,19 @@ pub fn played(a: PlayAnswer, answer: &mut [u64; 5]) -> u64
             0
         }
     }
+}
+
+// The stamp that a C program expects, as two numbers; none where they are fewer or more.
+pub fn expected(numbers: &[u16]) -> Expected
+    ensures { λ r. ⌜ r ≡ expectedOf (now (numbers .entry)) ⌝ }
+{
+    if numbers.len() != 2 {
+        return Expected::Nothing;
+    }
+    Expected::Only(Stamp {
+        station: numbers[0],
+        date: numbers[1],
+    })
 }
 
 // Of a reading: the count of periods, and the ends.

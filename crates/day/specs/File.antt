@@ -1,21 +1,26 @@
--- The day file (document 01, "Day file"; document 02, 2.1, 2.5): its layout, the day that it holds, the one file of a day, and conditions 10 to 13.
+-- The day file (document 01, "Day file"; document 02, 2.1, 2.5, 2.12): its layout, the day that it holds and whom that is for, the one file of such a
+-- day, and conditions 10 to 13 and 20.
 -- A record is one byte of kind and a body whose length the kind fixes; numbers are unsigned, most significant byte first:
 --     kind 1  a period (16 bytes)
 --     kind 2  the end (2 bytes)
 --     kind 3  opening and closing charge (4 bytes)
 --     kind 4  a period with its store limit, where that is below 65,535 (18 bytes)
--- The head is kind 3, where it is there; the periods follow, then the end.
--- Main definitions: `Layout`, what a file is; `dayIn`, the day that it holds; `fileOf`, the file of a day. Assumes nothing.
+--     kind 5  the stamp: station, and date in days since 1 January 2000 (4 bytes)
+-- The head is kind 5 and then kind 3, each where it is there; the periods follow, then the end.
+-- Main definitions: `Layout`, what a file is; `stampIn` and `dayIn`, the stamp and the day that it holds; `fileOf`, the file of these. Assumes nothing.
 use mathlib.Core.Path.{_≡_}
 use mathlib.Core.Logic.{_⊎_}
-use mathlib.Core.Bool.{Bool, not, _&&_, _||_, cond}
+use mathlib.Core.Bool.{Bool, false, not, _&&_, _||_, cond}
 use mathlib.Core.List.{List, [], _∷_, _++_}
 use mathlib.Core.Option.{Option, none, some}
 use Prim.Native.Nat.{ℕ, zero, suc, _+_, _*_, _/_, _%_, _<_}
 use lib.Dec.{eqb, leb, ltb}
 use lib.ListN.{length, take, drop}
 use Rattle.day.specs.declared.Refusal.{Refusal}
-use Rattle.day.specs.declared.Refusal.the-variants.{UnknownKind, TruncatedFile, WrongEnd, NoSuchPeriod}
+use Rattle.day.specs.declared.Refusal.the-variants.{UnknownKind, TruncatedFile, WrongEnd, NoSuchPeriod, WrongStamp}
+use Rattle.day.specs.declared.Stamp.{Stamp}
+use Rattle.day.specs.declared.Expected.{Expected}
+use Rattle.day.specs.declared.Expected.the-variants.{Nothing, Only}
 use Rattle.day.specs.Sums.{at, listOf}
 use Rattle.day.specs.Find.{find}
 use Rattle.day.specs.Day.{Day, periods, maxStore}
@@ -34,13 +39,18 @@ chargeKind = 3
 abbrev pub storeKind : ℕ
 storeKind = 4
 
+abbrev pub stampKind : ℕ
+stampKind = 5
+
 abbrev pub isKind : ℕ → Bool
-isKind kind = eqb kind periodKind || eqb kind endKind || eqb kind chargeKind || eqb kind storeKind
+isKind kind = eqb kind periodKind || eqb kind endKind || eqb kind chargeKind || eqb kind storeKind || eqb kind stampKind
 
 -- how long a body the kind fixes; an unknown kind has none
 abbrev pub bodyLength : ℕ → ℕ
 bodyLength kind =
-    cond (eqb kind periodKind) 16 (cond (eqb kind endKind) 2 (cond (eqb kind chargeKind) 4 (cond (eqb kind storeKind) 18 0)))
+    cond (eqb kind periodKind) 16 (
+    cond (eqb kind endKind) 2 (cond (eqb kind chargeKind) 4 (cond (eqb kind storeKind) 18 (cond (eqb kind stampKind) 4 0)))
+    )
 
 -- the record that begins at byte p: its body, and where the record after it begins
 abbrev pub body : List ℕ → ℕ → List ℕ
@@ -72,9 +82,21 @@ bothZero opening closing = eqb opening 0 && eqb closing 0
 abbrev pub isCharges : List ℕ → ℕ → Bool
 isCharges s p = isRecord chargeKind s p && not (bothZero (number2 (body s p) 0) (number2 (body s p) 2))
 
--- where the head ends: past the charges, where they stand first
+-- a file with a stamp (document 02: the pair): a whole record of it stands first
+abbrev pub isStamped : List ℕ → Bool
+isStamped s = isRecord stampKind s 0
+
+-- where charges may stand: after the stamp, or first where there is none
+abbrev pub chargesAt : List ℕ → ℕ
+chargesAt s = cond (isStamped s) (next s 0) 0
+
+-- whether there are some
+abbrev pub hasCharges : List ℕ → Bool
+hasCharges s = isCharges s (chargesAt s)
+
+-- where the head ends: past them
 abbrev pub headEnd : List ℕ → ℕ
-headEnd s = cond (isCharges s 0) (next s 0) 0
+headEnd s = cond (hasCharges s) (next s (chargesAt s)) (chargesAt s)
 
 -- where record i after the head begins, counted from 0
 abbrev pub recordAt : List ℕ → ℕ → ℕ
@@ -105,9 +127,12 @@ periodsIn s = orZero (find (λ i. not (isPeriod s (recordAt s i))) (suc (length 
 abbrev pub unknownKind : List ℕ → ℕ → Option Refusal
 unknownKind s p = refuse (ltb p (length s) && not (isKind (at s p))) UnknownKind
 
--- 12, at its kind byte: charges that don't stand first
+-- 12, at its kind byte: a stamp that doesn't stand first, or charges that don't stand where they may
+abbrev pub isMisplaced : (kind p charges : ℕ) → Bool
+isMisplaced kind p charges = (eqb kind stampKind && not (eqb p 0)) || (eqb kind chargeKind && not (eqb p charges))
+
 abbrev pub misplaced : List ℕ → ℕ → Option Refusal
-misplaced s p = refuse (eqb (at s p) chargeKind && not (eqb p 0)) WrongEnd
+misplaced s p = refuse (isMisplaced (at s p) p (chargesAt s)) WrongEnd
 
 -- 11: the file ends inside the record, or before it
 abbrev pub truncated : List ℕ → ℕ → Option Refusal
@@ -125,6 +150,30 @@ badEnd s p n = first (unknownKind s p ∷ misplaced s p ∷ truncated s p ∷ wr
 abbrev pub walk : List ℕ → Option Refusal
 walk s = badEnd s (recordAt s (periodsIn s)) (periodsIn s)
 
+-- the stamp of two numbers; that of a body of kind 5; that of a file, where it has one
+abbrev pub stampWith : (station date : ℕ) → Stamp
+stampWith station date = record { station = station; date = date }
+
+abbrev pub stampOf : List ℕ → Stamp
+stampOf b = stampWith (number2 b 0) (number2 b 2)
+
+abbrev pub stampIn : List ℕ → Stamp
+stampIn s = stampOf (body s 0)
+
+-- 20: the file has no stamp, or not the expected one; where nothing is expected no file has it
+abbrev pub sameStamp : Stamp → Stamp → Bool
+sameStamp t u = eqb (t .station) (u .station) && eqb (t .date) (u .date)
+
+abbrev pub hasStamp : Stamp → List ℕ → Bool
+hasStamp t s = isStamped s && sameStamp (stampIn s) t
+
+abbrev pub isExpected : Expected → List ℕ → Bool
+isExpected Nothing s = false
+isExpected (Only t) s = hasStamp t s
+
+abbrev pub wrongStamp : Expected → List ℕ → Option Refusal
+wrongStamp expected s = refuse (not (isExpected expected s)) WrongStamp
+
 -- 13: the asked-for period is 0 or above n
 abbrev pub noSuchPeriod : (n i : ℕ) → Option Refusal
 noSuchPeriod n i = refuse (eqb i 0 || ltb n i) NoSuchPeriod
@@ -132,7 +181,7 @@ noSuchPeriod n i = refuse (eqb i 0 || ltb n i) NoSuchPeriod
 -- the day that a file holds: A and Z in the head, both 0 where it has none; r, c, b, p, h at their places in the bodies, and after them s in those of
 -- kind 4, 65,535 in the others
 abbrev pub chargeIn : ℕ → List ℕ → ℕ
-chargeIn offset s = cond (isCharges s 0) (number2 (body s 0) offset) 0
+chargeIn offset s = cond (hasCharges s) (number2 (body s (chargesAt s)) offset) 0
 
 abbrev pub field : (List ℕ → ℕ → ℕ) → ℕ → List ℕ → ℕ → ℕ
 field number offset s k = number (body s (recordAt s k)) offset
@@ -155,15 +204,22 @@ dayIn s = record {
   closing = chargeIn 2 s;
 }
 
--- the bytes of numbers; the head; a period's body and record; the file of a day: the head, the period records, the end record
+-- the bytes of numbers; the head: its stamp, then charges, where they are not both 0; a period's body and record; the file of a stamp and a day: the
+-- head, the period records, the end record
 abbrev pub bytes2 : ℕ → List ℕ
 bytes2 v = v / 256 ∷ v % 256 ∷ []
 
 abbrev pub bytes4 : ℕ → List ℕ
 bytes4 v = bytes2 (v / 65536) ++ bytes2 (v % 65536)
 
-abbrev pub headOf : (opening closing : ℕ) → List ℕ
-headOf opening closing = cond (bothZero opening closing) [] (chargeKind ∷ bytes2 opening ++ bytes2 closing)
+abbrev pub stampRecord : Stamp → List ℕ
+stampRecord t = stampKind ∷ bytes2 (t .station) ++ bytes2 (t .date)
+
+abbrev pub chargesOf : (opening closing : ℕ) → List ℕ
+chargesOf opening closing = cond (bothZero opening closing) [] (chargeKind ∷ bytes2 opening ++ bytes2 closing)
+
+abbrev pub headOf : Stamp → (opening closing : ℕ) → List ℕ
+headOf t opening closing = stampRecord t ++ chargesOf opening closing
 
 abbrev pub fieldsOf : (demand capacity setup unit holding : ℕ) → List ℕ
 fieldsOf demand capacity setup unit holding = bytes2 demand ++ bytes2 capacity ++ bytes4 setup ++ bytes4 unit ++ bytes4 holding
@@ -185,5 +241,5 @@ abbrev pub recordsOf : Day → ℕ → List ℕ
 recordsOf d zero = []
 recordsOf d (suc k) = recordsOf d k ++ recordOf d k
 
-abbrev pub fileOf : Day → List ℕ
-fileOf d = headOf (d .opening) (d .closing) ++ (recordsOf d (periods d) ++ endKind ∷ bytes2 (periods d))
+abbrev pub fileOf : Stamp → Day → List ℕ
+fileOf t d = headOf t (d .opening) (d .closing) ++ (recordsOf d (periods d) ++ endKind ∷ bytes2 (periods d))

@@ -11,7 +11,7 @@ use Rattle.day.specs.declared.Refusal.{Refusal}
 use Rattle.day.specs.declared.Refusal.the-variants.{PeriodCount, TableLength, AboveLimit, TotalDemand, ShortArea, FewSlots, Shortage}
 use Rattle.day.specs.declared.Refusal.the-variants.{UnequalCapacities, BindingCapacity}
 use Rattle.day.specs.declared.Refusal.the-variants.{UnknownKind, TruncatedFile, WrongEnd, NoSuchPeriod, SurplusInventory, PaidSetup, LowStore}
-use Rattle.day.specs.declared.Refusal.the-variants.{OpeningInventory, ReversedRange, NoTrials}
+use Rattle.day.specs.declared.Refusal.the-variants.{OpeningInventory, ReversedRange, NoTrials, WrongStamp}
 use Rattle.day.specs.declared.Check.{Check}
 use Rattle.day.specs.declared.Check.the-variants.{Passed, Refused}
 use Rattle.day.specs.Refusals.{numberOf, periodOf, Gives, refuse, refuseAt, orNext, first, checked}
@@ -51,9 +51,10 @@ withNumber number i =
     ∷ LowStore i
     ∷ OpeningInventory
     ∷ ReversedRange i
+    ∷ NoTrials
     ∷ [])
     number
-    NoTrials
+    WrongStamp
 
 number-fixes : (r : Refusal) → withNumber (numberOf r) (periodOf r) ≡ r
 unfolding withNumber
@@ -76,6 +77,7 @@ number-fixes (LowStore i) = refl
 number-fixes OpeningInventory = refl
 number-fixes (ReversedRange i) = refl
 number-fixes NoTrials = refl
+number-fixes WrongStamp = refl
 
 -- number and period fix a refusal: what is given is the first in order, and the other way round
 pub gives-is : {o : Option Refusal} {r : Refusal} → Gives o r → o ≡ some r
@@ -117,19 +119,25 @@ pub first-two : (o p : Option Refusal) → first (o ∷ p ∷ []) ≡ none → (
 first-two none p e = (refl, sym (first-one p) ∙ e)
 first-two (some r) p e = absurd (Option·some-ne-none _ e)
 
--- the answers of two tests in order
+-- the answers of a test and of those after it, in order
 abbrev pub inOrder : Check → Check → Check
 inOrder Passed c = c
 inOrder (Refused r) c = Refused r
 
-pub in-order : (o p : Option Refusal) {test next answer : Check} → test ≡ checked o → next ≡ checked p → answer ≡ inOrder test next
-    → answer ≡ checked (first (o ∷ p ∷ []))
-in-order none p is then e = rw (is, then) at e ∙ ap checked (sym (first-one p))
-in-order (some r) p is then e = rw is at e
+pub in-order : (o : Option Refusal) (rest : List (Option Refusal)) {test next answer : Check}
+    → test ≡ checked o → next ≡ checked (first rest) → answer ≡ inOrder test next
+    → answer ≡ checked (first (o ∷ rest))
+in-order none rest is then e = rw (is, then) at e
+in-order (some r) rest is then e = rw is at e
 
 pub alone : (o : Option Refusal) {answer : Check} → answer ≡ checked o → answer ≡ checked (first (o ∷ []))
 alone none is = is
 alone (some r) is = is
+
+-- of two tests
+pub in-order-two : (o p : Option Refusal) {test next answer : Check} → test ≡ checked o → next ≡ checked p → answer ≡ inOrder test next
+    → answer ≡ checked (first (o ∷ p ∷ []))
+in-order-two o p is then e = in-order o (p ∷ []) is (alone p then) e
 
 -- where the tests before a group passed: the group's refusal is that of the whole list
 module _ (before group : List (Option Refusal)) (ok : first before ≡ none) {answer : Check} (is : answer ≡ checked (first group)) where

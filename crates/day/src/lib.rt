@@ -24,6 +24,7 @@ pub enum Refusal {
     OpeningInventory,
     ReversedRange(u16),
     NoTrials,
+    WrongStamp,
 }
 
 impl Refusal {
@@ -50,6 +51,7 @@ impl Refusal {
             Refusal::OpeningInventory => 17,
             Refusal::ReversedRange(_) => 18,
             Refusal::NoTrials => 19,
+            Refusal::WrongStamp => 20,
         }
     }
 
@@ -76,6 +78,7 @@ impl Refusal {
             Refusal::OpeningInventory => 0,
             Refusal::ReversedRange(i) => i,
             Refusal::NoTrials => 0,
+            Refusal::WrongStamp => 0,
         }
     }
 }
@@ -99,6 +102,18 @@ pub enum PathKind {
 pub struct Ends {
     pub opening: u16,
     pub closing: u16,
+}
+
+// The station and the day that a file is for, in days since 1 January 2000 (document 02, 2.12: the pair).
+pub struct Stamp {
+    pub station: u16,
+    pub date: u16,
+}
+
+// The stamp that a reader expects. Where that is nothing, no file has it.
+pub enum Expected {
+    Nothing,
+    Only(Stamp),
 }
 
 // A plan's cost and its setups (document 01: starts).

@@ -8,7 +8,9 @@ use lib.ListN.{length, drop}
 use denote.Ref.{RefT, now}
 use Rattle.day.specs.Sums.{at}
 use Rattle.day.specs.Day.{Day, tablesOf, periods}
-use Rattle.day.specs.File.{bodyLength, body, recordAt, number2, number4, periodsIn, walk, noSuchPeriod, chargeIn, field, storeIn, dayIn, fileOf}
+use Rattle.day.specs.declared.Stamp.{Stamp}
+use Rattle.day.specs.declared.Expected.{Expected}
+use Rattle.day.specs.File.{bodyLength, body, recordAt, number2, number4, periodsIn, walk, wrongStamp, noSuchPeriod, chargeIn, field, storeIn, dayIn, fileOf}
 use Rattle.day.specs.Refusals.{Gives, first, badCount, badSlots, badValue, tableTests}
 use Rattle.day.specs.declared.Refusal.{Refusal}
 use Rattle.day.specs.Figures.{Figures, acceptedWith, refusedWith}
@@ -18,13 +20,9 @@ use Rattle.dayfile.specs.declared.ReadAnswer.the-variants.{Refused, Peri
 use Rattle.dayfile.specs.declared.WriteAnswer.{WriteAnswer}
 use Rattle.dayfile.specs.declared.WriteAnswer.the-variants as Write
 
--- what opens every call on a file: the walk (10, 11, 12), then 1
-abbrev pub fileTests : List ℕ → List (Option Refusal)
-fileTests s = walk s ∷ badCount (periodsIn s) ∷ []
-
--- a lookup: these, then 13
+-- a lookup: the walk (10, 11, 12), then 1, then 13
 abbrev pub badLookup : List ℕ → ℕ → Option Refusal
-badLookup s i = first (fileTests s ++ (noSuchPeriod (periodsIn s) i ∷ []))
+badLookup s i = first (walk s ∷ badCount (periodsIn s) ∷ noSuchPeriod (periodsIn s) i ∷ [])
 
 -- the body of the record at byte p, as that very part of the file: the same block of memory, so many bytes on
 pub record BodyAt (file : RefT (List ℕ)) (p : ℕ) (r : RefT (List ℕ)) : Type 0 where
@@ -48,9 +46,12 @@ partFigures (some r) s i = refusedWith r
 abbrev pub lookupFigures : List ℕ → ℕ → Figures ℕ
 lookupFigures s i = partFigures (badLookup s i) s i
 
--- a reading: the file's tests, then 6, 3
-abbrev pub badRead : List ℕ → ℕ → Option Refusal
-badRead s cells = first (fileTests s ++ (badSlots cells (periodsIn s) ∷ badValue (dayIn s) ∷ []))
+-- a reading: the walk (10, 11, 12), 20, then 1; and then 6, 3
+abbrev pub fileTests : Expected → List ℕ → List (Option Refusal)
+fileTests expected s = walk s ∷ wrongStamp expected s ∷ badCount (periodsIn s) ∷ []
+
+abbrev pub badRead : Expected → List ℕ → ℕ → Option Refusal
+badRead expected s cells = first (fileTests expected s ++ (badSlots cells (periodsIn s) ∷ badValue (dayIn s) ∷ []))
 
 -- tables whose first cells take the numbers of the file's periods: its day at their front
 abbrev pub withDay : List ℕ → Day → Day
@@ -90,16 +91,16 @@ ReadingAs o s before (Periods n ends) after =
     × (readFigures (Periods n ends) ≡ acceptedWith (periodsIn s ∷ chargeIn 0 s ∷ chargeIn 2 s ∷ []))
     × (after ≡ withDay s before)
 
-abbrev pub Reading : List ℕ → Day → ReadAnswer → Day → Type 0
-Reading s before = ReadingAs (badRead s (shortest before)) s before
+abbrev pub Reading : Expected → List ℕ → Day → ReadAnswer → Day → Type 0
+Reading expected s before = ReadingAs (badRead expected s (shortest before)) s before
 
 -- a writing: 1, 2, 3, and 6 where the slice is shorter than the file
-abbrev pub badWrite : Day → ℕ → Option Refusal
-badWrite d room = first (tableTests d ++ (badSlots room (length (fileOf d)) ∷ []))
+abbrev pub badWrite : Stamp → Day → ℕ → Option Refusal
+badWrite t d room = first (tableTests d ++ (badSlots room (length (fileOf t d)) ∷ []))
 
 -- the file stands at the slice's front, and later bytes stay
-abbrev pub withFile : Day → List ℕ → List ℕ
-withFile d out = fileOf d ++ drop (length (fileOf d)) out
+abbrev pub withFile : Stamp → Day → List ℕ → List ℕ
+withFile t d out = fileOf t d ++ drop (length (fileOf t d)) out
 
 -- a writing's answer in figures: the count of bytes
 abbrev pub writeFigures : WriteAnswer → Figures ℕ
@@ -107,7 +108,7 @@ writeFigures (Write.Refused r) = refusedWith r
 writeFigures (Write.Bytes n) = acceptedWith (n ∷ [])
 
 -- refused, by number and period, no byte changes; accepted, the file is written and its length given
-abbrev pub Writing : Day → List ℕ → WriteAnswer → List ℕ → Type 0
-Writing d before (Write.Refused r) after = Gives (badWrite d (length before)) r × (after ≡ before)
-Writing d before (Write.Bytes n) after =
-    (badWrite d (length before) ≡ none) × (writeFigures (Write.Bytes n) ≡ acceptedWith (length (fileOf d) ∷ [])) × (after ≡ withFile d before)
+abbrev pub Writing : Stamp → Day → List ℕ → WriteAnswer → List ℕ → Type 0
+Writing t d before (Write.Refused r) after = Gives (badWrite t d (length before)) r × (after ≡ before)
+Writing t d before (Write.Bytes n) after =
+    (badWrite t d (length before) ≡ none) × (writeFigures (Write.Bytes n) ≡ acceptedWith (length (fileOf t d) ∷ [])) × (after ≡ withFile t d before)

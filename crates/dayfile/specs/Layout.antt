@@ -24,7 +24,8 @@ use Rattle.day.specs.declared.Refusal.the-variants.{UnknownKind}
 use Rattle.day.specs.Refusals.{refuse}
 use Rattle.day.specs.Find.{find, find-none, find-here, some-found}
 use Rattle.day.specs.Tests.{not-refused, neither}
-use Rattle.day.specs.File.{periodKind, chargeKind, storeKind, isKind, bodyLength, body, next, number2, isRecord, isPeriod, bothZero, isCharges, headEnd}
+use Rattle.day.specs.File.{periodKind, chargeKind, storeKind, stampKind, isKind, bodyLength, body, next, number2, isRecord, isPeriod, bothZero, isCharges}
+use Rattle.day.specs.File.{isStamped, chargesAt, hasCharges, headEnd}
 use Rattle.day.specs.File.{recordAt, PeriodAt, Layout, orZero, periodsIn, unknownKind, misplaced, truncated, wrongEnd, badEnd, walk, field, storeIn, dayIn}
 use Rattle.checks.specs.Passed.{SameLengths, Readable}
 use Rattle.tables.specs.Filled.{firstOf, with-front}
@@ -100,13 +101,20 @@ store-none s k e = ap (λ (x : ℕ). cond (eqb x storeKind) (field number2 16 s 
 pub store-there : (s : List ℕ) (k : ℕ) → at s (recordAt s k) ≡ storeKind → storeIn s k ≡ field number2 16 s k
 store-there s k e = ap (λ (x : ℕ). cond (eqb x storeKind) (field number2 16 s k) maxStore) e
 
--- the head ends inside the file
-head-inside : (s : List ℕ) → headEnd s ≤ length s
-head-inside s = go (isCharges s 0) refl
+-- the stamp ends inside the file, and so does the head
+stamp-inside : (s : List ℕ) → chargesAt s ≤ length s
+stamp-inside s = go (isStamped s) refl
   where
-    go : (b : Bool) → isCharges s 0 ≡ b → cond b (next s 0) 0 ≤ length s
-    go true q = whole-charges s 0 q .here .whole
+    go : (b : Bool) → isStamped s ≡ b → cond b (next s 0) 0 ≤ length s
+    go true q = whole-record stampKind s 0 q .whole
     go false q = omega arith
+
+head-inside : (s : List ℕ) → headEnd s ≤ length s
+head-inside s = go (hasCharges s) refl
+  where
+    go : (b : Bool) → hasCharges s ≡ b → cond b (next s (chargesAt s)) (chargesAt s) ≤ length s
+    go true q = whole-charges s (chargesAt s) q .here .whole
+    go false q = stamp-inside s
 
 -- record i is no whole period
 abbrev stops : List ℕ → ℕ → Bool

@@ -1,20 +1,24 @@
 -- What the passed tests of these calls, and what they gave, tell a caller.
--- Main statements: `each-passed`, `file-passed`, `lookup-passed`, `read-given`, `write-passed`. Assumes nothing.
-use mathlib.Core.Path.{_≡_, refl}
+-- Main statements: `each-passed`, `file-passed`, `expected-stamp`, `lookup-passed`, `read-given`, `write-passed`. Assumes nothing.
+use mathlib.Core.Path.{_≡_, refl, sym, ap}
+use mathlib.Core.Bool.{true, false≢true, and-eq-true-iff}
 use mathlib.Core.List.{List, [], _∷_, _++_}
 use mathlib.Core.Option.{Option, none, some, Option·some-ne-none}
 use Prim.Native.Nat.{ℕ, _≤_}
 use native.Mathlib.Omega.{arith}
 use lib.Dec.{eqb, ltb}
 use lib.ListN.{length}
-use borrow.Author.Tests.{eqb-false, ltb-false}
+use borrow.Author.Tests.{eqb-true, eqb-false, ltb-false, not-false}
 use Rattle.day.specs.declared.Ends.{Ends}
+use Rattle.day.specs.declared.Stamp.{Stamp}
+use Rattle.day.specs.declared.Expected.{Expected}
+use Rattle.day.specs.declared.Expected.the-variants.{Nothing, Only}
 use Rattle.day.specs.Day.{Day, endsOf, maxPeriods}
 use Rattle.day.specs.declared.Refusal.{Refusal}
-use Rattle.day.specs.declared.Refusal.the-variants.{FewSlots, NoSuchPeriod}
-use Rattle.day.specs.Refusals.{first, badSlots, tableTests}
+use Rattle.day.specs.declared.Refusal.the-variants.{FewSlots, NoSuchPeriod, WrongStamp}
+use Rattle.day.specs.Refusals.{first, badCount, badSlots, tableTests}
 use Rattle.day.specs.Tests.{not-refused, neither}
-use Rattle.day.specs.File.{periodsIn, noSuchPeriod, chargeIn, dayIn, fileOf}
+use Rattle.day.specs.File.{isStamped, periodsIn, walk, stampIn, isExpected, wrongStamp, noSuchPeriod, chargeIn, dayIn, fileOf}
 use Rattle.day.specs.Figures.{acceptedWith, same-values, first-value}
 use Rattle.checks.specs.Passed.{count-passed}
 use Rattle.dayfile.specs.declared.ReadAnswer.the-variants.{Periods}
@@ -31,14 +35,27 @@ each-passed (none ∷ rest) e = (refl, each-passed rest e)
 each-passed (some r ∷ rest) e = absurd (Option·some-ne-none _ e)
 
 -- a file whose tests passed has at most 96 periods
-pub file-passed : (s : List ℕ) → first (fileTests s) ≡ none → periodsIn s ≤ maxPeriods
-file-passed s e = count-passed (periodsIn s) (each-passed (fileTests s) e .1 .0) .1
+pub file-passed : (expected : Expected) (s : List ℕ) → first (fileTests expected s) ≡ none → periodsIn s ≤ maxPeriods
+file-passed expected s e = count-passed (periodsIn s) (each-passed (fileTests expected s) e .1 .1 .0) .1
+
+-- and the expected stamp
+pub expected-stamp : (expected : Expected) (s : List ℕ) → isExpected expected s ≡ true → (isStamped s ≡ true) × (expected ≡ Only (stampIn s))
+expected-stamp Nothing s e = absurd (false≢true e)
+expected-stamp (Only t) s e =
+    let w = and-eq-true-iff _ _ .0 e in
+    let u = and-eq-true-iff _ _ .0 (w .1) in
+    let station = sym (eqb-true _ _ (u .0)) in
+    let date = sym (eqb-true _ _ (u .1)) in
+    (w .0, ap Only (λ i. record { station = station i; date = date i }))
+
+pub stamp-passed : (expected : Expected) (s : List ℕ) → wrongStamp expected s ≡ none → (isStamped s ≡ true) × (expected ≡ Only (stampIn s))
+stamp-passed expected s e = expected-stamp expected s (not-false _ (not-refused _ WrongStamp e))
 
 -- a lookup that is not refused asks for one of the file's periods
 pub lookup-passed : (s : List ℕ) (i : ℕ) → badLookup s i ≡ none → (1 ≤ i) × (i ≤ periodsIn s)
 lookup-passed s i e =
     let n = periodsIn s in
-    let asked = each-passed (fileTests s ++ (noSuchPeriod n i ∷ [])) e .1 .1 .0 in
+    let asked = each-passed (walk s ∷ badCount n ∷ noSuchPeriod n i ∷ []) e .1 .1 .0 in
     let t = neither (eqb i 0) (ltb n i) (not-refused _ NoSuchPeriod asked) in
     let nonzero = eqb-false i 0 (t .0) in
     (omega arith, ltb-false n i (t .1))
@@ -54,7 +71,7 @@ read-given s n ends e =
     (first-value e, λ i. record { opening = opening i; closing = closing i })
 
 -- a writing that is not refused has room for the file
-pub write-passed : (d : Day) (room : ℕ) → badWrite d room ≡ none → length (fileOf d) ≤ room
-write-passed d room e =
-    let each = each-passed (tableTests d ++ (badSlots room (length (fileOf d)) ∷ [])) e in
-    ltb-false room (length (fileOf d)) (not-refused _ FewSlots (each .1 .1 .1 .0))
+pub write-passed : (t : Stamp) (d : Day) (room : ℕ) → badWrite t d room ≡ none → length (fileOf t d) ≤ room
+write-passed t d room e =
+    let each = each-passed (tableTests d ++ (badSlots room (length (fileOf t d)) ∷ [])) e in
+    ltb-false room (length (fileOf t d)) (not-refused _ FewSlots (each .1 .1 .1 .0))

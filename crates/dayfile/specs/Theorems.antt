@@ -1,8 +1,9 @@
 -- What demand 2 asks of the lookup, from its contract (`Answers`) and the layout (the crate day's `File`):
 --     lookup-hands-out        the part that a lookup hands out is where the layout has that period
 --     place-holds             the figures of a lookup point there, and there the record's body stands
---     file-size               a file of n periods has 17 × n + 3 bytes, 5 more where there is a head, and 2 more for each store limit below 65,535
---     longest-file            with at most 96 periods it has at most 1,832 bytes
+--     file-size               a file of n periods has 17 × n + 3 bytes, 5 more where there is a stamp, 5 more where there are charges, and 2 more for
+--                             each store limit below 65,535
+--     longest-file            with at most 96 periods it has at most 1,837 bytes
 -- Assumes nothing.
 use mathlib.Core.Path.{_≡_, refl, ap₂, _∙_}
 use mathlib.Core.Bool.{Bool, true, false, cond}
@@ -19,21 +20,29 @@ use borrow.Author.Tests.{lt-ltb}
 use Rattle.day.specs.Sums.{at, sumTo}
 use Rattle.day.specs.Day.{maxPeriods, maxStore}
 use Rattle.day.specs.Figures.{acceptedWith}
-use Rattle.day.specs.File.{body, bodyLength, next, isCharges, headEnd, recordAt, Layout, periodsIn, storeIn, bytes2, limitOf}
+use Rattle.day.specs.File.{stampKind, body, bodyLength, next, isStamped, chargesAt, hasCharges, headEnd, recordAt, Layout, periodsIn, storeIn}
+use Rattle.day.specs.File.{bytes2, limitOf}
 use Rattle.dayfile.specs.Answers.{BodyAt, badLookup, Lookup, lookupFigures}
 use Rattle.dayfile.specs.Passed.{lookup-passed}
-use Rattle.dayfile.specs.Layout.{whole-charges, body-whole, period-at, store-none, store-there, counted}
+use Rattle.dayfile.specs.Layout.{whole-record, whole-charges, body-whole, period-at, store-none, store-there, counted}
 
--- the head has 5 bytes, where there is one
+-- the head has 5 bytes for a stamp, where there is one, and 5 for charges
 abbrev pub headSize : List ℕ → ℕ
-headSize s = cond (isCharges s 0) 5 0
+headSize s = cond (isStamped s) 5 0 + cond (hasCharges s) 5 0
+
+stamp-size : (s : List ℕ) → chargesAt s ≡ cond (isStamped s) 5 0
+stamp-size s = go (isStamped s) refl
+  where
+    go : (b : Bool) → isStamped s ≡ b → cond b (next s 0) 0 ≡ cond b 5 0
+    go true q = rw (whole-record stampKind s 0 q .kind) refl
+    go false q = refl
 
 head-size : (s : List ℕ) → headEnd s ≡ headSize s
-head-size s = go (isCharges s 0) refl
+head-size s = go (hasCharges s) refl
   where
-    go : (b : Bool) → isCharges s 0 ≡ b → cond b (next s 0) 0 ≡ cond b 5 0
-    go true q = rw (whole-charges s 0 q .here .kind) refl
-    go false q = refl
+    go : (b : Bool) → hasCharges s ≡ b → cond b (next s (chargesAt s)) (chargesAt s) ≡ cond (isStamped s) 5 0 + cond b 5 0
+    go true q = rw (whole-charges s (chargesAt s) q .here .kind) (omega (arith, stamp-size s))
+    go false q = omega (arith, stamp-size s)
 
 -- the bytes of k period records with these store limits: 17 each, and 2 more where the limit is below 65,535
 abbrev pub recordBytes : (ℕ → ℕ) → ℕ → ℕ
@@ -108,8 +117,8 @@ file-size s n w =
     let kind : bodyLength (at s (recordAt s n)) ≡ 2 = rw (w .ends) refl in
     omega (arith, w .size)
 
-pub longest-file : (s : List ℕ) (n : ℕ) → Layout s n → n ≤ maxPeriods → length s ≤ 1832
-longest-file s n w l = omega (arith, file-size s n w, most-bytes (storeIn s) n, most (isCharges s 0))
+pub longest-file : (s : List ℕ) (n : ℕ) → Layout s n → n ≤ maxPeriods → length s ≤ 1837
+longest-file s n w l = omega (arith, file-size s n w, most-bytes (storeIn s) n, most (isStamped s), most (hasCharges s))
   where
     most : (b : Bool) → cond b 5 0 ≤ 5
     most true = omega arith

@@ -1,24 +1,25 @@
-// Records by kind and length, the walk from the file's front to its end record, and the tests that open every call on a file.
+// Records by kind and length, the stamp, and the walk from the file's front to its end record, which opens every call on a file.
 ghost use mathlib.Core.Path.{_≡_};
-ghost use mathlib.Core.Bool.{not, _&&_};
 ghost use Prim.Native.Nat.{_+_, _≤_, _<_};
-ghost use lib.Dec.{eqb};
 ghost use lib.ListN.{length};
 ghost use Rattle.day.specs.Sums.{Term};
-ghost use Rattle.day.specs.Refusals.{checked, first};
-ghost use Rattle.day.specs.File.{chargeKind, isKind, bodyLength, next, number2, number4, isRecord, isPeriod, isCharges, headEnd, recordAt};
-ghost use Rattle.day.specs.File.{periodsIn, badEnd};
-ghost use Rattle.dayfile.specs.Answers.{BodyAt, fileTests};
+ghost use Rattle.day.specs.Refusals.{checked};
+ghost use Rattle.day.specs.File.{isKind, bodyLength, next, number2, number4, isRecord, isPeriod, isCharges, isStamped, chargesAt, headEnd, recordAt};
+ghost use Rattle.day.specs.File.{periodsIn, isMisplaced, badEnd, walk, stampOf};
+ghost use Rattle.dayfile.specs.Answers.{BodyAt};
 use day::Check;
 use day::Refusal;
+use day::Stamp;
 
 pub const PERIOD: u8 = 1;
 
-const END: u8 = 2;
+pub const END: u8 = 2;
 
-const CHARGES: u8 = 3;
+pub const CHARGES: u8 = 3;
 
 pub const STORE: u8 = 4;
+
+pub const STAMP: u8 = 5;
 
 // A store limit that limits nothing: no record holds it.
 pub const NO_LIMIT: u16 = 65535;
@@ -50,7 +51,10 @@ fn is_kind(kind: u8) -> bool
     if kind == PERIOD || kind == END {
         return true;
     }
-    kind == CHARGES || kind == STORE
+    if kind == CHARGES || kind == STORE {
+        return true;
+    }
+    kind == STAMP
 }
 
 // How long a body the kind fixes.
@@ -68,6 +72,9 @@ fn body_length(kind: u8) -> usize
     }
     if kind == STORE {
         return 18;
+    }
+    if kind == STAMP {
+        return 4;
     }
     0
 }
@@ -132,14 +139,43 @@ pub fn is_charges(file: &[u8], at: usize) -> bool
     number2(charges, 2) != 0
 }
 
+// Whether a whole stamp stands first.
+pub fn is_stamped(file: &[u8]) -> bool
+    ensures { λ r. ⌜ r ≡ isStamped (now (file .entry)) ⌝ }
+{
+    is_record(file, 0, STAMP)
+}
+
+// The stamp that a body of kind 5 holds.
+pub fn stamp(body: &[u8]) -> Stamp
+    requires { ⌜ 3 < length (now body) ⌝ }
+    ensures { λ r. ⌜ r ≡ stampOf (now (body .entry)) ⌝ }
+{
+    Stamp {
+        station: number2(body, 0) as u16,
+        date: number2(body, 2) as u16,
+    }
+}
+
+// Where charges may stand: after the stamp, or first where there is none.
+pub fn charges_at(file: &[u8]) -> usize
+    ensures { λ r. ⌜ r ≡ chargesAt (now (file .entry)) ⌝ }
+{
+    if is_stamped(file) {
+        return next(file, 0);
+    }
+    0
+}
+
 // Where the head ends, and the period records begin.
 pub fn head_end(file: &[u8]) -> usize
     ensures { λ r. ⌜ r ≡ headEnd (now (file .entry)) ⌝ }
 {
-    if is_charges(file, 0) {
-        return next(file, 0);
+    let at = charges_at(file);
+    if is_charges(file, at) {
+        return next(file, at);
     }
-    0
+    at
 }
 
 // How many period records follow the head.
@@ -169,11 +205,14 @@ pub fn record_at(file: &[u8], i: usize) -> usize
     at
 }
 
-// Whether the record of `kind` at `at` is one of charges that doesn't stand first.
-fn is_misplaced(kind: u8, at: usize) -> bool
-    ensures { λ r. ⌜ r ≡ (eqb kind chargeKind && not (eqb at 0)) ⌝ }
+// Whether the record of `kind` at `at` is a stamp that doesn't stand first, or charges that don't stand at `charges`.
+fn is_misplaced(kind: u8, at: usize, charges: usize) -> bool
+    ensures { λ r. ⌜ r ≡ isMisplaced kind at charges ⌝ }
 {
-    kind == CHARGES && at != 0
+    if kind == STAMP {
+        return at != 0;
+    }
+    kind == CHARGES && at != charges
 }
 
 // 10, 11, 12, at the record after `n` period records, which is to be the end record.
@@ -186,7 +225,7 @@ fn end_record(file: &[u8], at: usize, n: usize) -> Check
     if !is_kind(file[at]) {
         return Check::Refused(Refusal::UnknownKind);
     }
-    if is_misplaced(file[at], at) {
+    if is_misplaced(file[at], at, charges_at(file)) {
         return Check::Refused(Refusal::WrongEnd);
     }
     let end = next(file, at);
@@ -205,13 +244,10 @@ fn end_record(file: &[u8], at: usize, n: usize) -> Check
     Check::Passed
 }
 
-// 10, 11, 12, then 1, which open every call on a file of `n` period records.
-pub fn tests(file: &[u8], n: usize) -> Check
+// 10, 11, 12, of a file of `n` period records.
+pub fn walk(file: &[u8], n: usize) -> Check
     requires { ⌜ n ≡ periodsIn (now file) ⌝ }
-    ensures { λ r. ⌜ r ≡ checked (first (fileTests (now (file .entry)))) ⌝ }
+    ensures { λ r. ⌜ r ≡ checked (walk (now (file .entry))) ⌝ }
 {
-    if let Check::Refused(r) = end_record(file, record_at(file, n), n) {
-        return Check::Refused(r);
-    }
-    checks::count(n)
+    end_record(file, record_at(file, n), n)
 }

@@ -23,10 +23,11 @@ pub fn check(file: &[u8], period: usize) -> Check
     ensures { λ r. ⌜ Checks (badLookup (now (file .entry)) period) r ⌝ }
 {
     let n = layout::periods(file);
-    if let Check::Refused(r) = layout::tests(file, n) {
-        return Check::Refused(r);
-    }
-    number(n, period)
+    let walked = layout::walk(file, n);
+    checks::in_order(
+        walked,
+        checks::in_order(checks::count(n), number(n, period)),
+    )
 }
 
 // The body of the record of `period`, counted from 1: that very part of the file's bytes. An empty part where `check` refuses.

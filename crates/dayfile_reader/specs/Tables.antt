@@ -9,12 +9,13 @@ use native.Mathlib.Numerals.{add-one}
 use native.Mathlib.Omega.{arith}
 use borrow.Author.Tests.{ltb-false}
 use lib.ListN.{length}
+use Rattle.day.specs.declared.Expected.{Expected}
 use Rattle.day.specs.Day.{Day, maxPeriods}
 use Rattle.day.specs.declared.Refusal.the-variants.{FewSlots}
 use Rattle.day.specs.Refusals.{badSlots, badValue}
 use Rattle.day.specs.Tests.{not-refused}
 use Rattle.day.specs.Sums.{at}
-use Rattle.day.specs.File.{recordAt, next, body, periodsIn, walk, dayIn}
+use Rattle.day.specs.File.{recordAt, next, body, periodsIn, walk, wrongStamp, dayIn}
 use Rattle.tables.specs.declared.Numbers.{Numbers}
 use Rattle.tables.specs.Filled.{Cells, shortest, cells-enough, stored, Filled, filled-more}
 use Rattle.dayfile.specs.Answers.{fileTests, badRead}
@@ -23,20 +24,22 @@ use Rattle.dayfile.specs.Passed.{each-passed}
 use Rattle.dayfile.specs.Layout.{WholePeriod, body-whole, period-at}
 use Rattle.dayfile_reader.specs.Numbers.{numbersIn}
 
--- what the tests of a reading leave: the walk met no fault, and the tables have a cell for each of at most 96 periods
-pub record Taken (s : List ℕ) (tables : Day) : Type 0 where
+-- what the tests of a reading leave: the walk met no fault, the stamp is the expected one, and the tables have a cell for each of at most 96 periods
+pub record Taken (expected : Expected) (s : List ℕ) (tables : Day) : Type 0 where
   pub walked : walk s ≡ none
+  pub stamp : wrongStamp expected s ≡ none
   pub few : periodsIn s ≤ maxPeriods
   pub cells : Cells (periodsIn s) tables
 
-pub read-passed : (s : List ℕ) (tables : Day) → badRead s (shortest tables) ≡ none → Taken s tables
-read-passed s tables e =
+pub read-passed : (expected : Expected) (s : List ℕ) (tables : Day) → badRead expected s (shortest tables) ≡ none → Taken expected s tables
+read-passed expected s tables e =
     let n = periodsIn s in
-    let each = each-passed (fileTests s ++ (badSlots (shortest tables) n ∷ badValue (dayIn s) ∷ [])) e in
+    let each = each-passed (fileTests expected s ++ (badSlots (shortest tables) n ∷ badValue (dayIn s) ∷ [])) e in
     record {
       walked = each .0;
-      few = count-passed n (each .1 .0) .1;
-      cells = cells-enough n tables (ltb-false (shortest tables) n (not-refused _ FewSlots (each .1 .1 .0)));
+      stamp = each .1 .0;
+      few = count-passed n (each .1 .1 .0) .1;
+      cells = cells-enough n tables (ltb-false (shortest tables) n (not-refused _ FewSlots (each .1 .1 .1 .0)));
     }
 
 -- the numbers of the file's period k + 1

@@ -1,4 +1,5 @@
-//! The reader (document 01, "Day file"; document 02, 2.1, 2.5): the periods of a file into six lent tables. What it does is `Reading` of the crate dayfile.
+//! The reader (document 01, "Day file"; document 02, 2.1, 2.5, 2.12): the periods of a file into six lent tables. What it does is `Reading` of the
+//! crate dayfile.
 ghost use mathlib.Core.Path.{_≡_};
 ghost use Prim.Native.Nat.{_≤_};
 ghost use lib.ListN.{length};
@@ -11,6 +12,7 @@ ghost use Rattle.dayfile.specs.Answers.{withDay, badRead, Reading};
 ghost use Rattle.dayfile_reader.specs.Numbers.{numbersIn};
 use day::Check;
 use day::Ends;
+use day::Expected;
 use day::Refusal;
 use dayfile::ReadAnswer;
 use dayfile::layout;
@@ -43,17 +45,18 @@ fn decode(kind: u8, body: &[u8]) -> Numbers
     }
 }
 
-// A and Z, which the head holds; both 0 where there is none.
+// A and Z, which the head holds; both 0 where it has no charges.
 fn ends(file: &[u8]) -> Ends
     ensures { λ r. ⌜ r ≡ endsOf (dayIn (now (file .entry))) ⌝ }
 {
-    if !layout::is_charges(file, 0) {
+    let at = layout::charges_at(file);
+    if !layout::is_charges(file, at) {
         return Ends {
             opening: 0,
             closing: 0,
         };
     }
-    let charges = layout::body(file, 0);
+    let charges = layout::body(file, at);
     Ends {
         opening: layout::number2(charges, 0) as u16,
         closing: layout::number2(charges, 2) as u16,
@@ -131,11 +134,11 @@ fn values(file: &[u8], n: usize) -> Check
 }
 
 // The reader's tests in order, for a file of `n` periods and tables of at least `cells` cells.
-fn tests(file: &[u8], n: usize, cells: usize) -> Check
+fn tests(file: &[u8], n: usize, cells: usize, expected: Expected) -> Check
     requires { ⌜ n ≡ periodsIn (now file) ⌝ }
-    ensures { λ r. ⌜ r ≡ checked (badRead (now (file .entry)) cells) ⌝ }
+    ensures { λ r. ⌜ r ≡ checked (badRead expected (now (file .entry)) cells) ⌝ }
 {
-    if let Check::Refused(r) = layout::tests(file, n) {
+    if let Check::Refused(r) = file_checks::tests(file, n, expected) {
         return Check::Refused(r);
     }
     if cells < n {
@@ -144,7 +147,7 @@ fn tests(file: &[u8], n: usize, cells: usize) -> Check
     values(file, n)
 }
 
-// Reads a file: 10, 11, 12, then 1, 6, 3. Accepted, the tables' first cells take the numbers of its periods, whose count is given,
+// Reads a file: 10, 11, 12, then 20, 1, 6, 3. Accepted, the tables' first cells take the numbers of its periods, whose count is given,
 // with the day's ends.
 pub fn read(
     file: &[u8],
@@ -154,10 +157,11 @@ pub fn read(
     unit: &mut [u32],
     holding: &mut [u32],
     store: &mut [u16],
+    expected: Expected,
 ) -> ReadAnswer
     ensures { λ r. ⌜
-        Reading (now (file .entry)) (tablesBefore demand capacity setup unit holding store) r (tablesAfter demand capacity setup unit holding store)
-        ⌝ }
+        Reading expected (now (file .entry)) (tablesBefore demand capacity setup unit holding store) r
+        (tablesAfter demand capacity setup unit holding store) ⌝ }
 {
     let n = layout::periods(file);
     let cells = tables::shortest(
@@ -168,7 +172,7 @@ pub fn read(
         holding.len(),
         store.len(),
     );
-    if let Check::Refused(r) = tests(file, n, cells) {
+    if let Check::Refused(r) = tests(file, n, cells, expected) {
         return ReadAnswer::Refused(r);
     }
     fill(file, n, demand, capacity, setup, unit, holding, store);

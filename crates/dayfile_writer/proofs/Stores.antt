@@ -8,7 +8,8 @@ use lib.ListN.{length, take, drop, set, getD}
 use lib.Seq.{sets, sets-eq, take-suc, length-take-le}
 use Rattle.day.specs.Sums.{at}
 use Rattle.day.specs.Day.{Day, tablesOf, periods}
-use Rattle.day.specs.File.{endKind, chargeKind, bothZero, bytes2, headOf, limitOf, recordOf, recordsOf, fileOf}
+use Rattle.day.specs.declared.Stamp.{Stamp}
+use Rattle.day.specs.File.{endKind, chargeKind, bothZero, bytes2, chargesOf, headOf, limitOf, recordOf, recordsOf, fileOf}
 use Rattle.dayfile.specs.Answers.{withFile}
 use Rattle.dayfile.specs.Theorems.{recordBytes}
 use Rattle.dayfile_writer.specs.RoundTrip.{longRecord, record-front, records-length}
@@ -32,9 +33,9 @@ pub sets-none : (vs l : List ℕ) (i : ℕ) → length vs ≡ 0 → l ≡ sets l
 sets-none [] l i e = refl
 sets-none (x ∷ vs) l i e = absurd (omega arith)
 
--- a head that is there is a record of charges
-pub head-record : (o c : ℕ) → (length (headOf o c) ≡ 0 → ⊥) → headOf o c ≡ chargeKind ∷ bytes2 o ++ bytes2 c
-head-record o c = go (bothZero o c)
+-- charges that are there are a record
+pub charges-record : (o c : ℕ) → (length (chargesOf o c) ≡ 0 → ⊥) → chargesOf o c ≡ chargeKind ∷ bytes2 o ++ bytes2 c
+charges-record o c = go (bothZero o c)
   where
     go : (b : Bool) → (length (cond b [] (chargeKind ∷ bytes2 o ++ bytes2 c)) ≡ 0 → ⊥)
         → cond b [] (chargeKind ∷ bytes2 o ++ bytes2 c) ≡ chargeKind ∷ bytes2 o ++ bytes2 c
@@ -63,15 +64,15 @@ records-alike d zero = refl
 records-alike d (suc k) = ap (λ (r : List ℕ). r ++ recordOf d k) (records-alike d k)
 
 -- the head, the period records, and then the end record, make the file
-module _ (d : Day) (out : List ℕ) where
+module _ (t : Stamp) (d : Day) (out : List ℕ) where
   abbrev head : List ℕ
-  head = headOf (d .opening) (d .closing)
+  head = headOf t (d .opening) (d .closing)
 
   pub file-stored : (first mid after : List ℕ) {place last : ℕ} {end : List ℕ}
-      → length (fileOf d) ≤ length out → place ≡ length head → first ≡ sets out 0 head
+      → length (fileOf t d) ≤ length out → place ≡ length head → first ≡ sets out 0 head
       → (last ≡ place + recordBytes (at (d .store)) (periods d)) × (mid ≡ sets first place (recordsOf (tables d) (periods d)))
       → end ≡ endKind ∷ bytes2 (periods d) → after ≡ sets mid last end
-      → after ≡ withFile d out
+      → after ≡ withFile t d out
   file-stored first mid after {last = last} room here h r l e =
       let n = periods d in
       let records : mid ≡ sets first (length head) (recordsOf d n) = r .1 ∙ rw (here, records-alike d n) refl in
@@ -79,5 +80,5 @@ module _ (d : Day) (out : List ℕ) where
       let body = sets-then (recordsOf d n) (endKind ∷ bytes2 n) first (length head) last (omega (arith, here, r .0, records-length d n)) in
       let whole = sets-then head (recordsOf d n ++ endKind ∷ bytes2 n) out 0 (length head) (omega arith) in
       let from-head : after ≡ sets first (length head) (recordsOf d n ++ endKind ∷ bytes2 n) = end-at ∙ rw records body in
-      let from-front : after ≡ sets out 0 (fileOf d) = from-head ∙ rw h whole in
-      from-front ∙ sets-front (fileOf d) out room
+      let from-front : after ≡ sets out 0 (fileOf t d) = from-head ∙ rw h whole in
+      from-front ∙ sets-front (fileOf t d) out room

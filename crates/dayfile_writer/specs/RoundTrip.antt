@@ -1,5 +1,5 @@
--- The layout both ways: the file of a day is laid out as the documents say and holds that day (`file-layout`, `reads-back`),
--- and a file of bytes that is laid out so is the file of the day that it holds (`only-file`). Assumes nothing.
+-- The layout both ways: the file of a stamp and a day is laid out as the documents say and holds these (`file-layout`, `file-stamp`, `reads-back`),
+-- and a file of bytes with a stamp that is laid out so is the file of the stamp and the day that it holds (`only-file`). Assumes nothing.
 use mathlib.Core.Path.{_≡_, refl, sym, ap, ap₂, _∙_}
 use mathlib.Core.Bool.{Bool, true, false, _&&_, cond}
 use mathlib.Core.List.{List, [], _∷_, _++_, append-assoc, append-nil}
@@ -12,14 +12,15 @@ use lib.Dec.{eqb, ltb}
 use borrow.Author.Tests.{eqb-true, ne-eqb, ltb-true, ltb-false, lt-ltb}
 use lib.ListN.{length, take, drop, length-append, length-take, length-drop}
 use lib.Seq.{take-add, take-all, take-at, drop-cons, drop-append-add, getD-append-seam, getD-take, getD-drop}
+use Rattle.day.specs.declared.Stamp.{Stamp}
 use Rattle.day.specs.Sums.{at, listOf, at-listOf, length-listOf, listOf-at}
 use Rattle.day.specs.Day.{Day, periods, maxStore}
 use Rattle.checks.specs.Passed.{SameLengths}
-use Rattle.dayfile.specs.Layout.{WholePeriod, record-whole, whole-charges, body-whole, whole-body, period-at, store-none, store-there, counted}
+use Rattle.dayfile.specs.Layout.{WholePeriod, whole-record, record-whole, whole-charges, body-whole, whole-body, period-at, store-none, store-there, counted}
 use Rattle.dayfile.specs.Theorems.{recordBytes}
-use Rattle.day.specs.File.{periodKind, endKind, chargeKind, storeKind, bodyLength, body, next, number2, number4, bothZero, isCharges, headEnd}
-use Rattle.day.specs.File.{recordAt, PeriodAt, Layout, periodsIn, chargeIn, field, storeIn, dayIn}
-use Rattle.day.specs.File.{bytes2, bytes4, headOf, fieldsOf, kindOf, limitOf, recordOf, recordsOf, fileOf}
+use Rattle.day.specs.File.{periodKind, endKind, chargeKind, storeKind, stampKind, bodyLength, body, next, number2, number4, isRecord, bothZero, isStamped}
+use Rattle.day.specs.File.{chargesAt, hasCharges, headEnd, recordAt, PeriodAt, Layout, periodsIn, stampIn, chargeIn, field, storeIn, dayIn}
+use Rattle.day.specs.File.{bytes2, bytes4, stampRecord, chargesOf, headOf, fieldsOf, kindOf, limitOf, recordOf, recordsOf, fileOf}
 
 -- every entry is a byte
 abbrev pub Bytes : List ℕ → Type 0
@@ -100,18 +101,28 @@ record-bytes s h k w = ⊎-elim plain limited (w .kind)
         let made : b ≡ numbersIn b ++ bytes2 (number2 b 16) = cc (take-all 18 b (omega arith), limit, body-bytes b bytes (omega arith)) in
         rw (store-there s k (e .0), lt-ltb (number2 b 16) maxStore (e .1)) (ap₂ _∷_ (e .0) made)
 
--- the head is made of the charges that it holds
-head-bytes : (s : List ℕ) → Bytes s → take (headEnd s) s ≡ headOf (chargeIn 0 s) (chargeIn 2 s)
-head-bytes s h = go (isCharges s 0) refl
+-- the stamp is made of the numbers that it holds
+stamp-bytes : (s : List ℕ) → Bytes s → isStamped s ≡ true → take (chargesAt s) s ≡ stampRecord (stampIn s)
+stamp-bytes s h e =
+    let w = whole-record stampKind s 0 e in
+    let two = two-bytes (body s 0) (bytes-body s h 0) (whole-body stampKind s 0 w) in
+    rw e (record-split s 0 (omega (arith, w .whole)) ∙ ap₂ _∷_ (w .kind) two)
+
+-- and so are the charges after it, where there are any
+head-bytes : (s : List ℕ) → Bytes s → isStamped s ≡ true → take (headEnd s) s ≡ headOf (stampIn s) (chargeIn 0 s) (chargeIn 2 s)
+head-bytes s h e = go (hasCharges s) refl
   where
-    go : (b : Bool) → isCharges s 0 ≡ b
-        → take (cond b (next s 0) 0) s ≡ headOf (cond b (number2 (body s 0) 0) 0) (cond b (number2 (body s 0) 2) 0)
+    p : ℕ
+    p = chargesAt s
+
+    go : (b : Bool) → hasCharges s ≡ b
+        → take (cond b (next s p) p) s ≡ headOf (stampIn s) (cond b (number2 (body s p) 0) 0) (cond b (number2 (body s p) 2) 0)
     go true q =
-        let w = whole-charges s 0 q in
-        let two = two-bytes (body s 0) (bytes-body s h 0) (whole-body chargeKind s 0 (w .here)) in
-        let split = record-split s 0 (omega (arith, w .here .whole)) in
-        rw (w .nonzero) (split ∙ ap₂ _∷_ (w .here .kind) two)
-    go false q = refl
+        let w = whole-charges s p q in
+        let two = two-bytes (body s p) (bytes-body s h p) (whole-body chargeKind s p (w .here)) in
+        let split = record-split s p (omega (arith, w .here .whole)) in
+        rw (w .nonzero) (split ∙ ap₂ _++_ (stamp-bytes s h e) (ap₂ _∷_ (w .here .kind) two))
+    go false q = stamp-bytes s h e
 
 -- and so is record k of the day that a file holds
 listed : (s : List ℕ) (k : ℕ) → k < periodsIn s
@@ -127,23 +138,23 @@ listed s k l =
     )
     refl
 
--- the head and the first k period records of the file of a day
-abbrev upTo : Day → ℕ → List ℕ
-upTo d k = headOf (d .opening) (d .closing) ++ recordsOf d k
+-- the head and the first k period records of the file of a stamp and a day
+abbrev upTo : Stamp → Day → ℕ → List ℕ
+upTo t d k = headOf t (d .opening) (d .closing) ++ recordsOf d k
 
--- up to record k a file is what its day gives
-prefix : (s : List ℕ) → Bytes s → (k : ℕ) → k ≤ periodsIn s → take (recordAt s k) s ≡ upTo (dayIn s) k
-prefix s h zero l = rw append-nil (head-bytes s h)
-prefix s h (suc k) l =
+-- up to record k a file is what its stamp and its day give
+prefix : (s : List ℕ) → Bytes s → isStamped s ≡ true → (k : ℕ) → k ≤ periodsIn s → take (recordAt s k) s ≡ upTo (stampIn s) (dayIn s) k
+prefix s h e zero l = rw append-nil (head-bytes s h e)
+prefix s h e (suc k) l =
     let p = recordAt s k in
     let w = period-at s k l in
-    let more : take (next s p) s ≡ upTo (dayIn s) k ++ recordOf (dayIn s) k =
-    cc (record-split s p (omega (arith, w .whole)), prefix s h k (omega arith), record-bytes s h k w, listed s k l) in
-    more ∙ append-assoc (headOf (chargeIn 0 s) (chargeIn 2 s)) (recordsOf (dayIn s) k) (recordOf (dayIn s) k)
+    let more : take (next s p) s ≡ upTo (stampIn s) (dayIn s) k ++ recordOf (dayIn s) k =
+    cc (record-split s p (omega (arith, w .whole)), prefix s h e k (omega arith), record-bytes s h k w, listed s k l) in
+    more ∙ append-assoc (headOf (stampIn s) (chargeIn 0 s) (chargeIn 2 s)) (recordsOf (dayIn s) k) (recordOf (dayIn s) k)
 
--- a file that is laid out as the documents say is the file of the day that it holds
-pub only-file : (s : List ℕ) → Bytes s → Layout s (periodsIn s) → s ≡ fileOf (dayIn s)
-only-file s h w =
+-- a file with a stamp that is laid out as the documents say is the file of the stamp and the day that it holds
+pub only-file : (s : List ℕ) → Bytes s → isStamped s ≡ true → Layout s (periodsIn s) → s ≡ fileOf (stampIn s) (dayIn s)
+only-file s h e w =
     let n = periodsIn s in
     let p = recordAt s n in
     let size : next s p ≤ length s = omega (arith, w .size) in
@@ -151,11 +162,12 @@ only-file s h w =
     let all = take-all (next s p) s (omega (arith, w .size)) in
     let end = take-all 2 (body s p) (omega arith) in
     let count = upto2 (body s p) (bytes-body s h p) 0 (omega arith) in
-    let made : s ≡ upTo (dayIn s) (periods (dayIn s)) ++ endKind ∷ bytes2 (periods (dayIn s)) =
-    cc (all, record-split s p (omega arith), prefix s h n (omega arith), w .ends, w .count, end, count, length-listOf (field number2 0 s) n) in
-    made ∙ append-assoc (headOf (chargeIn 0 s) (chargeIn 2 s)) (recordsOf (dayIn s) (periods (dayIn s))) (endKind ∷ bytes2 (periods (dayIn s)))
+    let made : s ≡ upTo (stampIn s) (dayIn s) (periods (dayIn s)) ++ endKind ∷ bytes2 (periods (dayIn s)) =
+    cc (all, record-split s p (omega arith), prefix s h e n (omega arith), w .ends, w .count, end, count, length-listOf (field number2 0 s) n) in
+    let head = headOf (stampIn s) (chargeIn 0 s) (chargeIn 2 s) in
+    made ∙ append-assoc head (recordsOf (dayIn s) (periods (dayIn s))) (endKind ∷ bytes2 (periods (dayIn s)))
 
--- The other way: the file of a day.
+-- The other way: the file of a stamp and a day.
 
 -- a record of kind x with body b stands at byte p
 record Stands (s : List ℕ) (p x : ℕ) (b : List ℕ) : Type 0 where
@@ -173,24 +185,54 @@ stands a x b rest e =
       whole = rw (k, length-append) (omega (arith, length-append b rest));
     }
 
--- what is found of the charges o and c at a file's front
-record HeadFound (s : List ℕ) (o c : ℕ) : Type 0 where
-  place : headEnd s ≡ length (headOf o c)
+-- a record of two numbers holds them
+record Held (s : List ℕ) (p x a b : ℕ) : Type 0 where
+  is : isRecord x s p ≡ true
+  first : number2 (body s p) 0 ≡ a
+  second : number2 (body s p) 2 ≡ b
+
+held : (s : List ℕ) (p x a b : ℕ) → Stands s p x (bytes2 a ++ bytes2 b) → Held s p x a b
+held s p x a b w = record {
+  is = record-whole x s p (record { kind = w .kind; whole = w .whole });
+  first = rw (w .holds) (div-add-mod' a 256);
+  second = rw (w .holds) (div-add-mod' b 256);
+}
+
+-- what is found of the stamp t and the charges o and c at a file's front
+record HeadFound (s : List ℕ) (t : Stamp) (o c : ℕ) : Type 0 where
+  stamped : isStamped s ≡ true
+  stamp : stampIn s ≡ t
+  place : headEnd s ≡ length (headOf t o c)
   opening : chargeIn 0 s ≡ o
   closing : chargeIn 2 s ≡ c
 
-head-absent : (s : List ℕ) → (at s 0 ≡ chargeKind → ⊥) → HeadFound s 0 0
-head-absent s h =
-    let t : isCharges s 0 ≡ false = rw (ne-eqb (at s 0) chargeKind h) refl in
-    record { place = rw t refl; opening = rw t refl; closing = rw t refl }
+-- where the stamp stands first, charges may stand at byte 5
+module _ (s : List ℕ) (t : Stamp) (front : Stands s 0 stampKind (bytes2 (t .station) ++ bytes2 (t .date))) where
+  there : Held s 0 stampKind (t .station) (t .date)
+  there = held s 0 stampKind (t .station) (t .date) front
 
-head-there : (s : List ℕ) (o c : ℕ) → Stands s 0 chargeKind (bytes2 o ++ bytes2 c) → bothZero o c ≡ false → HeadFound s o c
-head-there s o c w e =
-    let first : number2 (body s 0) 0 ≡ o = rw (w .holds) (div-add-mod' o 256) in
-    let second : number2 (body s 0) 2 ≡ c = rw (w .holds) (div-add-mod' c 256) in
-    let whole = record-whole chargeKind s 0 (record { kind = w .kind; whole = w .whole }) in
-    let t : isCharges s 0 ≡ true = rw (whole, first, second, e) refl in
-    record { place = rw (t, e, w .kind) refl; opening = rw t first; closing = rw t second }
+  same : stampIn s ≡ t
+  same i = record { station = there .first i; date = there .second i }
+
+  after : chargesAt s ≡ 5
+  after = rw (there .is, front .kind) refl
+
+  head-absent : (at s 5 ≡ chargeKind → ⊥) → HeadFound s t 0 0
+  head-absent h =
+      let n : hasCharges s ≡ false = rw (after, ne-eqb (at s 5) chargeKind h) refl in
+      record { stamped = there .is; stamp = same; place = rw (n, after) refl; opening = rw n refl; closing = rw n refl }
+
+  head-there : (o c : ℕ) → Stands s 5 chargeKind (bytes2 o ++ bytes2 c) → bothZero o c ≡ false → HeadFound s t o c
+  head-there o c w e =
+      let u = held s 5 chargeKind o c w in
+      let y : hasCharges s ≡ true = rw (after, u .is, u .first, u .second, e) refl in
+      record {
+        stamped = there .is;
+        stamp = same;
+        place = rw (y, e, after, w .kind) refl;
+        opening = rw (y, after) (u .first);
+        closing = rw (y, after) (u .second);
+      }
 
 both-zero : (o c : ℕ) → bothZero o c ≡ true → (o ≡ 0) × (c ≡ 0)
 both-zero o c e = go (eqb o 0) refl e
@@ -199,13 +241,19 @@ both-zero o c e = go (eqb o 0) refl e
     go true q w = (eqb-true _ _ q, eqb-true _ _ w)
     go false q w = let z : _≡_ {A = ℕ} 0 1 = cc in absurd (omega arith)
 
--- a head that is written is found, or that there is none, where no charges follow
-head-found : (o c x : ℕ) (t : List ℕ) → (x ≡ chargeKind → ⊥) → HeadFound (headOf o c ++ (x ∷ t)) o c
-head-found o c x t h = go (bothZero o c) refl
+-- a head that is written is found, where no charges follow it
+head-found : (t : Stamp) (o c x : ℕ) (rest : List ℕ) → (x ≡ chargeKind → ⊥) → HeadFound (headOf t o c ++ (x ∷ rest)) t o c
+head-found t o c x rest h = go (bothZero o c) refl
   where
-    go : (b : Bool) → bothZero o c ≡ b → HeadFound (headOf o c ++ (x ∷ t)) o c
-    go true q = let z = both-zero o c q in rw (z .0, z .1) (head-absent (x ∷ t) h)
-    go false q = rw q (head-there _ o c (stands [] chargeKind (bytes2 o ++ bytes2 c) (x ∷ t) refl) q)
+    front : (l : List ℕ) → Stands (stampRecord t ++ l) 0 stampKind (bytes2 (t .station) ++ bytes2 (t .date))
+    front l = stands [] stampKind (bytes2 (t .station) ++ bytes2 (t .date)) l refl
+
+    go : (b : Bool) → bothZero o c ≡ b → HeadFound (headOf t o c ++ (x ∷ rest)) t o c
+    go true q = let z = both-zero o c q in rw (z .0, z .1) (head-absent (stampRecord t ++ (x ∷ rest)) t (front (x ∷ rest)) h)
+    go false q =
+        let charges = chargeKind ∷ bytes2 o ++ bytes2 c in
+        let here = stands (stampRecord t) chargeKind (bytes2 o ++ bytes2 c) (x ∷ rest) refl in
+        rw q (head-there (stampRecord t ++ (charges ++ (x ∷ rest))) t (front (charges ++ (x ∷ rest))) o c here q)
 
 records-rest : (d : Day) (n k : ℕ) → k < n → (rest : List ℕ) × (recordsOf d n ≡ recordsOf d k ++ (recordOf d k ++ rest))
 records-rest d zero k l = absurd (omega arith)
@@ -214,6 +262,10 @@ records-rest d (suc n) k l =
     (λ (e : k ≡ n). ([], rw e (ap (λ (r : List ℕ). recordsOf d n ++ r) (sym (append-nil (recordOf d n))))))
     (λ lt. let w = records-rest d n k lt in (w .0 ++ recordOf d n, rw (w .1) (simp append-assoc)))
     (eq-or-lt-of-le (le-of-suc-le-suc l))
+
+-- the parts of a file in two groupings
+regroup : (h a b r e : List ℕ) → h ++ ((a ++ (b ++ r)) ++ e) ≡ (h ++ a) ++ (b ++ (r ++ e))
+regroup h a b r e = simp append-assoc
 
 -- the body of record k is as long as its kind says
 abbrev fieldsAt : Day → ℕ → List ℕ
@@ -248,64 +300,80 @@ pub records-length : (d : Day) (k : ℕ) → length (recordsOf d k) ≡ recordBy
 records-length d zero = refl
 records-length d (suc k) = rw length-append (omega (arith, records-length d k))
 
-module _ (d : Day) where
-  upTo-length : (k : ℕ) → length (upTo d k) ≡ length (headOf (d .opening) (d .closing)) + recordBytes (at (d .store)) k
-  upTo-length k = rw (length-append, records-length) refl
+module _ (t : Stamp) (d : Day) where
+  abbrev file : List ℕ
+  file = fileOf t d
 
-  pub file-length : length (fileOf d) ≡ length (headOf (d .opening) (d .closing)) + recordBytes (at (d .store)) (periods d) + 3
-  file-length = rw (length-append, length-append, records-length) (omega arith)
+  abbrev before : ℕ → List ℕ
+  before k = upTo t d k
+
+  before-length : (k : ℕ) → length (before k) ≡ length (headOf t (d .opening) (d .closing)) + recordBytes (at (d .store)) k
+  before-length k = rw (length-append (headOf t (d .opening) (d .closing)) (recordsOf d k), records-length) refl
+
+  pub file-length : length file ≡ 5 + length (chargesOf (d .opening) (d .closing)) + recordBytes (at (d .store)) (periods d) + 3
+  file-length =
+      let end = endKind ∷ bytes2 (periods d) in
+      let records = recordsOf d (periods d) in
+      rw (length-append (headOf t (d .opening) (d .closing)) (records ++ end), length-append records end, records-length) (omega arith)
 
   -- what follows k records
-  from : (k : ℕ) → k < periods d → (rest : List ℕ) × (fileOf d ≡ upTo d k ++ (recordOf d k ++ rest))
+  from : (k : ℕ) → k < periods d → (rest : List ℕ) × (file ≡ before k ++ (recordOf d k ++ rest))
   from k l =
       let w = records-rest d (periods d) k l in
-      (w .0 ++ (endKind ∷ bytes2 (periods d)), rw (w .1) (simp append-assoc))
+      let end = endKind ∷ bytes2 (periods d) in
+      (w .0 ++ end, rw (w .1) (regroup (headOf t (d .opening) (d .closing)) (recordsOf d k) (recordOf d k) (w .0) end))
 
-  placed : (k : ℕ) → k < periods d → Stands (fileOf d) (length (upTo d k)) (kindOf (at (d .store) k)) (periodBody d k)
-  placed k l = let w = from k l in rw (w .1) (stands (upTo d k) (kindOf (at (d .store) k)) (periodBody d k) (w .0) (body-fits d k))
+  placed : (k : ℕ) → k < periods d → Stands file (length (before k)) (kindOf (at (d .store) k)) (periodBody d k)
+  placed k l = let w = from k l in rw (w .1) (stands (before k) (kindOf (at (d .store) k)) (periodBody d k) (w .0) (body-fits d k))
 
-  end-placed : Stands (fileOf d) (length (upTo d (periods d))) endKind (bytes2 (periods d))
-  end-placed = rw (← append-assoc) (stands (upTo d (periods d)) endKind (bytes2 (periods d)) [] refl)
+  end-placed : Stands file (length (before (periods d))) endKind (bytes2 (periods d))
+  end-placed = rw (← append-assoc) (stands (before (periods d)) endKind (bytes2 (periods d)) [] refl)
 
   -- after the head a period record or the end record follows
-  after-head : (x : ℕ) × (t : List ℕ) × (fileOf d ≡ headOf (d .opening) (d .closing) ++ (x ∷ t)) × (x ≡ chargeKind → ⊥)
+  after-head : (x : ℕ) × (rest : List ℕ) × (file ≡ headOf t (d .opening) (d .closing) ++ (x ∷ rest)) × (x ≡ chargeKind → ⊥)
   after-head =
       let z : 0 ≤ periods d = omega arith in
-      let head = headOf (d .opening) (d .closing) in
+      let head = headOf t (d .opening) (d .closing) in
       let n = periods d in
       ⊎-elim
       (λ (e : 0 ≡ n). (endKind, bytes2 n, ap (λ (k : ℕ). head ++ (recordsOf d k ++ endKind ∷ bytes2 n)) (sym e), λ q. omega arith))
-      (λ l. let w = from 0 l in (kindOf (at (d .store) 0), periodBody d 0 ++ w .0, rw append-nil at (w .1), kind (ltb (at (d .store) 0) maxStore)))
+      (λ l.
+      let w = from 0 l in
+      let next : file ≡ head ++ (recordOf d 0 ++ w .0) = w .1 ∙ ap (λ (h : List ℕ). h ++ (recordOf d 0 ++ w .0)) (append-nil head) in
+      (kindOf (at (d .store) 0), periodBody d 0 ++ w .0, next, kind (ltb (at (d .store) 0) maxStore)))
       (eq-or-lt-of-le z)
     where
       kind : (b : Bool) → cond b storeKind periodKind ≡ chargeKind → ⊥
       kind true q = omega arith
       kind false q = omega arith
 
-  head-of-file : HeadFound (fileOf d) (d .opening) (d .closing)
-  head-of-file = let w = after-head in rw (w .2) (head-found (d .opening) (d .closing) (w .0) (w .1) (w .3))
+  head-of-file : HeadFound file t (d .opening) (d .closing)
+  head-of-file = let w = after-head in rw (w .2) (head-found t (d .opening) (d .closing) (w .0) (w .1) (w .3))
 
-  record-place : (k : ℕ) → k ≤ periods d → recordAt (fileOf d) k ≡ length (upTo d k)
-  record-place zero l = rw append-nil (head-of-file .place)
+  -- the file has the stamp
+  pub file-stamp : (isStamped file ≡ true) × (stampIn file ≡ t)
+  file-stamp = (head-of-file .stamped, head-of-file .stamp)
+
+  record-place : (k : ℕ) → k ≤ periods d → recordAt file k ≡ length (before k)
+  record-place zero l = head-of-file .place ∙ sym (ap length (append-nil (headOf t (d .opening) (d .closing))))
   record-place (suc k) l =
-      rw (record-place k (omega arith), placed k l .kind) (omega (arith, body-fits d k, upTo-length k, upTo-length (suc k)))
+      rw (record-place k (omega arith), placed k l .kind) (omega (arith, body-fits d k, before-length k, before-length (suc k)))
 
   -- record i is a period's, by its kind
-  period-placed : (i : ℕ) → i < periods d → PeriodAt (fileOf d) (length (upTo d i))
+  period-placed : (i : ℕ) → i < periods d → PeriodAt file (length (before i))
   period-placed i l = go (ltb (at (d .store) i) maxStore) refl (placed i l)
     where
       v : ℕ
       v = at (d .store) i
 
-      go : (b : Bool) → ltb v maxStore ≡ b → Stands (fileOf d) (length (upTo d i)) (kindOf v) (periodBody d i)
-          → PeriodAt (fileOf d) (length (upTo d i))
+      go : (b : Bool) → ltb v maxStore ≡ b → Stands file (length (before i)) (kindOf v) (periodBody d i) → PeriodAt file (length (before i))
       go true q w =
-          let held : number2 (body (fileOf d) (length (upTo d i))) 16 ≡ v = rw (w .holds, q) (div-add-mod' v 256) in
-          inr (rw q at (w .kind), rw held (ltb-true v maxStore q))
+          let limit : number2 (body file (length (before i))) 16 ≡ v = rw (w .holds, q) (div-add-mod' v 256) in
+          inr (rw q at (w .kind), rw limit (ltb-true v maxStore q))
       go false q w = inl (rw q at (w .kind))
 
-  -- the file of a day is laid out as the documents say
-  pub file-layout : Layout (fileOf d) (periods d)
+  -- and is laid out as the documents say
+  pub file-layout : Layout file (periods d)
   file-layout =
       let n = periods d in
       let here = record-place n (omega arith) in
@@ -313,7 +381,7 @@ module _ (d : Day) where
         periods = λ i l. rw (record-place i (omega arith)) (period-placed i l);
         ends = rw here (end-placed .kind);
         count = rw (here, end-placed .holds) (div-add-mod' n 256);
-        size = rw (here, end-placed .kind) (omega (arith, file-length, upTo-length n));
+        size = rw (here, end-placed .kind) (omega (arith, file-length, before-length n));
       }
 
 -- four bytes hold their number
@@ -321,11 +389,11 @@ bytes4-back : (v : ℕ) → number4 (bytes4 v) 0 ≡ v
 bytes4-back v = rw (div-add-mod' (v / 65536) 256, div-add-mod' (v % 65536) 256) (div-add-mod' v 65536)
 
 -- and holds the day, whose store limits are of 16 bits
-pub reads-back : (d : Day) → SameLengths d → ((k : ℕ) → k < periods d → at (d .store) k ≤ maxStore) → dayIn (fileOf d) ≡ d
-reads-back d w low =
+pub reads-back : (t : Stamp) (d : Day) → SameLengths d → ((k : ℕ) → k < periods d → at (d .store) k ≤ maxStore) → dayIn (fileOf t d) ≡ d
+reads-back t d w low =
     rw (
-      head-of-file d .opening,
-      head-of-file d .closing,
+      head-of-file t d .opening,
+      head-of-file t d .closing,
       table number2 0 (d .demand) refl (λ k. div-add-mod' (at (d .demand) k) 256),
       table number2 2 (d .capacity) (w .capacity) (λ k. div-add-mod' (at (d .capacity) k) 256),
       table number4 4 (d .setup) (w .setup) (λ k. bytes4-back (at (d .setup) k)),
@@ -336,16 +404,16 @@ reads-back d w low =
     refl
   where
     s : List ℕ
-    s = fileOf d
+    s = fileOf t d
 
     listed-as : (f : ℕ → ℕ) (l : List ℕ) → length l ≡ periods d → ((k : ℕ) → k < periods d → f k ≡ at l k) → listOf f (periodsIn s) ≡ l
-    listed-as f l e h = rw (counted s (periods d) (file-layout d)) (listOf-at (periods d) l f e h)
+    listed-as f l e h = rw (counted s (periods d) (file-layout t d)) (listOf-at (periods d) l f e h)
 
     table : (number : List ℕ → ℕ → ℕ) (offset : ℕ) (l : List ℕ) → length l ≡ periods d
         → ((k : ℕ) → number (periodBody d k) offset ≡ at l k)
         → listOf (field number offset s) (periodsIn s) ≡ l
     table number offset l e h =
-        listed-as (field number offset s) l e (λ k lt. rw (record-place d k (omega arith), placed d k lt .holds) (h k))
+        listed-as (field number offset s) l e (λ k lt. rw (record-place t d k (omega arith), placed t d k lt .holds) (h k))
 
     limit : (k : ℕ) → k < periods d → storeIn s k ≡ at (d .store) k
     limit k l = go (ltb v maxStore) refl
@@ -354,10 +422,10 @@ reads-back d w low =
         v = at (d .store) k
 
         kind : at s (recordAt s k) ≡ kindOf v
-        kind = rw (record-place d k (omega arith)) (placed d k l .kind)
+        kind = rw (record-place t d k (omega arith)) (placed t d k l .kind)
 
         go : (b : Bool) → ltb v maxStore ≡ b → storeIn s k ≡ v
         go true q =
-            let held : field number2 16 s k ≡ v = rw (record-place d k (omega arith), placed d k l .holds, q) (div-add-mod' v 256) in
+            let held : field number2 16 s k ≡ v = rw (record-place t d k (omega arith), placed t d k l .holds, q) (div-add-mod' v 256) in
             store-there s k (rw q at kind) ∙ held
         go false q = store-none s k (rw q at kind) ∙ omega (arith, low k l, ltb-false v maxStore q)

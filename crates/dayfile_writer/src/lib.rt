@@ -1,4 +1,4 @@
-//! The writer (document 01, "Day file"; document 02, 2.1, 2.5): the file of a day at the front of a lent slice.
+//! The writer (document 01, "Day file"; document 02, 2.1, 2.5, 2.12): the file of a stamp and a day at the front of a lent slice.
 //! What it does is `Writing` of the crate dayfile.
 ghost use mathlib.Core.Path.{_≡_};
 ghost use mathlib.Core.List.{_∷_, _++_};
@@ -7,7 +7,7 @@ ghost use lib.ListN.{length};
 ghost use lib.Seq.{sets};
 ghost use Rattle.day.specs.Sums.{Term, at};
 ghost use Rattle.day.specs.Day.{dayOf, tablesOf, maxPeriods};
-ghost use Rattle.day.specs.File.{endKind, chargeKind, bytes2, headOf, fieldsOf, kindOf, limitOf, recordsOf, fileOf};
+ghost use Rattle.day.specs.File.{endKind, bytes2, chargesOf, headOf, fieldsOf, kindOf, limitOf, recordsOf, fileOf};
 ghost use Rattle.checks.specs.Passed.{SameLengths, Readable};
 ghost use Rattle.day.specs.Lent.{dayBefore, tablesBefore};
 ghost use Rattle.tables.specs.Filled.{Cells};
@@ -17,9 +17,13 @@ ghost use Rattle.dayfile_writer.specs.RoundTrip.{longRecord};
 use day::Check;
 use day::Ends;
 use day::Refusal;
+use day::Stamp;
 use dayfile::WriteAnswer;
+use dayfile::layout::CHARGES;
+use dayfile::layout::END;
 use dayfile::layout::NO_LIMIT;
 use dayfile::layout::PERIOD;
+use dayfile::layout::STAMP;
 use dayfile::layout::STORE;
 
 // The kind of a period's record, by its store limit.
@@ -100,37 +104,37 @@ fn record_of(
     )
 }
 
-// The record of charges.
-fn charge_record(opening: u16, closing: u16) -> [u8; 5]
-    ensures { λ r. ⌜ r ≡ chargeKind ∷ bytes2 opening ++ bytes2 closing ⌝ }
+// A record of the head: its kind and two numbers.
+fn head_record(kind: u8, first: u16, second: u16) -> [u8; 5]
+    ensures { λ r. ⌜ r ≡ kind ∷ bytes2 first ++ bytes2 second ⌝ }
 {
     [
-        3,
-        (opening / 256) as u8,
-        (opening % 256) as u8,
-        (closing / 256) as u8,
-        (closing % 256) as u8,
+        kind,
+        (first / 256) as u8,
+        (first % 256) as u8,
+        (second / 256) as u8,
+        (second % 256) as u8,
     ]
 }
 
-// How long the head is: it is written exactly if A or Z is above 0.
+// How long the head is: 5 bytes for the stamp, and 5 for charges, which are written exactly if A or Z is above 0.
 fn head_size(ends: Ends) -> usize
-    ensures { λ r. ⌜ Term (length (headOf (ends .opening) (ends .closing))) 5 r ⌝ }
+    ensures { λ r. ⌜ Term (5 + length (chargesOf (ends .opening) (ends .closing))) 10 r ⌝ }
 {
     if ends.opening != 0 {
-        return 5;
+        return 10;
     }
     if ends.closing != 0 {
-        return 5;
+        return 10;
     }
-    0
+    5
 }
 
 // The end record.
 fn end_record(n: u16) -> [u8; 3]
     ensures { λ r. ⌜ r ≡ endKind ∷ bytes2 n ⌝ }
 {
-    [2, (n / 256) as u8, (n % 256) as u8]
+    [END, (n / 256) as u8, (n % 256) as u8]
 }
 
 // Copies bytes to where `at` says.
@@ -145,16 +149,26 @@ fn copy(bytes: &[u8], out: &mut [u8], at: usize)
     }
 }
 
-// The head, at the slice's front.
-fn put_head(out: &mut [u8], ends: Ends)
-    requires { ⌜ length (headOf (ends .opening) (ends .closing)) ≤ length (now out) ⌝ }
-    ensures { λ _. ⌜ now (out .exit) ≡ sets (now (out .entry)) 0 (headOf (ends .opening) (ends .closing)) ⌝ }
+// The charges, from byte `at` on.
+fn put_charges(out: &mut [u8], at: usize, ends: Ends)
+    requires { ⌜ at + length (chargesOf (ends .opening) (ends .closing)) ≤ length (now out) ⌝ }
+    ensures { λ _. ⌜ now (out .exit) ≡ sets (now (out .entry)) at (chargesOf (ends .opening) (ends .closing)) ⌝ }
 {
-    if head_size(ends) == 0 {
+    if head_size(ends) == 5 {
         return;
     }
-    let record = charge_record(ends.opening, ends.closing);
+    let record = head_record(CHARGES, ends.opening, ends.closing);
+    copy(&record, out, at);
+}
+
+// The head, at the slice's front; the stamp is always written.
+fn put_head(out: &mut [u8], ends: Ends, stamp: Stamp)
+    requires { ⌜ length (headOf stamp (ends .opening) (ends .closing)) ≤ length (now out) ⌝ }
+    ensures { λ _. ⌜ now (out .exit) ≡ sets (now (out .entry)) 0 (headOf stamp (ends .opening) (ends .closing)) ⌝ }
+{
+    let record = head_record(STAMP, stamp.station, stamp.date);
     copy(&record, out, 0);
+    put_charges(out, 5, ends);
 }
 
 // How long the records of all periods are.
@@ -212,21 +226,22 @@ fn put_file(
     store: &[u16],
     out: &mut [u8],
     ends: Ends,
+    stamp: Stamp,
 )
     requires { ⌜ Readable (dayOf (now demand) (now capacity) (now setup) (now unit) (now holding) (now store) ends) ⌝ }
     requires { ⌜
-        length (fileOf (dayOf (now demand) (now capacity) (now setup) (now unit) (now holding) (now store) ends)) ≤ length (now out)
+        length (fileOf stamp (dayOf (now demand) (now capacity) (now setup) (now unit) (now holding) (now store) ends)) ≤ length (now out)
         ⌝ }
-    ensures { λ _. ⌜ now (out .exit) ≡ withFile (dayBefore demand capacity setup unit holding store ends) (now (out .entry)) ⌝ }
+    ensures { λ _. ⌜ now (out .exit) ≡ withFile stamp (dayBefore demand capacity setup unit holding store ends) (now (out .entry)) ⌝ }
 {
-    put_head(out, ends);
+    put_head(out, ends, stamp);
     let first = head_size(ends);
     let end = put_periods(demand, capacity, setup, unit, holding, store, out, first);
     let record = end_record(demand.len() as u16);
     copy(&record, out, end);
 }
 
-// Writes the file of a day: 1, 2, 3, then 6. Accepted, the file stands at the slice's front, and its length is given.
+// Writes the file of a stamp and a day: 1, 2, 3, then 6. Accepted, the file stands at the slice's front, and its length is given.
 pub fn write(
     demand: &[u16],
     capacity: &[u16],
@@ -236,8 +251,9 @@ pub fn write(
     store: &[u16],
     out: &mut [u8],
     ends: Ends,
+    stamp: Stamp,
 ) -> WriteAnswer
-    ensures { λ r. ⌜ Writing (dayBefore demand capacity setup unit holding store ends) (now (out .entry)) r (now (out .exit)) ⌝ }
+    ensures { λ r. ⌜ Writing stamp (dayBefore demand capacity setup unit holding store ends) (now (out .entry)) r (now (out .exit)) ⌝ }
 {
     if let Check::Refused(r) = checks::tables(demand, capacity, setup, unit, holding, store) {
         return WriteAnswer::Refused(r);
@@ -246,6 +262,16 @@ pub fn write(
     if out.len() < size {
         return WriteAnswer::Refused(Refusal::FewSlots);
     }
-    put_file(demand, capacity, setup, unit, holding, store, out, ends);
+    put_file(
+        demand,
+        capacity,
+        setup,
+        unit,
+        holding,
+        store,
+        out,
+        ends,
+        stamp,
+    );
     WriteAnswer::Bytes(size)
 }

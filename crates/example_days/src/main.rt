@@ -1,11 +1,33 @@
 //! Writes the day files of examples/ by the project's own writer: the marked days M1 to M12 (document 01), a day on which two plans cost the
-//! same (document 02, 2.2), one with charge at both ends (2.1), one with a low store (2.5), and a day of 96 periods.
+//! same (document 02, 2.2), one with charge at both ends (2.1), one with a low store (2.5), and a day of 96 periods; and `station.id`, which says
+//! whose they are (2.12).
 use day::Ends;
+use day::Stamp;
 use dayfile::WriteAnswer;
 use dayfile::layout::NO_LIMIT;
 use libc::STDOUT_FILENO;
 
-// The file of a day, under a name in the current folder; its name and length go to standard output.
+// Whose files they are: station 17's, for 16 November 2026.
+const STATION: u16 = 17;
+
+const DATE: u16 = 9816;
+
+// Bytes under a name in the current folder; its name and their count go to standard output.
+fn put(name: &[u8], bytes: &[u8]) {
+    let fd = os::open_overwrite(name);
+    if fd < 0 {
+        os::fail(name);
+        return;
+    }
+    io::write_all(fd, bytes);
+    libc::close(fd);
+    io::write_all(STDOUT_FILENO, name);
+    io::write_all(STDOUT_FILENO, b" ");
+    io::print_decimal(STDOUT_FILENO, bytes.len() as u64);
+    io::write_all(STDOUT_FILENO, b"\n");
+}
+
+// The file of a day.
 fn save(
     name: &[u8],
     demand: &[u16],
@@ -16,7 +38,11 @@ fn save(
     store: &[u16],
     ends: Ends,
 ) {
-    let mut file = [0u8; 1832];
+    let stamp = Stamp {
+        station: STATION,
+        date: DATE,
+    };
+    let mut file = [0u8; 1837];
     let answer = dayfile_writer::write(
         demand,
         capacity,
@@ -26,6 +52,7 @@ fn save(
         store,
         &mut file,
         ends,
+        stamp,
     );
     let WriteAnswer::Bytes(n) = answer else {
         io::write_all(STDOUT_FILENO, b"refused ");
@@ -33,17 +60,7 @@ fn save(
         io::write_all(STDOUT_FILENO, b"\n");
         return;
     };
-    let fd = os::open_overwrite(name);
-    if fd < 0 {
-        os::fail(name);
-        return;
-    }
-    io::write_all(fd, &file[0..n]);
-    libc::close(fd);
-    io::write_all(STDOUT_FILENO, name);
-    io::write_all(STDOUT_FILENO, b" ");
-    io::print_decimal(STDOUT_FILENO, n as u64);
-    io::write_all(STDOUT_FILENO, b"\n");
+    put(name, &file[0..n]);
 }
 
 // A day of one to three periods, with one start cost, unit cost and upkeep throughout, whose store limits nothing.
@@ -157,7 +174,20 @@ fn save_passes() {
     );
 }
 
+fn save_id() {
+    put(
+        b"station.id",
+        &[
+            (STATION / 256) as u8,
+            (STATION % 256) as u8,
+            (DATE / 256) as u8,
+            (DATE % 256) as u8,
+        ],
+    );
+}
+
 fn main() {
+    save_id();
     save_marked();
     save_ends();
     save_store();

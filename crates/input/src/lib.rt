@@ -1,5 +1,6 @@
 //! Bytes read into lent buffers, from an open descriptor or a file by its name. No contract can say which they are; they are within the
 //! buffer. Where a call answers Failed, errno says why.
+ghost use Prim.Native.Nat.{_≤_};
 ghost use lib.ListN.{length};
 ghost use Rattle.input.specs.Input.{PieceOf, InputOf};
 
@@ -51,8 +52,8 @@ pub fn read(fd: i32, room: &mut [u8]) -> Input
     Input::Bytes(have)
 }
 
-// Reads a file likewise. One that does not exist counts as one of no bytes, since it is refused as one of another length is (document 02, 2.11).
-pub fn read_file(name: &[u8], room: &mut [u8]) -> Input
+// Reads a file likewise. One that does not exist counts as one of no bytes, since it is refused as one of another length is (document 02, 2.11, 2.12).
+fn read_file(name: &[u8], room: &mut [u8]) -> Input
     ensures { λ r. ⌜ InputOf (length (now (room .entry))) r ⌝ }
 {
     let fd = os::open_read(name);
@@ -68,4 +69,17 @@ pub fn read_file(name: &[u8], room: &mut [u8]) -> Input
         libc::close(fd);
     }
     input
+}
+
+// How many bytes of a file were read. One that can't be read counts as one that is not there, and standard error says so.
+pub fn read_named(name: &[u8], room: &mut [u8]) -> usize
+    ensures { λ r. ⌜ r ≤ length (now (room .entry)) ⌝ }
+{
+    match read_file(name, room) {
+        Input::Bytes(n) => n,
+        Input::Failed => {
+            os::fail(name);
+            0
+        }
+    }
 }

@@ -1,4 +1,5 @@
 //! The text that a program prints for a day file: the line of its refusal, or what the program says of its day.
+ghost use mathlib.Core.Path.{_≡_};
 ghost use Prim.Native.Nat.{_≤_};
 ghost use lib.ListN.{length};
 ghost use Rattle.day.specs.Day.{dayOf};
@@ -6,10 +7,12 @@ ghost use Rattle.day.specs.Lent.{dayBefore, tablesBefore, tablesAfter};
 ghost use Rattle.checks.specs.Passed.{Limits};
 ghost use Rattle.lines.specs.Text.{lineBytes, Put, Prints};
 ghost use Rattle.plan_text.specs.Text.{textBytes};
-ghost use Rattle.program_text.specs.Text.{Inputs, PrintedAnswer, SaysDay, PrintedText};
+ghost use Rattle.program_text.specs.Text.{expectedIn, Inputs, PrintedAnswer, SaysDay, PrintedText};
 use day::Ends;
+use day::Expected;
 use day::Refusal;
 use dayfile::ReadAnswer;
+use dayfile::layout;
 
 // The programs that read a day file.
 pub enum Program {
@@ -17,7 +20,17 @@ pub enum Program {
     Margins,
 }
 
-// Reads a file. One of more than 1,832 bytes is refused 12 before any other test.
+// The stamp that the bytes of `station.id` hold; none where they are not as many as the body of kind 5 has.
+fn expected(id: &[u8]) -> Expected
+    ensures { λ r. ⌜ r ≡ expectedIn (now (id .entry)) ⌝ }
+{
+    if id.len() != 4 {
+        return Expected::Nothing;
+    }
+    Expected::Only(layout::stamp(id))
+}
+
+// Reads a file. One of more than 1,837 bytes is refused 12 before any other test.
 fn read(
     file: &[u8],
     demand: &mut [u16],
@@ -26,14 +39,25 @@ fn read(
     unit: &mut [u32],
     holding: &mut [u32],
     store: &mut [u16],
+    expected: Expected,
 ) -> ReadAnswer
     ensures { λ r. ⌜
-        Inputs (now (file .entry)) (tablesBefore demand capacity setup unit holding store) r (tablesAfter demand capacity setup unit holding store) ⌝ }
+        Inputs expected (now (file .entry)) (tablesBefore demand capacity setup unit holding store) r
+        (tablesAfter demand capacity setup unit holding store) ⌝ }
 {
-    if 1832 < file.len() {
+    if 1837 < file.len() {
         return ReadAnswer::Refused(Refusal::WrongEnd);
     }
-    dayfile_reader::read(file, demand, capacity, setup, unit, holding, store)
+    dayfile_reader::read(
+        file,
+        demand,
+        capacity,
+        setup,
+        unit,
+        holding,
+        store,
+        expected,
+    )
 }
 
 // The line of a file that is refused.
@@ -91,9 +115,16 @@ fn day_text(
     }
 }
 
-// The text of a file, at the front of a buffer with room for 97 lines; goes on only with an accepted one. `dayplan` needs no second file.
-pub fn text_of(program: Program, file: &[u8], needs: &[u8], text: &mut [u8; 9312]) -> usize
-    ensures { λ r. ⌜ PrintedText program (now (file .entry)) (now (needs .entry)) (now (text .entry)) (now (text .exit)) r ⌝ }
+// The text of a file, at the front of a buffer with room for 97 lines; goes on only with an accepted one. `dayplan` needs no actual needs.
+pub fn text_of(
+    program: Program,
+    file: &[u8],
+    needs: &[u8],
+    id: &[u8],
+    text: &mut [u8; 9312],
+) -> usize
+    ensures { λ r. ⌜
+        PrintedText program (now (file .entry)) (now (needs .entry)) (now (id .entry)) (now (text .entry)) (now (text .exit)) r ⌝ }
 {
     let mut demand = [0u16; 96];
     let mut capacity = [0u16; 96];
@@ -109,6 +140,7 @@ pub fn text_of(program: Program, file: &[u8], needs: &[u8], text: &mut [u8; 9312
         &mut unit,
         &mut holding,
         &mut store,
+        expected(id),
     );
     let ReadAnswer::Periods(n, ends) = answer else {
         return refused_text(answer, text);

@@ -7,6 +7,7 @@ use Prim.Native.Nat.{ℕ}
 use denote.Ref.{RefT, now}
 use denote.Triple.Both.{Both}
 use Rattle.day.specs.declared.Ends.{Ends}
+use Rattle.day.specs.declared.Stamp.{Stamp}
 use Rattle.day.specs.declared.Check.{Check}
 use Rattle.day.specs.Figures.{Figures, answerFigures, equalFigures, boundsFigures, bigFigures}
 use Rattle.day.specs.Outcome.{Path, Memory, Runs}
@@ -16,7 +17,7 @@ use Rattle.day.specs.Drops.{Dropping}
 use Rattle.day.specs.Lent.{Lent, dayBefore, tablesBefore, tablesAfter}
 use Rattle.dayfile.specs.Answers.{Reading, Writing, lookupFigures, readFigures, writeFigures}
 use Rattle.test_load.specs.Load.{Loading}
-use Rattle.codes.specs.Codes.{seen, seenOf, checkCode}
+use Rattle.codes.specs.Codes.{seen, seenOf, checkCode, expectedOf}
 
 abbrev pub LookupShows : (file : Lent) → ℕ → (part : Lent) → ℕ → Type 0
 LookupShows file i part r =
@@ -44,18 +45,24 @@ abbrev pub BigShows : (trials : ℕ) (demand capacity setup unit holding store :
 BigShows trials demand capacity setup unit holding store ends before after answer r =
     Shows (λ a. Dropping trials (dayBefore demand capacity setup unit holding store ends) before a after) bigFigures answer r
 
-abbrev pub ReadShows : (file demand capacity setup unit holding store day : Lent) → ℕ → Type 0
-ReadShows file demand capacity setup unit holding store day r =
+abbrev pub ReadShows : (file expected demand capacity setup unit holding store day : Lent) → ℕ → Type 0
+ReadShows file expected demand capacity setup unit holding store day r =
     Shows
-    (λ a. Reading (now (file .entry)) (tablesBefore demand capacity setup unit holding store) a (tablesAfter demand capacity setup unit holding store))
+    (λ a.
+    Reading
+    (expectedOf (now (expected .entry)))
+    (now (file .entry))
+    (tablesBefore demand capacity setup unit holding store)
+    a
+    (tablesAfter demand capacity setup unit holding store))
     readFigures
     day
     r
 
-abbrev pub WriteShows : (demand capacity setup unit holding store : Lent) → Ends → (out count : Lent) → ℕ → Type 0
-WriteShows demand capacity setup unit holding store ends out count r =
+abbrev pub WriteShows : Stamp → (demand capacity setup unit holding store : Lent) → Ends → (out count : Lent) → ℕ → Type 0
+WriteShows stamp demand capacity setup unit holding store ends out count r =
     Shows
-    (λ a. Writing (dayBefore demand capacity setup unit holding store ends) (now (out .entry)) a (now (out .exit)))
+    (λ a. Writing stamp (dayBefore demand capacity setup unit holding store ends) (now (out .entry)) a (now (out .exit)))
     writeFigures
     count
     r

@@ -2,6 +2,7 @@
 ghost use mathlib.Core.Path.{_≡_};
 ghost use Rattle.day.specs.Paths.{full, uncapped, free};
 ghost use Rattle.day.specs.Day.{endsWith};
+ghost use Rattle.day.specs.File.{stampWith};
 ghost use Rattle.day.specs.Lent.{dayBefore, memoryBefore, memoryAfter, cellsBefore, cellsAfter, areasBefore, areasAfter};
 ghost use Rattle.weigher.specs.Answers.{Weighs, Compares, weighedFigures, comparedFigures};
 ghost use Rattle.play.specs.Answers.{Plays, playFigures};
@@ -9,6 +10,7 @@ ghost use Rattle.price.specs.Price.{priceOf};
 ghost use Rattle.station.specs.Shows.{Shows, PathShows, EqualShows, BoundsShows, BigShows, ReadShows, LookupShows, WriteShows, LoadShows};
 use day::Check;
 use day::Ends;
+use day::Stamp;
 
 // The plan of any day, by recursion (5); the answer is its cost and setups.
 #[no_mangle]
@@ -319,6 +321,7 @@ pub extern "C" fn yakkurem_play(
 #[no_mangle]
 pub extern "C" fn yakkurem_read(
     file: &[u8],
+    expected: &[u16],
     demand: &mut [u16],
     capacity: &mut [u16],
     setup: &mut [u32],
@@ -327,9 +330,10 @@ pub extern "C" fn yakkurem_read(
     store: &mut [u16],
     day: &mut [u64; 3],
 ) -> u64
-    ensures { λ r. ⌜ ReadShows file demand capacity setup unit holding store day r ⌝ }
+    ensures { λ r. ⌜ ReadShows file expected demand capacity setup unit holding store day r ⌝ }
 {
-    let a = dayfile_reader::read(file, demand, capacity, setup, unit, holding, store);
+    let stamp = codes::expected(expected);
+    let a = dayfile_reader::read(file, demand, capacity, setup, unit, holding, store, stamp);
     codes::read(a, day)
 }
 
@@ -361,13 +365,27 @@ pub extern "C" fn yakkurem_write(
     store: &[u16],
     opening: u16,
     closing: u16,
+    station: u16,
+    date: u16,
     out: &mut [u8],
     count: &mut [u64; 1],
 ) -> u64
-    ensures { λ r. ⌜ WriteShows demand capacity setup unit holding store (endsWith opening closing) out count r ⌝ }
+    ensures { λ r. ⌜
+        WriteShows (stampWith station date) demand capacity setup unit holding store (endsWith opening closing) out count r ⌝ }
 {
     let ends = Ends { opening, closing };
-    let a = dayfile_writer::write(demand, capacity, setup, unit, holding, store, out, ends);
+    let stamp = Stamp { station, date };
+    let a = dayfile_writer::write(
+        demand,
+        capacity,
+        setup,
+        unit,
+        holding,
+        store,
+        out,
+        ends,
+        stamp,
+    );
     codes::written(a, count)
 }
 

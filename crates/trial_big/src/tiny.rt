@@ -70,7 +70,7 @@ fn between(bound: u64, found: Best, cost: u64) -> bool {
 }
 
 // Counts of calls that refuse: 6, those without a plan (7 or 14) where the search finds none; 7, those of store limits (16).
-fn count_refused(counts: &mut [u64; 16], number: u8, plan: Best) {
+fn count_refused(counts: &mut [u64; 21], number: u8, plan: Best) {
     cells::count_if(counts, 6, (number == 7 || number == 14) && !plan.found);
     cells::count_if(counts, 7, number == 16);
 }
@@ -79,7 +79,7 @@ fn count_refused(counts: &mut [u64; 16], number: u8, plan: Best) {
 // below the search's, which is not below that; 8, those that go on from the call with one trial fewer; 10, those that stop before the allowed
 // trials are used up; 11, those cheaper than with one trial fewer.
 fn count_planned(
-    counts: &mut [u64; 16],
+    counts: &mut [u64; 21],
     t: Totals,
     b: Trials,
     found: Found,
@@ -97,7 +97,7 @@ fn count_planned(
 
 // Count 9: trial 1 alone gives the plan that the search finds with all starts free.
 fn count_first(
-    counts: &mut [u64; 16],
+    counts: &mut [u64; 21],
     t: Totals,
     b: Trials,
     free: Best,
@@ -124,7 +124,7 @@ fn one_call(
     unit: &[u32],
     holding: &[u32],
     store: &[u16],
-    counts: &mut [u64; 16],
+    counts: &mut [u64; 21],
     ends: Ends,
     found: Found,
     earlier: Earlier,
@@ -174,7 +174,7 @@ fn calls(
     unit: &[u32],
     holding: &[u32],
     store: &[u16],
-    counts: &mut [u64; 16],
+    counts: &mut [u64; 21],
     ends: Ends,
     found: Found,
     trials: usize,
@@ -210,7 +210,7 @@ fn compare(
     unit: &[u32],
     holding: &[u32],
     store: &[u16],
-    counts: &mut [u64; 16],
+    counts: &mut [u64; 21],
     ends: Ends,
     trials: usize,
 ) {
@@ -238,7 +238,7 @@ fn one_day(
     seed: u32,
     capacities: Capacities,
     stores: Stores,
-    counts: &mut [u64; 16],
+    counts: &mut [u64; 21],
     most: u16,
     trials: usize,
 ) -> u32 {
@@ -269,7 +269,7 @@ fn days(
     stores: Stores,
     seed: u32,
     days: u32,
-    counts: &mut [u64; 16],
+    counts: &mut [u64; 21],
     most: u16,
     trials: usize,
 ) {
@@ -283,7 +283,7 @@ fn days(
 
 // Made-up days, laid out as those of the paths; the most trials allowed are in field 5.
 pub fn made_up(line: &[u8]) {
-    let mut counts = [0u64; 16];
+    let mut counts = [0u64; 21];
     days(
         tiny::named(text::name(line)),
         tiny::stores_of(text::field(line, 4)),

@@ -4,6 +4,8 @@ ghost use Prim.Native.Nat.{_≤_, _<_};
 ghost use lib.ListN.{length};
 use day::Check;
 use day::Ends;
+use day::Expected;
+use day::Stamp;
 use dayfile::ReadAnswer;
 use dayfile::WriteAnswer;
 use trial_text::cells;
@@ -86,6 +88,30 @@ fn bytes(s: &[u8], out: &mut [u8]) -> usize
     k
 }
 
+// The stamp of a station's own files: station 17, on 16 November 2026.
+fn own() -> Stamp {
+    Stamp {
+        station: 17,
+        date: 9816,
+    }
+}
+
+// The stamp that the reader is to expect: the two numbers of field 3, or its own where the field is left out. Fewer or more are no stamp.
+fn expected(line: &[u8]) -> Expected {
+    let mut numbers = [0u16; 3];
+    let n = text::amounts(text::field(line, 3), 1, &mut numbers);
+    if n == 0 {
+        return Expected::Only(own());
+    }
+    if n != 2 {
+        return Expected::Nothing;
+    }
+    Expected::Only(Stamp {
+        station: numbers[0],
+        date: numbers[1],
+    })
+}
+
 // The mark, in an output slice.
 const FILL: u8 = 119;
 
@@ -100,9 +126,9 @@ fn written(
     store: &[u16],
     ends: Ends,
 ) -> usize
-    ensures { λ r. ⌜ r < 16 ⌝ }
+    ensures { λ r. ⌜ r < 21 ⌝ }
 {
-    let mut out = [0u8; 1832];
+    let mut out = [0u8; 1837];
     match dayfile_writer::write(
         demand,
         capacity,
@@ -112,10 +138,11 @@ fn written(
         store,
         &mut out,
         ends,
+        own(),
     ) {
         WriteAnswer::Refused(_) => 15,
         WriteAnswer::Bytes(m) => {
-            let end = text::least(m, 1832);
+            let end = text::least(m, 1837);
             if check::same(&out[0..end], file) {
                 0
             } else {
@@ -128,7 +155,7 @@ fn written(
 // How a file of two periods fares: the number of its refusal, 0 where it is read and written to the same bytes, and for anything else
 // 15, which is no file's refusal.
 fn fare(file: &[u8]) -> usize
-    ensures { λ r. ⌜ r < 16 ⌝ }
+    ensures { λ r. ⌜ r < 21 ⌝ }
 {
     let mut demand = [MARK; 2];
     let mut capacity = [MARK; 2];
@@ -144,10 +171,11 @@ fn fare(file: &[u8]) -> usize
         &mut unit,
         &mut holding,
         &mut store,
+        Expected::Only(own()),
     ) {
         ReadAnswer::Refused(r) => {
             if cells::amounts_left(&demand, 0, false) {
-                return text::least(r.number() as usize, 15);
+                return text::least(r.number() as usize, 20);
             }
             15
         }
@@ -164,7 +192,7 @@ fn fare(file: &[u8]) -> usize
     }
 }
 
-fn cut(file: &[u8], counts: &mut [u64; 16]) {
+fn cut(file: &[u8], counts: &mut [u64; 21]) {
     let mut k = 0;
     while k < file.len() {
         cells::count(counts, fare(&file[0..k]));
@@ -173,7 +201,7 @@ fn cut(file: &[u8], counts: &mut [u64; 16]) {
 }
 
 // With every value at one place, which is then as it was.
-fn change_at(file: &mut [u8], at: usize, counts: &mut [u64; 16])
+fn change_at(file: &mut [u8], at: usize, counts: &mut [u64; 21])
     requires { ⌜ at < length (now file) ⌝ }
     ensures { λ r. ⌜ length (now (file .exit)) ≡ length (now (file .entry)) ⌝ }
 {
@@ -187,7 +215,7 @@ fn change_at(file: &mut [u8], at: usize, counts: &mut [u64; 16])
     file[at] = was;
 }
 
-fn change(file: &mut [u8], counts: &mut [u64; 16])
+fn change(file: &mut [u8], counts: &mut [u64; 21])
     ensures { λ r. ⌜ length (now (file .exit)) ≡ length (now (file .entry)) ⌝ }
 {
     let mut k = 0;
@@ -202,8 +230,8 @@ fn stores(store: [u16; 98], n: usize) {
     print::stores(&store[0..end]);
 }
 
-// The reader, with so many cells in each table.
-fn read(file: &[u8], room: usize) {
+// The reader, with so many cells in each table, and the stamp that it expects.
+fn read(file: &[u8], room: usize, stamp: Expected) {
     let mut demand = [MARK; 98];
     let mut capacity = [MARK; 98];
     let mut setup = [119u32; 98];
@@ -219,6 +247,7 @@ fn read(file: &[u8], room: usize) {
         &mut unit[0..k],
         &mut holding[0..k],
         &mut store[0..k],
+        stamp,
     ) {
         ReadAnswer::Refused(r) => print::refusal(r),
         ReadAnswer::Periods(n, ends) => {
@@ -247,10 +276,10 @@ fn look(file: &[u8], period: usize) {
 
 // What the first word of the name says: read, look, cut or change.
 fn trial(line: &[u8], file: &mut [u8]) {
-    let mut counts = [0u64; 16];
+    let mut counts = [0u64; 21];
     let kind = text::kind(text::name(line));
     if check::same(kind, b"read") {
-        return read(file, text::size(text::number_in(line, 2)));
+        return read(file, text::size(text::number_in(line, 2)), expected(line));
     }
     if check::same(kind, b"look") {
         return look(file, text::size(text::number_in(line, 2)));
@@ -283,7 +312,17 @@ fn write_into(
     out: &mut [u8],
     ends: Ends,
 ) {
-    match dayfile_writer::write(demand, capacity, setup, unit, holding, store, out, ends) {
+    match dayfile_writer::write(
+        demand,
+        capacity,
+        setup,
+        unit,
+        holding,
+        store,
+        out,
+        ends,
+        own(),
+    ) {
         WriteAnswer::Refused(r) => {
             print::refusal(r);
             print::unless(cells::bytes_left(out, 0, false));
@@ -292,7 +331,7 @@ fn write_into(
             let end = text::least(m, out.len());
             print::number(b" bytes ", m as u64);
             print::unless(cells::bytes_left(out, m, false));
-            read(&out[0..end], demand.len());
+            read(&out[0..end], demand.len(), Expected::Only(own()));
         }
     }
 }
@@ -302,7 +341,7 @@ fn room_of(line: &[u8]) -> usize {
     if check::same(text::kind(line), b"write") {
         return text::size(text::number_in(line, 6));
     }
-    1837
+    1842
 }
 
 pub fn write(
@@ -315,8 +354,8 @@ pub fn write(
     store: &[u16],
     ends: Ends,
 ) {
-    let mut out = [FILL; 1837];
-    let end = text::least(room_of(line), 1837);
+    let mut out = [FILL; 1842];
+    let end = text::least(room_of(line), 1842);
     print::text(text::name(line));
     print::text(b" file");
     write_into(

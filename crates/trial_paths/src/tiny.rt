@@ -78,7 +78,7 @@ fn agreement(path: Path) -> usize
 // Counts: 0, days with a plan; 1, 2, 3, days on which the full, the uncapped and the equal path agreed with the search; 4, calls that
 // refused the day's capacities (8 or 9); 5, calls that left lent cells as they must; 6, calls that refused its opening charge (14); 7, days
 // on which the free path agreed with the search; 8, calls that refused its starting costs (15); 9, calls that refused its store limits (16).
-fn count(counts: &mut [u64; 16], path: Path, seen: Seen) {
+fn count(counts: &mut [u64; 21], path: Path, seen: Seen) {
     let number = seen.number;
     cells::count_if(counts, agreement(path), seen.agrees);
     cells::count_if(counts, 4, number == 8 || number == 9);
@@ -95,7 +95,7 @@ fn compare(
     unit: &[u32],
     holding: &[u32],
     store: &[u16],
-    counts: &mut [u64; 16],
+    counts: &mut [u64; 21],
     ends: Ends,
 ) {
     let best = plain::search(demand, capacity, setup, unit, holding, store, ends);
@@ -130,7 +130,7 @@ fn one_day(
     capacities: Capacities,
     stores: Stores,
     free: bool,
-    counts: &mut [u64; 16],
+    counts: &mut [u64; 21],
     most: u16,
 ) -> u32 {
     let d = tiny_days::make_up(seed, capacities, stores, most);
@@ -162,7 +162,7 @@ fn days(
     free: bool,
     seed: u32,
     days: u32,
-    counts: &mut [u64; 16],
+    counts: &mut [u64; 21],
     most: u16,
 ) {
     let mut s = seed;
@@ -197,7 +197,7 @@ pub fn stores_of(field: &[u8]) -> Stores {
 // Made-up days with the capacities that the trial is named after; of one named free any, and no setup cost. They are made from the seed of
 // field 1, as many as field 2 says, with ends of at most the number in field 3 and the store limits of field 4.
 pub fn made_up(line: &[u8]) {
-    let mut counts = [0u64; 16];
+    let mut counts = [0u64; 21];
     days(
         named(text::name(line)),
         stores_of(text::field(line, 4)),

@@ -68,7 +68,7 @@ fn as_planned(f: Flows, closing: u16) -> bool {
 }
 
 // Count 1: plans played against the needs that they were made for, balanced and as planned.
-fn count_planned(counts: &mut [u64; 16], answer: PlayAnswer, needed: usize, ends: Ends) {
+fn count_planned(counts: &mut [u64; 21], answer: PlayAnswer, needed: usize, ends: Ends) {
     if let PlayAnswer::Played(f) = answer {
         cells::count_if(
             counts,
@@ -80,7 +80,7 @@ fn count_planned(counts: &mut [u64; 16], answer: PlayAnswer, needed: usize, ends
 
 // Counts 2, 3 and 4: plans played against other needs, balanced; those that miss; those that spill. 5: days on which nothing is played, and
 // the search found no plan.
-fn count_other(counts: &mut [u64; 16], answer: PlayAnswer, needed: usize, ends: Ends, found: bool) {
+fn count_other(counts: &mut [u64; 21], answer: PlayAnswer, needed: usize, ends: Ends, found: bool) {
     match answer {
         PlayAnswer::Played(f) => {
             cells::count_if(counts, 2, balanced(f, needed, ends));
@@ -100,7 +100,7 @@ fn compare(
     holding: &[u32],
     store: &[u16],
     drawn: [u16; 4],
-    counts: &mut [u64; 16],
+    counts: &mut [u64; 21],
     ends: Ends,
 ) {
     let other = &drawn[0..text::least(demand.len(), 4)];
@@ -138,7 +138,7 @@ fn one_day(
     seed: u32,
     capacities: Capacities,
     stores: Stores,
-    counts: &mut [u64; 16],
+    counts: &mut [u64; 21],
     most: u16,
 ) -> u32 {
     let d = tiny_days::make_up(seed, capacities, stores, most);
@@ -170,7 +170,7 @@ fn days(
     stores: Stores,
     seed: u32,
     days: u32,
-    counts: &mut [u64; 16],
+    counts: &mut [u64; 21],
     most: u16,
 ) {
     let mut s = seed;
@@ -183,7 +183,7 @@ fn days(
 
 // Made-up days, laid out as those of the paths.
 pub fn made_up(line: &[u8]) {
-    let mut counts = [0u64; 16];
+    let mut counts = [0u64; 21];
     days(
         tiny::named(text::name(line)),
         tiny::stores_of(text::field(line, 4)),

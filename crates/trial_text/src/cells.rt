@@ -59,8 +59,8 @@ pub fn costs_left(cells: &[u64], free: usize, cleared: bool) -> bool {
 }
 
 // One more of kind k.
-pub fn count(counts: &mut [u64; 16], k: usize)
-    requires { ⌜ k < 16 ⌝ }
+pub fn count(counts: &mut [u64; 21], k: usize)
+    requires { ⌜ k < 21 ⌝ }
 {
     let n = counts[k];
     if n < 1000000 {
@@ -68,8 +68,8 @@ pub fn count(counts: &mut [u64; 16], k: usize)
     }
 }
 
-pub fn count_if(counts: &mut [u64; 16], k: usize, more: bool)
-    requires { ⌜ k < 16 ⌝ }
+pub fn count_if(counts: &mut [u64; 21], k: usize, more: bool)
+    requires { ⌜ k < 21 ⌝ }
 {
     if more {
         count(counts, k);

@@ -76,9 +76,9 @@ fn one_count(k: usize, n: u64) {
 }
 
 // How many there are of each kind.
-pub fn counts(of: [u64; 16]) {
+pub fn counts(of: [u64; 21]) {
     let mut k = 0;
-    while k < 16 {
+    while k < 21 {
         one_count(k, of[k]);
         k += 1;
     }

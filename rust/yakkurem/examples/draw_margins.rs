@@ -6,7 +6,7 @@ mod picture;
 
 use picture::{begin, below, end, legend, x, Panel, LEFT, WIDTH};
 use std::path::Path;
-use yakkurem::{full, play, read, Day, Memory, TablesMut};
+use yakkurem::{full, play, read, Day, Memory, Stamp, TablesMut};
 
 const LAST_MARGIN: usize = 15;
 const MOST_PERIODS: usize = 96;
@@ -22,7 +22,7 @@ struct Tried {
 }
 
 /// The margins that have a plan.
-fn tried(file: &[u8], actual: &[u16]) -> Vec<Tried> {
+fn tried(file: &[u8], expected: Option<Stamp>, actual: &[u16]) -> Vec<Tried> {
     let [mut demand, mut capacity, mut store] = [[0; MOST_PERIODS]; 3];
     let [mut setup, mut unit, mut holding] = [[0; MOST_PERIODS]; 3];
     let tables = TablesMut {
@@ -33,7 +33,7 @@ fn tried(file: &[u8], actual: &[u16]) -> Vec<Tried> {
         holding: &mut holding,
         store: &mut store,
     };
-    let filled = read(file, tables).expect("a day file");
+    let filled = read(file, expected, tables).expect("a day file of this station and day");
     let n = filled.periods as usize;
     let (mut costs, mut choices, mut plan) = (vec![0; 1000], vec![0; 24_000], vec![0; n]);
     let mut tried = vec![];
@@ -78,10 +78,15 @@ const MISSED: &str = "#d9772b";
 const COST: &str = "#35688f";
 
 fn main() {
-    let folder = std::env::args().nth(1).expect("the folder of site.day and needs.act");
+    let folder = std::env::args().nth(1).expect("the folder of site.day, station.id and needs.act");
     let file = |name: &str| std::fs::read(Path::new(&folder).join(name)).expect("a file that can be read");
-    let actual: Vec<u16> = file("needs.act").chunks(2).map(|two| u16::from_be_bytes(two.try_into().expect("two bytes"))).collect();
-    let tried = tried(&file("site.day"), &actual);
+    let numbers =
+        |name: &str| -> Vec<u16> { file(name).chunks(2).map(|two| u16::from_be_bytes(two.try_into().expect("two bytes"))).collect() };
+    let expected = match numbers("station.id")[..] {
+        [station, date] => Some(Stamp { station, date }),
+        _ => None,
+    };
+    let tried = tried(&file("site.day"), expected, &numbers("needs.act"));
 
     let (missed_step, cost_step) = (step(tried.iter().map(|t| t.missed), 5), step(tried.iter().map(|t| t.cost), 50));
     let panel = |step: usize| Panel { bottom: 480.0, height: 380.0, most: (STEPS * step) as f64 };

@@ -1,11 +1,14 @@
 //! Writes the example of a site that is to open: a day of 48 half hours, site.day, by the library's writer; and needs.act, what is needed once it
-//! has opened. The program `margins` reads both.
+//! has opened. The program `margins` reads both, and the station's and the day's number from station.id.
 //!
 //!     cargo run --offline --release --package yakkurem --example site examples/margins
 use std::path::Path;
-use yakkurem::{write, Day};
+use yakkurem::{write, Day, Stamp};
 
 const PERIODS: usize = 48;
+
+/// That of all examples, which examples/station.id has: 9,816 days after 1 January 2000 is 16 November 2026.
+const STAMP: Stamp = Stamp { station: 17, date: 9816 };
 
 /// The receiver sleeps but for an hour in every three, a pass, in which it takes 16 watt-hours each half hour.
 fn demand(i: usize) -> u16 {
@@ -43,8 +46,8 @@ fn main() {
     let (capacity, setup, holding, store) = (vec![40; PERIODS], vec![4000; PERIODS], vec![20; PERIODS], vec![16; PERIODS]);
     let (opening, closing) = (8, 8);
     let day = Day { demand: &demand, capacity: &capacity, setup: &setup, unit: &unit, holding: &holding, store: &store, opening, closing };
-    let mut file = [0; 1832];
-    let bytes = write(day, &mut file).expect("a day within the limits") as usize;
+    let mut file = [0; 1837];
+    let bytes = write(day, STAMP, &mut file).expect("a day within the limits") as usize;
     let needs: Vec<u8> = actual(&demand).into_iter().flat_map(u16::to_be_bytes).collect();
     std::fs::create_dir_all(&folder).expect("a folder");
     for (name, bytes) in [("site.day", &file[..bytes]), ("needs.act", &needs)] {

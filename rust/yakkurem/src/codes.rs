@@ -1,6 +1,6 @@
 //! The calls with their codes and out-arrays, as include/yakkurem.h has them; the price, which is no code. A slice goes over as its pointer and its length.
 //! The library reads and writes only inside these, keeps no pointer, and asks nothing of its caller: so every call is safe.
-use crate::{Day, Memory, TablesMut};
+use crate::{Day, Memory, Stamp, TablesMut};
 
 /// Declares calls with a day: need, capacity, start, unit, upkeep and store, each with its length; opening, closing. It comes first, but for
 /// what stands in brackets.
@@ -50,13 +50,13 @@ calls_with_a_day! {
     fn yakkurem_weigh(*const u16, usize, *mut u64);
     fn yakkurem_compare(*const u16, usize, *const u16, usize, *mut i64);
     fn yakkurem_play(*const u16, usize, *const u16, usize, *mut u64);
-    fn yakkurem_write(*mut u8, usize, *mut u64);
+    fn yakkurem_write(u16, u16, *mut u8, usize, *mut u64);
 }
 
 #[rustfmt::skip]
 extern "C" {
     fn yakkurem_read(
-        file: *const u8, _: usize,
+        file: *const u8, _: usize, expected: *const u16, _: usize,
         need: *mut u16, _: usize, capacity: *mut u16, _: usize, start: *mut u32, _: usize, unit: *mut u32, _: usize, upkeep: *mut u32, _: usize,
         store: *mut u16, _: usize, day: *mut u64,
     ) -> u64;
@@ -108,12 +108,13 @@ pub fn play(day: Day, plan: &[u16], actual: &[u16], answer: &mut [u64; 5]) -> u6
 }
 
 #[rustfmt::skip]
-pub fn read(file: &[u8], tables: TablesMut, day: &mut [u64; 3]) -> u64 {
+pub fn read(file: &[u8], expected: &[u16], tables: TablesMut, day: &mut [u64; 3]) -> u64 {
     let TablesMut { demand, capacity, setup, unit, holding, store } = tables;
     unsafe {
         yakkurem_read(
-            file.as_ptr(), file.len(), demand.as_mut_ptr(), demand.len(), capacity.as_mut_ptr(), capacity.len(), setup.as_mut_ptr(), setup.len(),
-            unit.as_mut_ptr(), unit.len(), holding.as_mut_ptr(), holding.len(), store.as_mut_ptr(), store.len(), day.as_mut_ptr(),
+            file.as_ptr(), file.len(), expected.as_ptr(), expected.len(), demand.as_mut_ptr(), demand.len(), capacity.as_mut_ptr(), capacity.len(),
+            setup.as_mut_ptr(), setup.len(), unit.as_mut_ptr(), unit.len(), holding.as_mut_ptr(), holding.len(), store.as_mut_ptr(), store.len(),
+            day.as_mut_ptr(),
         )
     }
 }
@@ -122,8 +123,8 @@ pub fn lookup(file: &[u8], period: usize, part: &mut [u64; 2]) -> u64 {
     unsafe { yakkurem_lookup(file.as_ptr(), file.len(), period, part.as_mut_ptr()) }
 }
 
-pub fn write(day: Day, out: &mut [u8], count: &mut [u64; 1]) -> u64 {
-    call_with_day!(yakkurem_write, day, out.as_mut_ptr(), out.len(), count.as_mut_ptr())
+pub fn write(day: Day, stamp: Stamp, out: &mut [u8], count: &mut [u64; 1]) -> u64 {
+    call_with_day!(yakkurem_write, day, stamp.station, stamp.date, out.as_mut_ptr(), out.len(), count.as_mut_ptr())
 }
 
 #[rustfmt::skip]

@@ -19,6 +19,13 @@ pub struct Day<'a> {
     pub closing: u16,
 }
 
+/// What a day file is for, the documents' pair: a station, and a day as so many since 1 January 2000.
+#[derive(Clone, Copy, Debug, PartialEq, Eq)]
+pub struct Stamp {
+    pub station: u16,
+    pub date: u16,
+}
+
 /// Tables that a reader or a test load fills.
 pub struct TablesMut<'a> {
     pub demand: &'a mut [u16],
@@ -236,16 +243,20 @@ pub fn play(day: Day, plan: &[u16], actual: &[u16]) -> Result<Play, Fault> {
     }
 }
 
-/// Fills the tables from a day file.
-pub fn read(file: &[u8], tables: TablesMut) -> Result<Filled, Refusal> {
+/// Fills the tables from a day file that has the expected stamp. Where none is expected no file has it.
+pub fn read(file: &[u8], expected: Option<Stamp>, tables: TablesMut) -> Result<Filled, Refusal> {
     let mut day = [0; 3];
-    match codes::read(file, tables, &mut day) {
+    let expected: &[u16] = match expected {
+        Some(Stamp { station, date }) => &[station, date],
+        None => &[],
+    };
+    match codes::read(file, expected, tables, &mut day) {
         0 => Ok(Filled { periods: day[0], opening: day[1] as u16, closing: day[2] as u16 }),
         code => Err(refusal(code)),
     }
 }
 
-/// The body of a numbered period record of a day file: that very part of the file's bytes.
+/// The body of a numbered period record of a day file, whatever stamp it has or none: that very part of the file's bytes.
 pub fn lookup(file: &[u8], period: usize) -> Result<&[u8], Refusal> {
     let mut part = [0; 2];
     match codes::lookup(file, period, &mut part) {
@@ -254,10 +265,10 @@ pub fn lookup(file: &[u8], period: usize) -> Result<&[u8], Refusal> {
     }
 }
 
-/// Writes the day file at the front of `out`, and gives the count of its bytes.
-pub fn write(day: Day, out: &mut [u8]) -> Result<u64, Refusal> {
+/// Writes the day file with this stamp at the front of `out`, and gives the count of its bytes.
+pub fn write(day: Day, stamp: Stamp, out: &mut [u8]) -> Result<u64, Refusal> {
     let mut count = [0];
-    match codes::write(day, out, &mut count) {
+    match codes::write(day, stamp, out, &mut count) {
         0 => Ok(count[0]),
         code => Err(refusal(code)),
     }

@@ -5,6 +5,7 @@ use mathlib.Core.Option.{none}
 use Prim.Native.Nat.{ℕ}
 use borrow.Author.Needs.{needs}
 use denote.Ref.{now}
+use Rattle.day.specs.declared.Expected.{Expected}
 use Rattle.day.specs.Day.{Day, tablesOf}
 use Rattle.day.specs.Refusals.{checked}
 use Rattle.day.specs.Tests.{passed, refused, is-gives}
@@ -20,16 +21,19 @@ start c = c .before .before .before .before .before .before .before .before
 abbrev file : tie.After-tests → List ℕ
 file c = now (start (c .before .before) .args .file)
 
+abbrev expected : tie.After-tests → Expected
+expected c = start (c .before .before) .args .expected
+
 -- the tables as they were lent
 abbrev lent : tie.After-tests → Day
 lent c =
     let a = start (c .before .before) .args in
     tablesOf (now (a .demand)) (now (a .capacity)) (now (a .setup)) (now (a .unit)) (now (a .holding)) (now (a .store))
 
-tested : (c : tie.After-tests) → c .tests .result ≡ checked (badRead (file c) (shortest (lent c)))
+tested : (c : tie.After-tests) → c .tests .result ≡ checked (badRead (expected c) (file c) (shortest (lent c)))
 tested c = rw (c .before .shortest .ensures) at (c .tests .ensures)
 
-admitted : (c : tie.After-enum-told) → badRead (file (c .before .before)) (shortest (lent (c .before .before))) ≡ none
+admitted : (c : tie.After-enum-told) → let p = c .before .before in badRead (expected p) (file p) (shortest (lent p)) ≡ none
 admitted c = passed _ (tested (c .before .before)) (c .enum-told .given .1)
 
 -- the tests passed before the tables were lent on
@@ -46,13 +50,13 @@ at-fill c = c .before .before .before .before .before
 returns : tie.Need-returns
 returns c =
     let p = c .before .before .before in
-    (is-gives (refused (badRead (file p) (shortest (lent p))) (tested p) (c .before .r .given .1)), refl)
+    (is-gives (refused (badRead (expected p) (file p) (shortest (lent p))) (tested p) (c .before .r .given .1)), refl)
 
 fill-requires : tie.Need-fill-requires
 fill-requires c κs =
     let p = at-tests c .before .before in
     let n = p .before .before .periods .ensures in
-    (n, rw n (read-passed (file p) (lent p) (admitted (at-tests c)) .cells))
+    (n, rw n (read-passed (expected p) (file p) (lent p) (admitted (at-tests c)) .cells))
 
 returns-2 : tie.Need-returns-2
 returns-2 c =

@@ -24,7 +24,7 @@ day c =
 put-head-requires : tie.Need-put-head-requires
 put-head-requires c κs =
     let s = c .before .before .before .before .before .before .before .before in
-    omega (arith, s .pre .1, file-length (day s))
+    omega (arith, s .pre .1, file-length (s .args .stamp) (day s))
 
 put-periods-requires : tie.Need-put-periods-requires
 put-periods-requires c κs =
@@ -33,7 +33,7 @@ put-periods-requires c κs =
     let s = start f in
     let w = s .pre .0 .lengths in (
       record { capacity = w .capacity; setup = w .setup; unit = w .unit; holding = w .holding; store = w .store },
-      omega (arith, s .pre .1, file-length (day s), z .head-size .ensures .is, f .put-head .kept),
+      omega (arith, s .pre .1, file-length (s .args .stamp) (day s), z .head-size .ensures .is, f .put-head .kept),
     )
 
 copy-requires : tie.Need-copy-requires
@@ -44,7 +44,8 @@ copy-requires c κs =
     let f = at-head z in
     let s = start f in
     let end = ap length (e .end-record .ensures) in
-    omega (arith, s .pre .1, file-length (day s), z .head-size .ensures .is, f .put-head .kept, q .put-periods .kept, q .put-periods .ensures .0, end)
+    let long = file-length (s .args .stamp) (day s) in
+    omega (arith, s .pre .1, long, z .head-size .ensures .is, f .put-head .kept, q .put-periods .kept, q .put-periods .ensures .0, end)
 
 returns : tie.Need-returns
 returns c =
@@ -54,7 +55,8 @@ returns c =
     let z = q .before .before in
     let f = at-head z in
     let s = start f in
-    file-stored (day s) (now (s .args .out)) _ _ _ (s .pre .1) (z .head-size .ensures .is) (f .put-head .ensures) (q .put-periods .ensures)
+    file-stored (s .args .stamp) (day s) (now (s .args .out)) _ _ _ (s .pre .1)
+    (omega (arith, z .head-size .ensures .is)) (f .put-head .ensures) (q .put-periods .ensures)
     (e .end-record .ensures) (p .copy .ensures)
 
 pub put-file-spec : {M : Type 1} → statement M

@@ -1,39 +1,35 @@
--- `dayfile_writer::put_head` meets its contract: a head of no bytes changes none, any other is the record of charges. Assumes nothing.
-use mathlib.Core.Path.{_≡_, refl, sym, ap, _∙_}
-use mathlib.Core.List.{_∷_, _++_}
+-- `dayfile_writer::put_head` meets its contract: the charges follow the stamp. Assumes nothing.
+use mathlib.Core.Path.{ap}
 use native.Mathlib.Omega.{arith}
 use borrow.Author.Needs.{needs}
 use denote.Ref.{now}
 use lib.ListN.{length}
-use Rattle.day.specs.File.{chargeKind, bytes2, headOf}
-use Rattle.dayfile_writer.proofs.Stores.{sets-none, head-record}
+use Rattle.day.specs.File.{stampRecord, chargesOf}
+use Rattle.dayfile_writer.proofs.Stores.{sets-then}
 use Rattle.dayfile_writer.proofs.put_head.Statement.{statement}
 use Rattle.dayfile_writer.proofs.put_head.Tie as tie
-
-returns : tie.Need-returns
-returns c =
-    let a = c .before .before .before .args in
-    sets-none (headOf (a .ends .opening) (a .ends .closing)) (now (a .out)) 0 (sym (c .before .head-size .ensures .is) ∙ c .if1 .taken)
-
--- the head is the record of charges
-written : (c : tie.Else1) → let e = c .before .before .before .args .ends in
-    headOf (e .opening) (e .closing) ≡ chargeKind ∷ bytes2 (e .opening) ++ bytes2 (e .closing)
-written c = head-record _ _ (λ z. c .if1 .left (c .before .head-size .ensures .is ∙ z))
 
 copy-requires : tie.Need-copy-requires
 copy-requires c κs =
     let r = c .before .before in
-    let e = r .before in
-    omega (arith, ap length (r .charge-record .ensures), ap length (written e), e .before .before .before .pre)
+    omega (arith, ap length (r .head-record .ensures), r .before .before .pre)
 
-returns-2 : tie.Need-returns-2
-returns-2 c =
-    let p = c .before .before in
+put-charges-requires : tie.Need-put-charges-requires
+put-charges-requires c κs =
+    let p = c .before .before .before in
+    omega (arith, p .copy .kept, p .before .before .before .before .before .pre)
+
+returns : tie.Need-returns
+returns c =
+    let q = c .before .before in
+    let p = q .before .before .before .before in
     let r = p .before .before .before in
-    rw (p .copy .ensures, r .charge-record .ensures, written (r .before)) refl
+    let a = r .before .before .args in
+    rw (q .put-charges .ensures, p .copy .ensures, r .head-record .ensures)
+    (sets-then (stampRecord (a .stamp)) (chargesOf (a .ends .opening) (a .ends .closing)) (now (a .out)) 0 5 (omega arith))
 
 pub put-head-spec : {M : Type 1} → statement M
 put-head-spec =
     tie.close
     (tie.spec
-    (λ c κs. search needs) returns (λ c κs. search needs) (λ c. search needs) copy-requires (λ c. search needs) returns-2)
+    (λ c κs. search needs) (λ c. search needs) copy-requires put-charges-requires (λ c. search needs) returns)

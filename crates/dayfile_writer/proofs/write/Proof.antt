@@ -31,7 +31,7 @@ day c =
 
 -- what is tested after the tables
 abbrev room : tie.After-tables → List (Option Refusal)
-room c = badSlots (length (now (start c .args .out))) (length (fileOf (day c))) ∷ []
+room c = badSlots (length (now (start c .args .out))) (length (fileOf (start c .args .stamp) (day c))) ∷ []
 
 admitted : (c : tie.After-enum-told) → first (tableTests (day (c .before .before))) ≡ none
 admitted c = passed _ (c .before .before .tables .ensures) (c .enum-told .given .1)
@@ -53,12 +53,12 @@ add-size c = omega (arith, c .records-size .ensures .low, c .before .head-size .
 
 -- the sum is the file's length
 size-is : (c : tie.After-records-size) → let p = c .before .before .before .before in
-    c .before .head-size .result + c .records-size .result + 3 ≡ length (fileOf (day p))
+    c .before .head-size .result + c .records-size .result + 3 ≡ length (fileOf (start p .args .stamp) (day p))
 size-is c =
     let h = c .before in
     let p = h .before .before .before in
     let records = ap (recordBytes (at (day p .store))) (limits (h .before) .lengths .store) in
-    omega (arith, file-length (day p), h .head-size .ensures .is, c .records-size .ensures .is, records)
+    omega (arith, file-length (start p .args .stamp) (day p), h .head-size .ensures .is, c .records-size .ensures .is, records)
 
 returns-2 : tie.Need-returns-2
 returns-2 c =
@@ -81,7 +81,7 @@ returns-3 c =
     let z = e .before in
     let t = z .before .before in
     let p = t .before .before in
-    let ok : badWrite (day p) (length (now (start p .args .out))) ≡ none =
+    let ok : badWrite (start p .args .stamp) (day p) (length (now (start p .args .out))) ≡ none =
     rw (first-passed (tableTests (day p)) (room p) (admitted t), ← size-is z, le-ltb _ _ (e .if1 .left)) refl in
     (ok, rw (size-is z) refl, f .put-file .ensures)
 

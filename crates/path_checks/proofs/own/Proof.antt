@@ -3,7 +3,7 @@ use mathlib.Core.List.{[]}
 use borrow.Author.Needs.{needs}
 use Rattle.day.specs.Day.{Day, dayOf}
 use Rattle.day.specs.Refusals.{unequal, binding, paidSetup, lowStore}
-use Rattle.day.specs.Tests.{in-order, alone}
+use Rattle.day.specs.Tests.{in-order-two, alone}
 use Rattle.path_checks.proofs.own.Statement.{statement}
 use Rattle.path_checks.proofs.own.Tie as tie
 
@@ -16,21 +16,21 @@ returns-2 c =
     let test = c .before .before in
     let told = test .before in
     let d = tables (told .before .before .before .before .before .before) in
-    rw (told .enum-told2 .given .1) (in-order (binding d) (lowStore d) (test .binding .ensures) (c .before .low-store .ensures) (c .in-order .ensures))
+    rw (told .enum-told2 .given .1) (in-order-two (binding d) (lowStore d) (test .binding .ensures) (c .before .low-store .ensures) (c .in-order .ensures))
 
 returns-3 : tie.Need-returns-3
 returns-3 c =
     let test = c .before .before in
     let told = test .before in
     let d = tables (told .before .before .before .before .before .before) in
-    rw (told .enum-told3 .given .1) (in-order (unequal d) (lowStore d) (test .equal .ensures) (c .before .low-store2 .ensures) (c .in-order2 .ensures))
+    rw (told .enum-told3 .given .1) (in-order-two (unequal d) (lowStore d) (test .equal .ensures) (c .before .low-store2 .ensures) (c .in-order2 .ensures))
 
 returns-4 : tie.Need-returns-4
 returns-4 c =
     let test = c .before .before in
     let told = test .before in
     let d = tables (told .before .before .before .before .before .before) in
-    rw (told .enum-told4 .given .1) (in-order (paidSetup d) (lowStore d) (test .paid .ensures) (c .before .low-store3 .ensures) (c .in-order3 .ensures))
+    rw (told .enum-told4 .given .1) (in-order-two (paidSetup d) (lowStore d) (test .paid .ensures) (c .before .low-store3 .ensures) (c .in-order3 .ensures))
 
 returns-5 : tie.Need-returns-5
 returns-5 c =

@@ -15,7 +15,7 @@ lent c =
     tablesOf (a .demand .now) (a .capacity .now) (a .setup .now) (a .unit .now) (a .holding .now) (a .store .now)
 
 returns : tie.Need-returns
-returns c = long-input (start (c .before) .args .file .now) (lent (c .before)) (c .if1 .taken)
+returns c = long-input (start (c .before) .args .expected) (start (c .before) .args .file .now) (lent (c .before)) (c .if1 .taken)
 
 -- where the reader has answered, and where the length was tested
 abbrev at-read : tie.After-slice-known12 → tie.After-read
@@ -32,7 +32,8 @@ returns-2 : tie.Need-returns-2
 returns-2 c =
     let r = at-read c in
     let t = tested r in
-    short-input (start (t .before) .args .file .now) (lent (t .before)) (left r) (r .read .result) (t .if1 .left) (r .read .ensures)
+    let a = start (t .before) .args in
+    short-input (a .expected) (a .file .now) (lent (t .before)) (left r) (r .read .result) (t .if1 .left) (r .read .ensures)
 
 pub read-spec : {M : Type 1} → statement M
 read-spec =

@@ -1,9 +1,11 @@
-//! The files that `dayplan` is run on.
-use crate::printed::{alone, DAYPLAN, LONGEST};
+//! The files that `dayplan` is run on: those from before files had a stamp, with one in front.
+use crate::printed::{alone, Beside, Given, DAYPLAN, LONGEST};
 use crate::runs::Runs;
+use crate::stations;
 use outside::input::{self, Call, Size, With};
 use outside::plain::{self, Day, NO_LIMIT};
 use outside::random::Random;
+use std::fs;
 use std::path::Path;
 
 /// A day of n periods that needs `total` in all, as evenly as can be, with uneven costs and no store limits.
@@ -21,7 +23,10 @@ pub fn day(n: usize, total: usize) -> Day {
     }
 }
 
-/// A file, what it is, and what the papers say of it, where it is in one line.
+/// The most that may follow the stamp.
+const REST: usize = LONGEST - 1 - plain::STAMP_BODY;
+
+/// What a file is, the bytes that follow its stamp, and what the papers say of it, where it is in one line.
 pub type Case = (&'static str, Vec<u8>, Option<&'static str>);
 
 pub fn with(mut file: Vec<u8>, more: &[u8]) -> Vec<u8> {
@@ -36,22 +41,22 @@ pub fn m4() -> Day {
 
 /// Files of days without charge at their ends and without store limits.
 fn files() -> Vec<Case> {
-    let of = |n, total| plain::file_of(&day(n, total));
+    let of = |n, total| plain::unstamped(&day(n, total));
     let longest = of(96, 200);
     assert_eq!(longest.len(), 1635);
     let (demand, capacity, store) = (vec![2], vec![1], vec![NO_LIMIT]);
     let m3 = Day { demand, capacity, setup: vec![5], unit: vec![2], holding: vec![9], store, opening: 0, closing: 0 };
     vec![
-        ("M3", plain::file_of(&m3), Some("refused 7 period 1\n")),
-        ("M4", plain::file_of(&m4()), Some("periods 2 cost 21 starts 1\n1 made 5 left 3\n2 made 0 left 0\n")),
-        ("an empty file", vec![], Some("refused 11 period 0\n")),
-        ("1,635 bytes", longest.clone(), None),
-        ("1,636 bytes", with(longest.clone(), &[0]), Some("refused 12 period 0\n")),
-        ("1,833 bytes that begin with an unknown kind", vec![7; LONGEST + 1], Some("refused 12 period 0\n")),
-        ("1,832 bytes of an unknown kind", vec![7; LONGEST], Some("refused 10 period 0\n")),
+        ("M3", plain::unstamped(&m3), Some("refused 7 period 1\n")),
+        ("M4", plain::unstamped(&m4()), Some("periods 2 cost 21 starts 1\n1 made 5 left 3\n2 made 0 left 0\n")),
+        ("a stamp alone", vec![], Some("refused 11 period 0\n")),
+        ("1,640 bytes", longest.clone(), None),
+        ("1,641 bytes", with(longest.clone(), &[0]), Some("refused 12 period 0\n")),
+        ("1,838 bytes that go on with an unknown kind", vec![7; REST + 1], Some("refused 12 period 0\n")),
+        ("1,837 bytes that go on with an unknown kind", vec![7; REST], Some("refused 10 period 0\n")),
         ("97 periods", of(97, 200), Some("refused 1 period 0\n")),
-        ("107 periods, 1,822 bytes", of(107, 200), Some("refused 1 period 0\n")),
-        ("108 periods, 1,839 bytes", of(108, 200), Some("refused 12 period 0\n")),
+        ("107 periods, 1,827 bytes", of(107, 200), Some("refused 1 period 0\n")),
+        ("108 periods, 1,844 bytes", of(108, 200), Some("refused 12 period 0\n")),
         ("one file after another", with(longest.clone(), &longest), Some("refused 12 period 0\n")),
         ("no periods", vec![2, 0, 0], Some("refused 1 period 0\n")),
         ("96 periods, all choice cells", of(96, 249), None),
@@ -68,7 +73,7 @@ fn files() -> Vec<Case> {
 
 /// Files of days with charge at their ends, or with its record where it must not be.
 fn files_with_ends() -> Vec<Case> {
-    let ends = |day: Day, opening, closing| plain::file_of(&Day { opening, closing, ..day });
+    let ends = |day: Day, opening, closing| plain::unstamped(&Day { opening, closing, ..day });
     let longest = ends(day(96, 200), 20, 30);
     assert_eq!(longest.len(), 1640);
     let m4_with = |opening, closing| ends(m4(), opening, closing);
@@ -94,8 +99,8 @@ fn files_with_ends() -> Vec<Case> {
         ("ends cut short", vec![3, 0, 1, 0], Some("refused 11 period 0\n")),
         ("ends alone", vec![3, 0, 1, 0, 0], Some("refused 11 period 0\n")),
         ("ends and no periods", vec![3, 0, 1, 0, 0, 2, 0, 0], Some("refused 1 period 0\n")),
-        ("1,640 bytes", longest.clone(), None),
-        ("1,641 bytes", with(longest.clone(), &[0]), Some("refused 12 period 0\n")),
+        ("1,645 bytes", longest.clone(), None),
+        ("1,646 bytes", with(longest.clone(), &[0]), Some("refused 12 period 0\n")),
         ("97 periods with ends", ends(day(97, 200), 1, 1), Some("refused 1 period 0\n")),
         ("96 periods with ends, all choice cells", ends(day(96, 300), 60, 9), None),
         ("96 periods with ends, one unit too much to hand on", ends(day(96, 300), 60, 10), Some("refused 5 period 0\n")),
@@ -114,8 +119,8 @@ fn tie() -> Day {
 
 /// Files of days whose upkeep decides: the tie of request 2.2, and upkeep around its limit.
 fn files_with_holding() -> Vec<Case> {
-    let m4_with = |first, second| plain::file_of(&Day { holding: vec![first, second], ..m4() });
-    let tie = plain::file_of(&tie());
+    let m4_with = |first, second| plain::unstamped(&Day { holding: vec![first, second], ..m4() });
+    let tie = plain::unstamped(&tie());
     let (demand, capacity, store) = (vec![0], vec![0], vec![NO_LIMIT]);
     let kept = Day { demand, capacity, setup: vec![0], unit: vec![0], holding: vec![500_000], store, opening: 4096, closing: 4096 };
     vec![
@@ -123,18 +128,22 @@ fn files_with_holding() -> Vec<Case> {
         ("M4, upkeep at its limit", m4_with(500_000, 500_000), Some("periods 2 cost 25 starts 2\n1 made 2 left 0\n2 made 3 left 0\n")),
         ("M4, upkeep above its limit", m4_with(500_000, 500_001), Some("refused 3 period 2\n")),
         ("M4, upkeep at the limit before 2.2", m4_with(1_000_000, 0), Some("refused 3 period 1\n")),
-        ("the most charge at the highest upkeep", plain::file_of(&kept), Some("periods 1 cost 4096000000 starts 0\n1 made 0 left 4096\n")),
+        (
+            "the most charge at the highest upkeep",
+            plain::unstamped(&kept),
+            Some("periods 1 cost 4096000000 starts 0\n1 made 0 left 4096\n"),
+        ),
     ]
 }
 
 /// Files of days with store limits, or with a record of one where it must not be.
 fn files_with_stores() -> Vec<Case> {
-    let stores = |day: Day, store: &[u16]| plain::file_of(&Day { store: store.to_vec(), ..day });
+    let stores = |day: Day, store: &[u16]| plain::unstamped(&Day { store: store.to_vec(), ..day });
     let m4_with = |first, second| stores(m4(), &[first, second]);
     let ends = |opening, closing| Day { opening, closing, ..m4() };
     let limited = |n, limit| Day { store: vec![limit; n], opening: 20, closing: 30, ..day(n, 200) };
-    let longest = plain::file_of(&limited(96, 200));
-    assert_eq!(longest.len(), LONGEST);
+    let longest = plain::unstamped(&limited(96, 200));
+    assert_eq!(longest.len(), REST);
     // kind 4 with the limit that it must not have
     let mut no_limit = m4_with(3, 3);
     no_limit[17..19].copy_from_slice(&NO_LIMIT.to_be_bytes());
@@ -156,11 +165,11 @@ fn files_with_stores() -> Vec<Case> {
         ("no limit in kind 4, then an unknown kind", with(no_limit[..19].to_vec(), &[7]), Some("refused 12 period 0\n")),
         ("no limit in kind 4, cut short", no_limit[..18].to_vec(), Some("refused 11 period 0\n")),
         ("a limit cut short", m4_with(3, 3)[..18].to_vec(), Some("refused 11 period 0\n")),
-        ("1,832 bytes", longest.clone(), None),
-        ("1,832 bytes, room for too little", plain::file_of(&limited(96, 17)), Some("refused 7 period 1\n")),
-        ("1,833 bytes", with(longest.clone(), &[0]), Some("refused 12 period 0\n")),
-        ("1,833 bytes, the first of an unknown kind", with(vec![7], &longest), Some("refused 12 period 0\n")),
-        ("97 periods with limits, 1,851 bytes", plain::file_of(&limited(97, 200)), Some("refused 12 period 0\n")),
+        ("1,837 bytes", longest.clone(), None),
+        ("1,837 bytes, room for too little", plain::unstamped(&limited(96, 17)), Some("refused 7 period 1\n")),
+        ("1,838 bytes", with(longest.clone(), &[0]), Some("refused 12 period 0\n")),
+        ("1,838 bytes, the sixth of an unknown kind", with(vec![7], &longest), Some("refused 12 period 0\n")),
+        ("97 periods with limits, 1,856 bytes", plain::unstamped(&limited(97, 200)), Some("refused 12 period 0\n")),
     ]
 }
 
@@ -168,7 +177,7 @@ pub fn files_of_all_kinds() -> Vec<Case> {
     [files(), files_with_ends(), files_with_holding(), files_with_stores()].concat()
 }
 
-/// A made-up file, or a changed one.
+/// What follows the stamp of a made-up file, or of a changed one.
 pub fn made_up(random: &mut Random, size: Size, with: With, changed: bool) -> Vec<u8> {
     let make = if changed { input::changed } else { input::valid };
     make(random, Call::Read, size, with).file
@@ -177,27 +186,43 @@ pub fn made_up(random: &mut Random, size: Size, with: With, changed: bool) -> Ve
 /// How many of them are run, with what in their days.
 pub const MADE_UP: [(With, usize); 3] = [(With::NOTHING, 60), (With::ENDS, 40), (With::BOTH, 40)];
 
+/// The examples as the readme has them run, in the project's own folder.
+fn examples(root: &Path, runs: &mut Runs) {
+    let id = Beside::Bytes(fs::read(root.join("station.id")).unwrap());
+    for entry in fs::read_dir(root.join("examples")).unwrap() {
+        let path = entry.unwrap().path();
+        if path.extension().is_some_and(|extension| extension == "day") {
+            let given = Given { file: fs::read(&path).unwrap(), id: id.clone(), needs: Beside::Missing };
+            assert!(!runs.program.printed(&given).starts_with("refused 20"), "{}", path.display());
+            runs.in_place(root, &path, &given);
+        }
+    }
+}
+
 /// Gives how many runs there were.
 pub fn run(root: &Path, random: &mut Random) -> usize {
     let mut runs = Runs::new(root, DAYPLAN);
     for (what, file, line) in files_of_all_kinds() {
-        let given = alone(file);
+        let given = alone(&file);
         if let Some(line) = line {
             assert_eq!(runs.program.printed(&given), line, "{what}");
         }
         runs.on(what, &given);
+        runs.on(what, &Given { file, ..given });
     }
     for (with, times) in MADE_UP {
         for _ in 0..times {
             let size = random.pick(&[Size::Tiny, Size::Middle, Size::Long]);
-            runs.on("a made-up file", &alone(made_up(random, size, with, false)));
-            runs.on("a changed file", &alone(made_up(random, size, with, true)));
+            runs.on("a made-up file", &alone(&made_up(random, size, with, false)));
+            runs.on("a changed file", &alone(&made_up(random, size, with, true)));
         }
     }
-    let longest = alone(plain::file_of(&Day { closing: 1, opening: 1, store: vec![200; 96], ..day(96, 249) }));
+    let longest = alone(&plain::unstamped(&Day { closing: 1, opening: 1, store: vec![200; 96], ..day(96, 249) }));
     for piece in [1, 16, 100, 1000] {
         runs.in_pieces(&longest, piece);
     }
-    runs.all_fail(&longest, &alone(b"\x07".to_vec()));
+    runs.all_fail(&longest, &alone(b"\x07"));
+    stations::run(&mut runs);
+    examples(root, &mut runs);
     runs.count
 }

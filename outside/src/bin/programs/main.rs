@@ -6,6 +6,7 @@ mod dayplan;
 mod margins;
 mod printed;
 mod runs;
+mod stations;
 
 use outside::random::Random;
 use std::path::PathBuf;

@@ -1,7 +1,8 @@
 //! The files and actual needs that `margins` is run on.
 use crate::dayplan::{day, files_of_all_kinds, m4, made_up, with, MADE_UP};
-use crate::printed::{against, needs, read, Given, Needs, LONGEST, MARGINS};
+use crate::printed::{against, alone, needs, read, stamped, Beside, Given, LONGEST, MARGINS};
 use crate::runs::Runs;
+use crate::stations;
 use outside::input::{self, Size};
 use outside::plain::{self, Day};
 use outside::random::Random;
@@ -111,37 +112,38 @@ fn refused_needs() -> Vec<MarginCase> {
         day(1, 3),
         one_need(3, 2),
     ];
-    let m4_file = plain::file_of(&m4());
+    let m4_file = plain::unstamped(&m4());
     let mut unknown = m4_file.clone();
     unknown[17] = 7;
     let above = Day { unit: vec![1, 1_000_001], ..m4() };
     let files = [
-        (vec![1; LONGEST + 1], "refused 12 period 0\n"),
+        // a byte too long with its stamp
+        (vec![1; LONGEST - plain::STAMP_BODY], "refused 12 period 0\n"),
         (unknown, "refused 10 period 0\n"),
         (m4_file[..20].to_vec(), "refused 11 period 0\n"),
         (with(m4_file, &[0]), "refused 12 period 0\n"),
         (vec![2, 0, 0], "refused 1 period 0\n"),
-        (plain::file_of(&day(97, 5)), "refused 1 period 0\n"),
-        (plain::file_of(&above), "refused 3 period 2\n"),
+        (plain::unstamped(&day(97, 5)), "refused 1 period 0\n"),
+        (plain::unstamped(&above), "refused 3 period 2\n"),
     ];
     let mut cases = vec![];
-    let mut add = |what, file: &[u8], needs: Needs, line: &str| {
-        cases.push((what, Given { file: file.to_vec(), needs }, Some(line.to_string())));
+    let mut add = |what, file: &[u8], needs: Beside, line: &str| {
+        cases.push((what, stamped(file, needs), Some(line.to_string())));
     };
     for (file, line) in &files {
         for length in [0, 2, 3, 4, 5, 192, 194, 1000] {
-            add("a refused file with needs of any length", file, Needs::Bytes(vec![0; length]), line);
+            add("a refused file with needs of any length", file, Beside::Bytes(vec![0; length]), line);
         }
         add("a refused file with needs above 4,096", file, needs(&[4097, 4097]), line);
-        add("a refused file without needs", file, Needs::Missing, line);
+        add("a refused file without needs", file, Beside::Missing, line);
     }
     for day in &days {
-        let (file, n) = (plain::file_of(day), day.periods());
-        add("no needs", &file, Needs::Missing, "refused 2 period 0\n");
+        let (file, n) = (plain::unstamped(day), day.periods());
+        add("no needs", &file, Beside::Missing, "refused 2 period 0\n");
         for length in [0, 1, 2 * n - 2, 2 * n - 1, 2 * n + 1, 2 * n + 2, 4 * n, 193, 194, 384, 1000, 5000] {
             // also above 4,096, as 2 goes before 3
-            add("too many bytes or too few", &file, Needs::Bytes(vec![0; length]), "refused 2 period 0\n");
-            add("too many bytes or too few", &file, Needs::Bytes(vec![255; length]), "refused 2 period 0\n");
+            add("too many bytes or too few", &file, Beside::Bytes(vec![0; length]), "refused 2 period 0\n");
+            add("too many bytes or too few", &file, Beside::Bytes(vec![255; length]), "refused 2 period 0\n");
         }
         for i in [0, n / 2, n - 1] {
             for value in [4097, 0x1100, 65_535] {
@@ -158,11 +160,11 @@ fn refused_needs() -> Vec<MarginCase> {
 }
 
 /// Needs to go with a file: of its day, around those that are planned; now and then too many bytes or too few, a need above its limit, or none.
-fn made_up_needs(random: &mut Random, file: &[u8]) -> Needs {
-    let planned = read(file).map_or(vec![1; 3], |day| day.demand);
+fn made_up_needs(random: &mut Random, given: &Given) -> Beside {
+    let planned = read(given).map_or(vec![1; 3], |day| day.demand);
     let mut actual = input::actual(random, &planned);
     match random.between(0, 9) {
-        0 => return Needs::Missing,
+        0 => return Beside::Missing,
         1 => actual.truncate(random.index(actual.len())),
         2 => actual.extend([0].repeat(random.between(1, 100) as usize)),
         3 => actual[random.index(planned.len())] = random.pick(&[4097, 4352, 65_535]),
@@ -174,7 +176,8 @@ fn made_up_needs(random: &mut Random, file: &[u8]) -> Needs {
 /// The example of the documents.
 fn example(root: &Path) -> Given {
     let read = |name: &str| fs::read(root.join("examples/margins").join(name)).unwrap();
-    Given { file: read("site.day"), needs: Needs::Bytes(read("needs.act")) }
+    let [id, needs] = ["station.id", "needs.act"].map(|name| Beside::Bytes(read(name)));
+    Given { file: read("site.day"), id, needs }
 }
 
 /// Gives how many runs there were.
@@ -187,29 +190,35 @@ pub fn run(root: &Path, random: &mut Random) -> usize {
         runs.on(what, &given);
     }
     for (what, file, _) in files_of_all_kinds() {
-        let planned = read(&file).map_or(vec![], |day| day.demand);
-        runs.on(what, &Given { file, needs: needs(&planned) });
+        let given = alone(&file);
+        let planned = read(&given).map_or(vec![], |day| day.demand);
+        let given = Given { needs: needs(&planned), ..given };
+        runs.on(what, &given);
+        runs.on(what, &Given { file, ..given });
     }
     for (with, times) in MADE_UP {
         for changed in [false, true].repeat(times) {
             let size = random.pick(&[Size::Tiny, Size::Tiny, Size::Middle, Size::Middle, Size::Long]);
-            let file = made_up(random, size, with, changed);
-            let needs = made_up_needs(random, &file);
-            runs.on("a made-up file with made-up needs", &Given { file, needs });
+            let given = alone(&made_up(random, size, with, changed));
+            let needs = made_up_needs(random, &given);
+            runs.on("a made-up file with made-up needs", &Given { needs, ..given });
         }
     }
     let example = example(root);
     assert!(!runs.program.printed(&example).contains("refused"));
     runs.on("the example", &example);
+    let folder = root.join("examples/margins");
+    runs.in_place(&folder, &folder.join("site.day"), &example);
     for piece in [1, 16, 100, 1000] {
         runs.in_pieces(&example, piece);
     }
     let refused = Given { file: b"\x07".to_vec(), ..example.clone() };
     runs.all_fail(&example, &refused);
-    for (what, needs) in [("a folder for the needs", Needs::Folder), ("needs that can't be opened", Needs::Loop)] {
+    for (what, needs) in [("a folder for the needs", Beside::Folder), ("needs that can't be opened", Beside::Loop)] {
         for Given { file, .. } in [&example, &refused] {
-            runs.unread(what, &Given { file: file.clone(), needs: needs.clone() });
+            runs.unread(what, &Given { file: file.clone(), needs: needs.clone(), ..example.clone() });
         }
     }
+    stations::run(&mut runs);
     runs.count
 }

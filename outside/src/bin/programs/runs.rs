@@ -1,5 +1,5 @@
 //! Runs of a program by its script, in a folder of the tests' own.
-use crate::printed::{Given, Needs, Program};
+use crate::printed::{Beside, Given, Program};
 use std::fs::{self, File};
 use std::io::Write;
 use std::os::unix::fs::symlink;
@@ -40,17 +40,19 @@ impl Runs<'_> {
 
     /// Puts what is given into the folder; gives where the day file is.
     fn lay(&self, given: &Given) -> PathBuf {
-        let path = self.folder().join("needs.act");
-        if path.is_dir() {
-            fs::remove_dir(&path).unwrap();
-        } else if path.is_symlink() || path.exists() {
-            fs::remove_file(&path).unwrap();
-        }
-        match &given.needs {
-            Needs::Missing => {}
-            Needs::Bytes(bytes) => fs::write(&path, bytes).unwrap(),
-            Needs::Folder => fs::create_dir(&path).unwrap(),
-            Needs::Loop => symlink("needs.act", &path).unwrap(),
+        for (name, beside) in [("station.id", &given.id), ("needs.act", &given.needs)] {
+            let path = self.folder().join(name);
+            if path.is_dir() {
+                fs::remove_dir(&path).unwrap();
+            } else if path.is_symlink() || path.exists() {
+                fs::remove_file(&path).unwrap();
+            }
+            match beside {
+                Beside::Missing => {}
+                Beside::Bytes(bytes) => fs::write(&path, bytes).unwrap(),
+                Beside::Folder => fs::create_dir(&path).unwrap(),
+                Beside::Loop => symlink(name, &path).unwrap(),
+            }
         }
         self.put("in.day", &given.file)
     }
@@ -70,6 +72,12 @@ impl Runs<'_> {
         let file = File::open(self.lay(given)).unwrap();
         let output = self.script().stdin(file).output().unwrap();
         self.answers(what, output, &self.program.printed(given));
+    }
+
+    /// A file of the project, in a folder with what is given beside it.
+    pub fn in_place(&mut self, folder: &Path, file: &Path, given: &Given) {
+        let output = self.script().current_dir(folder).stdin(File::open(file).unwrap()).output().unwrap();
+        self.answers(&format!("{}", file.display()), output, &self.program.printed(given));
     }
 
     /// The file comes through a pipe, a piece at a time.
@@ -105,7 +113,7 @@ impl Runs<'_> {
         self.tells(what, command, given, "");
     }
 
-    /// The second file can't be read: it counts as missing.
+    /// A file of the folder can't be read: it counts as missing.
     pub fn unread(&mut self, what: &str, given: &Given) {
         self.tells(what, "\"$run\" < \"$day\"", given, &self.program.printed(given));
     }

@@ -8,7 +8,8 @@ use borrow.Author.Needs.{needs}
 use borrow.Author.Tests.{lt-ltb, le-ltb, eq-eqb, ne-eqb}
 use denote.Ref.{now}
 use lib.ListN.{length, List·getD-eq-default}
-use Rattle.day.specs.File.{endKind, next, unknownKind, misplaced}
+use Rattle.day.specs.Sums.{at}
+use Rattle.day.specs.File.{endKind, next, chargesAt, unknownKind, isMisplaced, misplaced}
 use Rattle.dayfile.specs.Layout.{WholeRecord, whole-body}
 use Rattle.dayfile.proofs.layout.end_record.Statement.{statement}
 use Rattle.dayfile.proofs.layout.end_record.Tie as tie
@@ -22,7 +23,7 @@ byte c = c .before .before .before .before .before .args .at
 
 -- where the record may stand, where the file reaches to its end, and where it is an end record: the kind was known
 abbrev at-3 : tie.Else3 → tie.Else2
-at-3 c = c .before .before .before
+at-3 c = c .before .before .before .before
 
 abbrev at-4 : tie.Else4 → tie.Else3
 at-4 c = c .before .before
@@ -34,8 +35,12 @@ at-5 c = c .before .before
 known : (c : tie.Else2) → unknownKind (file c) (byte c) ≡ none
 known c = simp (lt-ltb _ _ (c .before .before .before .if1 .left), ← c .before .is-kind .ensures, c .if2 .left)
 
+tested : (c : tie.After-is-misplaced) → let k = c .before .before .before in
+    c .is-misplaced .result ≡ isMisplaced (at (file k) (byte k)) (byte k) (chargesAt (file k))
+tested c = rw (c .before .charges-at .ensures) at (c .is-misplaced .ensures)
+
 placed : (c : tie.Else3) → misplaced (file (at-3 c)) (byte (at-3 c)) ≡ none
-placed c = simp (← c .before .is-misplaced .ensures, c .if3 .left)
+placed c = simp (← tested (c .before), c .if3 .left)
 
 whole : (c : tie.Else4) → let k = at-3 (at-4 c) in next (file k) (byte k) ≤ length (file k)
 whole c = rw (c .before .next .ensures) at (c .if4 .left)
@@ -60,7 +65,7 @@ returns-2 : tie.Need-returns-2
 returns-2 c = simp (lt-ltb _ _ (c .before .before .before .if1 .left), ← c .before .is-kind .ensures, c .if2 .taken)
 
 returns-3 : tie.Need-returns-3
-returns-3 c = rw (known (c .before .before .before)) (simp (← c .before .is-misplaced .ensures, c .if3 .taken))
+returns-3 c = rw (known (c .before .before .before .before)) (simp (← tested (c .before), c .if3 .taken))
 
 returns-4 : tie.Need-returns-4
 returns-4 c =
@@ -101,5 +106,5 @@ pub end-record-spec : {M : Type 1} → statement M
 end-record-spec =
     tie.close
     (tie.spec
-    returns (λ c. search needs) (λ c κs. search needs) returns-2 (λ c. search needs) (λ c κs. search needs) returns-3 (λ c κs. search needs)
-    returns-4 (λ c. search needs) returns-5 returns-6 (λ c κs. search needs) number2-requires (λ c. search needs) returns-7 returns-8)
+    returns (λ c. search needs) (λ c κs. search needs) returns-2 (λ c. search needs) (λ c κs. search needs) (λ c κs. search needs) returns-3
+    (λ c κs. search needs) returns-4 (λ c. search needs) returns-5 returns-6 (λ c κs. search needs) number2-requires (λ c. search needs) returns-7 returns-8)

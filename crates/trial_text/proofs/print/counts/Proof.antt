@@ -5,10 +5,10 @@ use Rattle.trial_text.proofs.print.counts.Statement.{statement}
 use Rattle.trial_text.proofs.print.counts.Tie as tie
 
 abbrev Inv-loop : tie.InvT-loop
-Inv-loop of k₀ k = k ≤ 16
+Inv-loop of k₀ k = k ≤ 21
 
 abbrev μ-loop : tie.MeasureT-loop
-μ-loop of k₀ k = 16 - k
+μ-loop of k₀ k = 21 - k
 
 pub counts-spec : {M : Type 1} → statement M
 counts-spec =
