@@ -1,0 +1,2 @@
+-- Laws of the loops, in the order in which they are used.
+pub mod Candidates
