@@ -10,14 +10,23 @@ use lib.Seq.{getD-set-same, getD-set-other, drop-set-lt}
 use Rattle.day.specs.Sums.{at, below}
 use Rattle.theory.specs.Basics.{upTo, upTo-zero}
 use Rattle.theory.specs.Model.{Model}
-use Rattle.theory.specs.Problem.{Problem, modelOf, model-rising, periods}
+use Rattle.theory.specs.Problem.{Problem, modelOf, model-rising, periods, Bounded}
 use Rattle.theory.specs.Stages.{Solution}
 use Rattle.theory.specs.Uncapped.{price}
 use Rattle.theory.specs.WagnerWhitin.{wagnerWhitin, wagnerWhitin-zero, lot, chosen-cost, chosen-plan}
 use Rattle.uncapped_rows.specs.declared.LastLot.{LastLot}
-use Rattle.uncapped_rows.specs.Bounds.{LowCosts, maxMaking}
+use Rattle.uncapped_rows.specs.Bounds.{LowCosts, Rates, maxMaking}
 use Rattle.uncapped_rows.specs.Lots.{Begins, LastLots}
 use Rattle.uncapped_rows.specs.Rows.{LeastCosts, LastLotOf, RowsWritten}
+
+-- what the table of carried costs is made from
+pub bounded-rates : (p : Problem) → Bounded p → Rates (p .unit) (p .holding)
+bounded-rates p b =
+    record {
+      size = omega (arith, b .holdings, b .units);
+      units = λ k h. b .unit k (omega (arith, b .units));
+      rates = λ k h. b .holding k (omega (arith, b .units));
+    }
 
 -- the areas hold the rows up to m; their cells past n are as they were
 pub record LotRowsTo (p : Problem) (m : ℕ) (costs₀ choices₀ costs choices : List ℕ) : Type 0 where
