@@ -1,5 +1,6 @@
 //! Times the library's paths beside plain programs, and prints the tables of docs/benchmarks.md.
-//! Every figure is the median of several rounds with the smallest and the largest beside it; in a round each program runs once, on the same day.
+//! A figure is the median of several rounds with the smallest and the largest beside it; in a round each program runs once, on the same day.
+//! Of the uncapped path there are figures over many days too: for each day the shortest of many rounds.
 mod methods;
 #[allow(dead_code)]
 #[path = "../../outside/src/plain.rs"]
@@ -7,6 +8,7 @@ mod plain;
 
 use plain::{Day, Path};
 use std::hint::black_box;
+use std::time::Instant;
 use yakkurem::{BigTotals, Memory, Play, TablesMut};
 
 const ROUNDS: usize = 9;
@@ -72,7 +74,10 @@ impl std::fmt::Display for Capacity {
     }
 }
 
-const CAPACITIES: [Capacity; 4] = [Capacity::Drawn, Capacity::One(60), Capacity::One(500), Capacity::One(65_535)];
+/// One that never binds.
+const UNBOUND: Capacity = Capacity::One(65_535);
+
+const CAPACITIES: [Capacity; 4] = [Capacity::Drawn, Capacity::One(60), Capacity::One(500), UNBOUND];
 
 fn library(path: Path, day: &Day, areas: &mut Areas) -> u64 {
     let Day { demand, capacity, setup, unit, holding, store, .. } = day;
@@ -113,15 +118,33 @@ fn now() -> f64 {
     time.seconds as f64 + time.nanoseconds as f64 * 1e-9
 }
 
-/// Seconds of one call, over as many calls as take about 5 ms.
+/// Seconds of one call, over as many calls as take about 5 ms. The clock is read seldom, as that takes longer than the shortest calls.
 fn time(mut call: impl FnMut() -> u64) -> f64 {
-    let mut calls = 0;
-    let start = now();
-    while calls == 0 || now() - start < 0.005 {
-        black_box(call());
-        calls += 1;
+    let (mut calls, start) = (0, now());
+    loop {
+        let more = calls.clamp(1, 100);
+        for _ in 0..more {
+            black_box(call());
+        }
+        calls += more;
+        let seconds = now() - start;
+        if seconds >= 0.005 {
+            return seconds / calls as f64;
+        }
     }
-    (now() - start) / calls as f64
+}
+
+/// Two digits that count.
+fn two_digits(value: f64) -> String {
+    format!("{value:.*}", if value >= 0.1 { 2 } else { 1 + (-value.log10()).ceil() as usize })
+}
+
+fn in_units(seconds: f64) -> String {
+    match seconds * 1e6 {
+        us if us < 10.0 => format!("{us:.2} µs"),
+        us if us < 1e3 => format!("{us:.1} µs"),
+        us => format!("{:.2} ms", us / 1e3),
+    }
 }
 
 /// Median, smallest and largest.
@@ -134,9 +157,7 @@ fn spread(mut values: Vec<f64>) -> Spread {
 
 impl Spread {
     fn ratio(&self) -> String {
-        // two digits that count
-        let short = |v: f64| format!("{v:.*}", if v >= 0.1 { 2 } else { 1 + (-v.log10()).ceil() as usize });
-        format!("{} ({} to {})", short(self.0), short(self.1), short(self.2))
+        format!("{} ({} to {})", two_digits(self.0), two_digits(self.1), two_digits(self.2))
     }
 
     fn percent(&self) -> String {
@@ -144,17 +165,22 @@ impl Spread {
     }
 
     fn time(&self) -> String {
-        let in_units = |seconds: f64| if seconds < 1e-3 { format!("{:.1} µs", seconds * 1e6) } else { format!("{:.2} ms", seconds * 1e3) };
         format!("{} ({} to {})", in_units(self.0), in_units(self.1), in_units(self.2))
     }
+}
+
+/// The cost of the plan, which is the same plan by the library and by the plain program.
+fn agreed(path: Path, day: &Day, ours: &mut Areas, theirs: &mut Areas) -> u64 {
+    let cost = library(path, day, ours);
+    assert_eq!(cost, same_method(path, day, theirs), "the plain program gives another cost");
+    assert_eq!(ours.slots, theirs.slots, "the plain program gives another plan");
+    cost
 }
 
 /// The library's time, and its ratios to the plain program and to recursion (5), round by round.
 fn compare(path: Path, day: &Day) -> (Spread, Spread, Spread) {
     let (mut ours, mut theirs) = (Areas::of(path, day), Areas::of(path, day));
-    let cost = library(path, day, &mut ours);
-    assert_eq!(cost, same_method(path, day, &mut theirs), "the plain program gives another cost");
-    assert_eq!(ours.slots, theirs.slots, "the plain program gives another plan");
+    let cost = agreed(path, day, &mut ours, &mut theirs);
     assert_eq!(Some(cost), plain::recursion(day).map(|p| p.totals.cost), "recursion (5) gives another cost");
     let (mut times, mut to_plain, mut to_letter) = (vec![], vec![], vec![]);
     for _ in 0..ROUNDS {
@@ -172,6 +198,114 @@ fn compare(path: Path, day: &Day) -> (Spread, Spread, Spread) {
 fn alone(path: Path, day: &Day) -> Spread {
     let mut areas = Areas::of(path, day);
     spread((0..ROUNDS).map(|_| time(|| library(path, black_box(day), &mut areas))).collect())
+}
+
+const SHORT_ROUNDS: usize = 100;
+const SHORT_CALLS: usize = 10;
+
+/// Seconds of one call in a short round, by the wall clock: of many rounds the shortest is one that nothing else on the machine disturbed.
+fn in_short_round(mut call: impl FnMut() -> u64) -> f64 {
+    let start = Instant::now();
+    for _ in 0..SHORT_CALLS {
+        black_box(call());
+    }
+    start.elapsed().as_secs_f64() / SHORT_CALLS as f64
+}
+
+/// The time of the uncapped path and of the plain program on each day, the shortest of the rounds. A round goes through all days, so that a
+/// machine that is busy for a while disturbs a few rounds of every day, not all rounds of a few.
+fn both(days: &[Day]) -> Vec<[f64; 2]> {
+    let mut times = vec![[f64::MAX; 2]; days.len()];
+    let [mut ours, mut theirs] = [(); 2].map(|_| Areas::of(Path::Uncapped, &drawn(0, 96)));
+    for _ in 0..SHORT_ROUNDS {
+        for (day, shortest) in days.iter().zip(&mut times) {
+            agreed(Path::Uncapped, day, &mut ours, &mut theirs);
+            let library = in_short_round(|| library(Path::Uncapped, black_box(day), &mut ours));
+            let same = in_short_round(|| same_method(Path::Uncapped, black_box(day), &mut theirs));
+            *shortest = [shortest[0].min(library), shortest[1].min(same)];
+        }
+    }
+    times
+}
+
+/// Of these times the library's, the plain program's, and the ratio of both, day by day.
+fn columns(times: &[[f64; 2]]) -> [Vec<f64>; 3] {
+    let column = |of: fn(&[f64; 2]) -> f64| times.iter().map(of).collect();
+    [column(|both| both[0]), column(|both| both[1]), column(|both| both[0] / both[1])]
+}
+
+/// Cells for the smallest value, 5 % from below, the median, 95 %, and the largest.
+fn quantiles(mut values: Vec<f64>, cell: fn(f64) -> String) -> String {
+    values.sort_by(f64::total_cmp);
+    [0, 5, 50, 95, 100].map(|part| cell(values[part * (values.len() - 1) / 100])).join(" | ")
+}
+
+const MANY_LOADS: u32 = 500;
+
+/// The uncapped path beside the plain program on many loads, by which request 2.13 is judged.
+fn on_many_loads() {
+    println!("\n## The uncapped path beside a plain program\n");
+    println!(
+        "Request 2.13 asks for no more than twice the time of a plain program. This one keeps up the sums of all ½n(n + 1) candidates and drops \
+         none. The days are the loads of seeds 0 to {}; n is 96 and every capacity 65,535. Both give the same plan on each. A time is the \
+         shortest of {SHORT_ROUNDS} rounds of {SHORT_CALLS} calls by the wall clock, both taking turns; the spread is over the days, the ratio \
+         that of both times on a day.\n",
+        MANY_LOADS - 1
+    );
+    println!("| | Smallest | 5 % | Median | 95 % | Largest |");
+    println!("|---|---|---|---|---|---|");
+    let days: Vec<Day> = (0..MANY_LOADS).map(|seed| UNBOUND.set_in(drawn(seed, 96))).collect();
+    let [library, plain, ratio] = columns(&both(&days));
+    println!("| Library | {} |", quantiles(library, in_units));
+    println!("| Plain program | {} |", quantiles(plain, in_units));
+    println!("| Ratio | {} |", quantiles(ratio, two_digits));
+}
+
+const FEW_LOADS: u32 = 50;
+
+/// Days on which a search that drops candidates may take other times: what they are called, n, and what becomes of the drawn day.
+const OTHER_DAYS: [(&str, usize, fn(Day) -> Day); 11] = [
+    ("as drawn", 12, |day| day),
+    ("as drawn", 24, |day| day),
+    ("as drawn", 48, |day| day),
+    ("as drawn", 96, |day| day),
+    ("every cost 0", 96, |day| Day { setup: vec![0; 96], unit: vec![0; 96], holding: vec![0; 96], ..day }),
+    ("every start 15,000, unit cost 600, upkeep 10", 96, |day| Day {
+        setup: vec![15_000; 96],
+        unit: vec![600; 96],
+        holding: vec![10; 96],
+        ..day
+    }),
+    ("unit costs sorted, falling", 96, |mut day| {
+        day.unit.sort_by(|a, b| b.cmp(a));
+        day
+    }),
+    ("unit costs sorted, rising", 96, |mut day| {
+        day.unit.sort();
+        day
+    }),
+    ("no upkeep", 96, |day| Day { holding: vec![0; 96], ..day }),
+    ("no start cost", 96, |day| Day { setup: vec![0; 96], ..day }),
+    ("needs in every sixth period only", 96, |mut day| {
+        (0..96).filter(|i| i % 6 < 5).for_each(|i| day.demand[i] = 0);
+        day
+    }),
+];
+
+/// The same on other days.
+fn on_other_days() {
+    println!(
+        "\nThe same for the loads of seeds 0 to {} with other n, costs and needs: how much it gains to drop candidates depends on them.\n",
+        FEW_LOADS - 1
+    );
+    println!("| Costs and needs | n | Library | Plain program | Ratio |");
+    println!("|---|---|---|---|---|");
+    let loads = |(_, n, change): (_, usize, fn(Day) -> Day)| (0..FEW_LOADS).map(move |seed| change(UNBOUND.set_in(drawn(seed, n))));
+    let days: Vec<Day> = OTHER_DAYS.into_iter().flat_map(loads).collect();
+    for ((name, n, _), times) in OTHER_DAYS.into_iter().zip(both(&days).chunks(FEW_LOADS as usize)) {
+        let [library, plain, ratio] = columns(times).map(spread);
+        println!("| {name} | {n} | {} | {} | {} |", library.time(), plain.time(), ratio.ratio());
+    }
 }
 
 /// The full path on days whose battery is full now and then: the smaller it is, the fewer totals can be reached.
@@ -475,12 +609,13 @@ fn main() {
     );
     println!(
         "The days are test loads of request 2.7, drawn by `yakkurem_test_load` with seed {seed}, the first whose load of 96 periods has a \
-         plan. Where a table names a capacity, a store limit, other start costs or other needs, these take the place of the drawn ones; all else \
-         is as drawn. The days have no charge at their ends, so R is T, and but for two tables no store limits.\n"
+         plan. Where a table names a capacity, a store limit, other costs or other needs, these take the place of the drawn ones; all else is as \
+         drawn. The days have no charge at their ends, so R is T, and but for two tables no store limits.\n"
     );
     println!(
         "Times are the thread's processor time on x86-64 Linux. A figure is the median of {ROUNDS} rounds, with the smallest and the \
-         largest: that spread is the machine's noise. A ratio below 1 means that the library is faster.\n"
+         largest: that spread is the machine's noise. A ratio below 1 means that the library is faster. A section with other seeds, clocks or \
+         spreads says so.\n"
     );
     println!("## Days of 96 periods\n\nR is {}.\n", drawn(seed, 96).total());
     println!("| Path | Capacity | Library | To the plain program | To recursion (5) |");
@@ -495,6 +630,8 @@ fn main() {
             println!("| {name} | {capacity} | {} | {} | {} |", time.time(), plain.ratio(), letter.ratio());
         }
     }
+    on_many_loads();
+    on_other_days();
     without_starts(seed);
     with_store(seed);
     with_ranges(seed);
