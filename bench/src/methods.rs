@@ -66,6 +66,51 @@ pub fn full(day: &Day, costs: &mut [u64], choices: &mut [u16], slots: &mut [u16]
     cost
 }
 
+/// Wagner and Whitin: of the candidates for a row's last lot, from the last to the first, the sums of the report's section 3 are kept up.
+pub fn uncapped(day: &Day, costs: &mut [u64], choices: &mut [u16], slots: &mut [u16]) -> u64 {
+    let n = day.periods();
+    let (demand, setup, unit) = (&day.demand[..n], &day.setup[..n], &day.unit[..n]);
+    let (mut rates, mut begun) = ([0u64; MAX_PERIODS], [0u64; MAX_PERIODS]);
+    for (i, cell) in rates[..n].iter_mut().enumerate() {
+        *cell = rate(day, i);
+    }
+    costs[0] = 0;
+    for m in 0..n {
+        let (mut best, mut from) = (costs[m], m);
+        // to come to m and to start there
+        begun[m] = costs[m] + setup[m] as u64;
+        let mut made = demand[m] as u64;
+        if made > 0 {
+            best = begun[m] + unit[m] as u64 * made;
+            let mut held = 0;
+            let (demand, unit, rates, begun) = (&demand[..m], &unit[..m], &rates[..m], &begun[..m]);
+            for l in (0..m).rev() {
+                held += rates[l] * made;
+                made += demand[l] as u64;
+                let price = begun[l] + unit[l] as u64 * made + held;
+                if price <= best {
+                    (best, from) = (price, l);
+                }
+            }
+        }
+        costs[m + 1] = best;
+        choices[m + 1] = from as u16;
+    }
+    read_lots(day, choices, slots);
+    costs[n]
+}
+
+/// The plan of the last row, from where the last lot of every row begins.
+fn read_lots(day: &Day, choices: &[u16], slots: &mut [u16]) {
+    let mut m = day.periods();
+    slots[..m].fill(0);
+    while m > 0 {
+        let from = choices[m] as usize;
+        slots[from] = day.demand[from..m].iter().sum();
+        m = from;
+    }
+}
+
 /// The least of these, and the first place that has it.
 fn first_least(prices: &[u64]) -> (u64, usize) {
     let (mut least, mut place) = (u64::MAX, 0);
@@ -77,9 +122,9 @@ fn first_least(prices: &[u64]) -> (u64, usize) {
     (least, place)
 }
 
-/// Wagner and Whitin: what each candidate for the last lot costs is kept up from row to row, and none is left out. Of a row's need a unit costs
-/// the candidate's key, which is unit cost and upkeep to the end of the day, less the upkeep from the row on.
-pub fn uncapped(day: &Day, costs: &mut [u64], choices: &mut [u16], slots: &mut [u16]) -> u64 {
+/// The same rows in another order of sums, which suits this machine: what every candidate costs is kept up from row to row. Of a row's need a
+/// unit costs the candidate's key, which is unit cost and upkeep to the end of the day, less the upkeep from the row on.
+pub fn uncapped_row_to_row(day: &Day, costs: &mut [u64], choices: &mut [u16], slots: &mut [u16]) -> u64 {
     let n = day.periods();
     let (demand, setup, unit) = (&day.demand[..n], &day.setup[..n], &day.unit[..n]);
     let (costs, choices) = (&mut costs[..=n], &mut choices[..=n]);
@@ -105,13 +150,7 @@ pub fn uncapped(day: &Day, costs: &mut [u64], choices: &mut [u16], slots: &mut [
         costs[m + 1] = cost;
         choices[m + 1] = from as u16;
     }
-    slots[..n].fill(0);
-    let mut m = n;
-    while m > 0 {
-        let from = choices[m] as usize;
-        slots[from] = day.demand[from..m].iter().sum();
-        m = from;
-    }
+    read_lots(day, choices, slots);
     costs[n]
 }
 
