@@ -1,7 +1,7 @@
--- Why the search for a row's last lot can end early: what is demanded from period l on and made before it costs at least to be made where it is
--- cheapest to be carried from, and to be held on.
+-- Why the search for a row's last lot can end early: what is made before period l for periods from l on costs at least what a unit costs where
+-- it is cheapest to be carried in from, and its upkeep from l on.
 -- Main definition: `carriedTo`. Main statement: `before-dear`. Assumes nothing.
-use mathlib.Core.Path.{_≡_, refl, ap, _∙_}
+use mathlib.Core.Path.{_≡_, ap, _∙_}
 use mathlib.Core.Logic.{⊎-elim}
 use Prim.Native.Nat.{ℕ, zero, suc, _+_, _-_, _*_, _≤_, _<_, min}
 use native.Mathlib.Nat.{eq-or-lt-of-le, le-of-suc-le-suc, mul-add, add-mul, mul-le-mul}
@@ -25,11 +25,6 @@ carried-least unit holding (suc l) j lt =
     (λ (e : j ≡ l). rw e (omega arith))
     (λ h. omega (arith, carried-least unit holding l j h, sum-grows holding j l (omega arith)))
     (eq-or-lt-of-le (le-of-suc-le-suc lt))
-
-pub carried-low : (unit holding : ℕ → ℕ) (n : ℕ) → ((k : ℕ) → k < n → unit k ≤ maxRate) → ((k : ℕ) → k < n → holding k ≤ maxRate)
-    → (l : ℕ) → l ≤ n → carriedTo unit holding l ≤ 2 * maxRate
-carried-low unit holding n u h zero le = omega arith
-carried-low unit holding n u h (suc l) le = omega (arith, u l le, h l le)
 
 -- y units more cost at least their unit cost
 making-more : (b p x y z : ℕ) → z ≡ x + y → making b p x + p * y ≤ making b p z

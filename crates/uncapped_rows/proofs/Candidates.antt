@@ -21,7 +21,7 @@ use Rattle.theory.specs.Carried.{carriedTo, carried-least, before-dear}
 use Rattle.uncapped_rows.specs.declared.LastLot.{LastLot}
 use Rattle.uncapped_rows.specs.declared.Upkeep.{Upkeep}
 use Rattle.uncapped_rows.specs.Bounds.{LotFits, SumFits, maxMaking, maxHolding}
-use Rattle.uncapped_rows.specs.Rows.{better, lotCost, heldThrough, carriedOf, Least, CheapestOf, SummedTo, NextRowReady, LastLotOf}
+use Rattle.uncapped_rows.specs.Rows.{better, lotCost, heldThrough, Least, CheapestOf, SummedTo, NextRowReady, LastLotOf}
 
 -- candidates that are dearer than the best are passed over
 dearer-least : (f : ℕ → ℕ) (m l l′ : ℕ) (best : LastLot) → l′ ≤ l → ((j : ℕ) → l′ ≤ j → j < l → best .cost < f j) → Least f m l best → Least f m l′ best

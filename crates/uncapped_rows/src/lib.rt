@@ -43,7 +43,7 @@ fn lot_cost(setup: &[u32], unit: &[u32], costs: &[u64], l: usize, made: u64) -> 
     costs[l] + terms::making_cost(setup[l], unit[l], made)
 }
 
-// What it costs at least to come to l and to have the lot of candidate l carried in from before.
+// What it costs at least to come to l and to have all that is needed from there on carried in from before.
 fn carried_cost(carried: &[u32], costs: &[u64], l: usize, made: u64) -> u64
     requires { ⌜ l < length (now carried) ⌝ }
     requires { ⌜ LotFits (now costs) l made ⌝ }
@@ -57,8 +57,8 @@ fn hold(s: Upkeep, demand: u16, holding: u32) -> Upkeep
     requires { ⌜ SumFits s demand ⌝ }
     ensures { λ r. ⌜ r ≡ heldThrough s demand holding ⌝ }
 {
-    let held = s.held + terms::holding_cost(holding, s.left);
     let left = s.left + (demand as u64);
+    let held = s.held + terms::holding_cost(holding, s.left);
     Upkeep { left, held }
 }
 
@@ -93,6 +93,7 @@ fn cheapest(
         l -= 1;
         made += demand[l] as u64;
         let paid = lot_cost(setup, unit, costs, l, made);
+        // its upkeep: strictly above the best it is dropped, and one that only equals the best is carried on
         while l < i {
             if best.cost < paid + s.held {
                 continue 'candidates;

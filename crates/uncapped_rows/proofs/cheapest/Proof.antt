@@ -1,7 +1,7 @@
 -- `uncapped_rows::cheapest` meets its contract. The invariants: the search has come down to candidate l; of the upkeep, that down to i is
 -- summed. Assumes nothing.
 use mathlib.Core.Path.{_≡_}
-use Prim.Native.Nat.{ℕ, suc, _+_, _-_, _*_, _^_, _≤_, _<_}
+use Prim.Native.Nat.{ℕ, suc, _+_, _-_, _^_, _≤_, _<_}
 use native.Mathlib.Omega.{arith}
 use Rattle.day.specs.Sums.{at}
 use Rattle.day.specs.Day.{maxPeriods}

@@ -1,6 +1,6 @@
 -- `uncapped_rows::fill_carried` meets its contract. The invariant: the cells before l are filled in, and what goes into cell l is at hand.
 -- Assumes nothing.
-use mathlib.Core.Path.{_≡_, refl, sym, ap, _∙_}
+use mathlib.Core.Path.{_≡_, refl, sym, _∙_}
 use mathlib.Core.List.{List}
 use Prim.Native.Nat.{ℕ, suc, _-_, _≤_, _<_}
 use native.Mathlib.Numerals.{add-one}
