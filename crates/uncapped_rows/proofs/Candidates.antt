@@ -19,9 +19,9 @@ use Rattle.theory.specs.Problem.{Problem, modelOf, model-rising, demandTo, peri
 use Rattle.theory.specs.Uncapped.{price, held}
 use Rattle.theory.specs.Carried.{carriedTo, carried-least, before-dear}
 use Rattle.uncapped_rows.specs.declared.LastLot.{LastLot}
-use Rattle.uncapped_rows.specs.declared.Upkeep.{Upkeep}
+use Rattle.uncapped_rows.specs.declared.Holding.{Holding}
 use Rattle.uncapped_rows.specs.Bounds.{LotFits, SumFits, maxMaking, maxHolding}
-use Rattle.uncapped_rows.specs.Rows.{better, lotCost, heldThrough, Least, CheapestOf, SummedTo, NextRowReady, LastLotOf}
+use Rattle.uncapped_rows.specs.Rows.{better, lotCost, heldThrough, Least, CheapestOf, NextRowReady, LastLotOf}
 
 -- candidates that are dearer than the best are passed over
 dearer-least : (f : ℕ → ℕ) (m l l′ : ℕ) (best : LastLot) → l′ ≤ l → ((j : ℕ) → l′ ≤ j → j < l → best .cost < f j) → Least f m l best → Least f m l′ best
@@ -53,11 +53,18 @@ better-least f m j best price e c = go (decLe price (best .cost))
         }
     go (no l) = dropped-least f m j best (omega arith) c
 
+-- the upkeep of row m + 1 is summed down to period i
+pub record SummedTo (p : Problem) (m i : ℕ) (s : Holding) : Type 0 where
+  pub inside : i ≤ m
+  pub lot : s .left + demandTo p i ≡ demandTo p (suc m)
+  pub kept : s .held + held (modelOf p) (suc m) i ≡ held (modelOf p) (suc m) (suc m)
+  pub low : s .held + i * maxHolding ≤ m * maxHolding
+
 -- the search has come down to candidate l, whose lot is `made`; of the upkeep, that down to i is summed
-pub record SearchedTo (p : Problem) (costs : ℕ → ℕ) (m l made i : ℕ) (s : Upkeep) (best : LastLot) : Type 0 where
+pub record SearchedTo (p : Problem) (costs : ℕ → ℕ) (m l made i : ℕ) (s : Holding) (best : LastLot) : Type 0 where
   pub order : l ≤ i
   pub lot : made + demandTo p l ≡ demandTo p (suc m)
-  pub upkeep : SummedTo p m i s
+  pub holding : SummedTo p m i s
   pub cheapest : CheapestOf p costs m l best
 
 module _ {p : Problem} {carried costs : List ℕ} {m : ℕ} (ready : NextRowReady p carried costs m) where
@@ -98,11 +105,11 @@ module _ {p : Problem} {carried costs : List ℕ} {m : ℕ} (ready : NextRowRead
   unheld : M .holding m * (M .floor (suc m) - M .floor (suc m)) ≡ 0
   unheld = let e : M .floor (suc m) - M .floor (suc m) ≡ 0 = omega arith in omega (arith, ap (λ (v : ℕ). M .holding m * v) e)
 
-  pub held-low : {i : ℕ} {s : Upkeep} → SummedTo p m i s → s .held ≤ maxPeriods * maxHolding
+  pub held-low : {i : ℕ} {s : Holding} → SummedTo p m i s → s .held ≤ maxPeriods * maxHolding
   held-low summed = omega (arith, summed .low, ready .inside, ready .bounded .few)
 
   -- The sum goes on from i = k + 1 to k.
-  module _ (i k : ℕ) {s : Upkeep} (e : i ≡ suc k) (summed : SummedTo p m i s) where
+  module _ (i k : ℕ) {s : Holding} (e : i ≡ suc k) (summed : SummedTo p m i s) where
     before : SummedTo p m (suc k) s
     before = rw e at summed
 
@@ -129,7 +136,7 @@ module _ {p : Problem} {carried costs : List ℕ} {m : ℕ} (ready : NextRowRead
 
   -- Candidate j is priced, whose lot is `made`, once the upkeep is summed down to i.
   module _ (j made : ℕ) (lot : made + demandTo p j ≡ demandTo p (suc m))
-      (paid : ℕ) (pays : paid ≡ lotCost (p .setup) (p .unit) (at costs) j made) {i : ℕ} {s : Upkeep} (summed : SummedTo p m i s) where
+      (paid : ℕ) (pays : paid ≡ lotCost (p .setup) (p .unit) (at costs) j made) {i : ℕ} {s : Holding} (summed : SummedTo p m i s) where
     whole : paid + (held M (suc m) (suc m) - held M (suc m) j) ≡ price M (at costs) (suc m) j
     whole = omega (arith, pays, ap (making (M .setup j) (M .unit j)) amount)
       where
@@ -148,19 +155,19 @@ module _ {p : Problem} {carried costs : List ℕ} {m : ℕ} (ready : NextRowRead
       record {
         order = omega arith;
         lot = omega arith;
-        upkeep = record { inside = omega arith; lot = omega arith; kept = omega (arith, unheld); low = omega arith };
+        holding = record { inside = omega arith; lot = omega arith; kept = omega (arith, unheld); low = omega arith };
         cheapest = c;
       }
 
-  module _ {l made i₀ : ℕ} {s₀ : Upkeep} {best : LastLot} (t : SearchedTo p (at costs) m l made i₀ s₀ best) where
+  module _ {l made i₀ : ℕ} {s₀ : Holding} {best : LastLot} (t : SearchedTo p (at costs) m l made i₀ s₀ best) where
     pub searched-inside : l ≤ m
-    searched-inside = omega (arith, t .order, t .upkeep .inside)
+    searched-inside = omega (arith, t .order, t .holding .inside)
 
     -- Where what is carried in from before passes the best, no earlier candidate is tried.
     pub searched-left : best .cost < at costs l + at carried l * made + s₀ .held → CheapestOf p (at costs) m 0 best
     searched-left dear =
         dearer-least (price M (at costs) (suc m)) m l 0 best (omega arith)
-        (λ j a h. omega (arith, bound j h, amount, held-grows l i₀ (t .order), t .upkeep .kept)) (t .cheapest)
+        (λ j a h. omega (arith, bound j h, amount, held-grows l i₀ (t .order), t .holding .kept)) (t .cheapest)
       where
         w : ℕ
         w = carriedTo (at (p .unit)) (at (p .holding)) l
@@ -181,7 +188,7 @@ module _ {p : Problem} {carried costs : List ℕ} {m : ℕ} (ready : NextRowRead
       pub lot-more : (made + r j) + demandTo p j ≡ demandTo p (suc m)
       lot-more = let all = rw e at (t .lot) in omega (arith, all)
 
-      module _ {paid : ℕ} (pays : paid ≡ lotCost (p .setup) (p .unit) (at costs) j (made + r j)) {i : ℕ} {s : Upkeep} (summed : SummedTo p m i s) where
+      module _ {paid : ℕ} (pays : paid ≡ lotCost (p .setup) (p .unit) (at costs) j (made + r j)) {i : ℕ} {s : Holding} (summed : SummedTo p m i s) where
         later : CheapestOf p (at costs) m (suc j) best
         later = rw e at (t .cheapest)
 
@@ -191,7 +198,7 @@ module _ {p : Problem} {carried costs : List ℕ} {m : ℕ} (ready : NextRowRead
             record {
               order = h;
               lot = lot-more;
-              upkeep = summed;
+              holding = summed;
               cheapest = dropped-least (price M (at costs) (suc m)) m j best
                   (omega (arith, price-part j (made + r j) lot-more paid pays summed h)) later;
             }
@@ -202,7 +209,7 @@ module _ {p : Problem} {carried costs : List ℕ} {m : ℕ} (ready : NextRowRead
             record {
               order = h;
               lot = lot-more;
-              upkeep = summed;
+              holding = summed;
               cheapest = better-least (price M (at costs) (suc m)) m j best (paid + s .held)
                   (price-all j (made + r j) lot-more paid pays summed (omega arith)) later;
             }

@@ -8,7 +8,7 @@ use lib.ListN.{length, replicate}
 use Rattle.day.specs.Sums.{at}
 use Rattle.day.specs.Day.{maxPeriods, maxCapacity, maxSetup, maxRate, maxTotal}
 use Rattle.theory.specs.Problem.{Problem, problemWith}
-use Rattle.uncapped_rows.specs.declared.Upkeep.{Upkeep}
+use Rattle.uncapped_rows.specs.declared.Holding.{Holding}
 
 -- what these loops run on: they read no capacity, so every period has the largest there is, which is above all demand
 abbrev pub uncapacitated : (demand setup unit holding : List ℕ) → Problem
@@ -32,7 +32,7 @@ pub record LotFits (costs : List ℕ) (l made : ℕ) : Type 0 where
   pub few : made ≤ maxTotal
 
 -- there is room for one period more in the sum, in which r is demanded
-pub record SumFits (s : Upkeep) (r : ℕ) : Type 0 where
+pub record SumFits (s : Holding) (r : ℕ) : Type 0 where
   pub held : s .held ≤ maxPeriods * maxHolding
   pub left : s .left + r ≤ maxTotal
 

@@ -10,13 +10,13 @@ use lib.ListN.{length, drop}
 use Rattle.day.specs.Sums.{at, listOf}
 use Rattle.day.specs.Plan.{making}
 use Rattle.theory.specs.Basics.{pick}
-use Rattle.theory.specs.Problem.{Problem, modelOf, Bounded, periods, demandTo}
+use Rattle.theory.specs.Problem.{Problem, modelOf, Bounded, periods}
 use Rattle.theory.specs.Uncapped.{price, held}
 use Rattle.theory.specs.Carried.{carriedTo}
 use Rattle.theory.specs.WagnerWhitin.{Chosen, wagnerWhitin}
 use Rattle.uncapped_rows.specs.declared.LastLot.{LastLot}
-use Rattle.uncapped_rows.specs.declared.Upkeep.{Upkeep}
-use Rattle.uncapped_rows.specs.Bounds.{maxMaking, maxHolding, LowCosts}
+use Rattle.uncapped_rows.specs.declared.Holding.{Holding}
+use Rattle.uncapped_rows.specs.Bounds.{maxMaking, LowCosts}
 use Rattle.uncapped_rows.specs.Lots.{Begins, LastLots}
 
 -- candidate l at its price, where it is no dearer than the best of the later ones: of equals the earliest
@@ -28,7 +28,7 @@ abbrev pub lotCost : (setup unit : List ℕ) (costs : ℕ → ℕ) (l made : ℕ
 lotCost setup unit costs l made = costs l + making (at setup l) (at unit l) made
 
 -- upkeep summed one period further down, in which r is demanded and a unit left costs h
-abbrev pub heldThrough : Upkeep → (r h : ℕ) → Upkeep
+abbrev pub heldThrough : Holding → (r h : ℕ) → Holding
 heldThrough s r h = record { left = s .left + r; held = s .held + h * s .left }
 
 -- what a unit costs at least that is carried into each period
@@ -46,13 +46,6 @@ pub record Least (f : ℕ → ℕ) (m l : ℕ) (r : LastLot) : Type 0 where
 -- the cheapest of the candidates l .. m for the last lot of row m + 1
 abbrev pub CheapestOf : (p : Problem) (costs : ℕ → ℕ) (m l : ℕ) → LastLot → Type 0
 CheapestOf p costs m l r = Least (price (modelOf p) costs (suc m)) m l r
-
--- the upkeep of row m + 1 is summed down to period i
-pub record SummedTo (p : Problem) (m i : ℕ) (s : Upkeep) : Type 0 where
-  pub inside : i ≤ m
-  pub lot : s .left + demandTo p i ≡ demandTo p (suc m)
-  pub kept : s .held + held (modelOf p) (suc m) i ≡ held (modelOf p) (suc m) (suc m)
-  pub low : s .held + i * maxHolding ≤ m * maxHolding
 
 -- no row up to m costs more than to come to it from an earlier one
 abbrev pub LeastCosts : Problem → (ℕ → ℕ) → ℕ → Type 0

@@ -16,7 +16,7 @@ pub struct LastLot {
 }
 
 // Upkeep summed from a row's end down to a period: what has to be there when the period begins, and what holding costs from then on.
-pub struct Upkeep {
+pub struct Holding {
     pub left: u64,
     pub held: u64,
 }
@@ -53,13 +53,13 @@ fn carried_cost(carried: &[u32], costs: &[u64], l: usize, made: u64) -> u64
 }
 
 // One period further down: what was there when the next one began was held through it.
-fn hold(s: Upkeep, demand: u16, holding: u32) -> Upkeep
+fn hold(s: Holding, demand: u16, holding: u32) -> Holding
     requires { ⌜ SumFits s demand ⌝ }
     ensures { λ r. ⌜ r ≡ heldThrough s demand holding ⌝ }
 {
     let left = s.left + (demand as u64);
     let held = s.held + terms::holding_cost(holding, s.left);
-    Upkeep { left, held }
+    Holding { left, held }
 }
 
 // The rest of the search for row m + 1, once its last candidate is tried. A dropped candidate leaves the upkeep where it is summed to, and the
@@ -82,7 +82,7 @@ fn cheapest(
     let mut l = m;
     let mut made = demand[m] as u64;
     let mut i = m;
-    let mut s = Upkeep {
+    let mut s = Holding {
         left: made,
         held: 0,
     };

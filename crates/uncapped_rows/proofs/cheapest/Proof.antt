@@ -7,8 +7,8 @@ use Rattle.day.specs.Sums.{at}
 use Rattle.day.specs.Day.{maxPeriods}
 use Rattle.theory.specs.Problem.{Problem}
 use Rattle.uncapped_rows.specs.Bounds.{uncapacitated, LotFits}
-use Rattle.uncapped_rows.specs.Rows.{SummedTo, NextRowReady}
-use Rattle.uncapped_rows.proofs.Candidates.{SearchedTo, lot-fits, carried-cell, held-low, sum-fits, summed-more}
+use Rattle.uncapped_rows.specs.Rows.{NextRowReady}
+use Rattle.uncapped_rows.proofs.Candidates.{SummedTo, SearchedTo, lot-fits, carried-cell, held-low, sum-fits, summed-more}
 use Rattle.uncapped_rows.proofs.Candidates.{searched-none, searched-inside, searched-left, lot-more, searched-dropped, searched-more}
 use Rattle.uncapped_rows.proofs.cheapest.Statement.{statement}
 use Rattle.uncapped_rows.proofs.cheapest.Tie as tie
@@ -70,7 +70,7 @@ carried-cost-requires c κs =
 add-if1 : tie.Need-add-if1 Inv-loop μ-loop Inv-candidates μ-candidates
 add-if1 c =
     let t = c .before .before .before in
-    omega (arith, c .before .carried-cost .ensures .low, held-low (ready t) (t .candidates .inv .upkeep))
+    omega (arith, c .before .carried-cost .ensures .low, held-low (ready t) (t .candidates .inv .holding))
 
 returns : tie.Need-returns Inv-loop μ-loop Inv-candidates μ-candidates
 returns c =
@@ -104,7 +104,7 @@ lot-cost-requires c κs =
     )
 
 loop-holds : tie.Need-loop-holds Inv-loop μ-loop Inv-candidates μ-candidates
-loop-holds c = let w = at-paid c .candidates .inv in (omega (arith, w .order), w .upkeep)
+loop-holds c = let w = at-paid c .candidates .inv in (omega (arith, w .order), w .holding)
 
 -- Where the candidate's upkeep is summed down to i.
 module _ (q : tie.At-loop Inv-loop μ-loop Inv-candidates μ-candidates) where
