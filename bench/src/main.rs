@@ -612,8 +612,8 @@ fn main() {
     println!(
         "Written by `bench/run`: the library's paths beside plain Rust programs of the same methods (`bench/src/methods.rs`) and beside \
          recursion (5) by its letter (`outside/src/plain.rs`), which knows no bounds on the totals. Same process, same days, both built for \
-         release; all work on lent memory that was not cleared before a call. The library also tests the tables and clears its areas; the \
-         plain programs do neither. Recursion (5) by its letter allocates its rows.\n"
+         release; all work on lent memory that was not cleared before a call. The library also tests the tables, clears its areas and \
+         weighs its plan; the plain programs do none of these. Recursion (5) by its letter allocates its rows.\n"
     );
     println!(
         "The days are test loads of request 2.7, drawn by `yakkurem_test_load` with seed {seed}, the first whose load of 96 periods has a \

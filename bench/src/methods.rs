@@ -122,8 +122,8 @@ fn first_least(prices: &[u64]) -> (u64, usize) {
     (least, place)
 }
 
-/// The same rows in another order of sums, which suits this machine: what every candidate costs is kept up from row to row. Of a row's need a
-/// unit costs the candidate's key, which is unit cost and upkeep to the end of the day, less the upkeep from the row on.
+/// The same rows in another order of sums, which a compiler can turn into vector code: what every candidate costs is kept up from row to row.
+/// Of a row's need a unit costs the candidate's key, which is unit cost and upkeep to the end of the day, less the upkeep from the row on.
 pub fn uncapped_row_to_row(day: &Day, costs: &mut [u64], choices: &mut [u16], slots: &mut [u16]) -> u64 {
     let n = day.periods();
     let (demand, setup, unit) = (&day.demand[..n], &day.setup[..n], &day.unit[..n]);

@@ -412,7 +412,8 @@ impl Run {
     }
 }
 
-/// On one in how many days like this recursion (5) is gone through by its letter: it takes long where much is made, and at the limits too long.
+/// On one in how many days like this recursion (5) is gone through by its letter: it takes long where much is made, and too long where 2,500 units
+/// or more are made in 96 periods.
 fn one_in(day: &plain::Day) -> usize {
     let whole = day.least_by(day.periods());
     match day.periods() as u64 * whole * whole {

@@ -1,5 +1,5 @@
--- Why the search for a row's last lot can end early: what is made before period l for periods from l on costs at least what a unit costs where
--- it is cheapest to be carried in from, and its upkeep from l on.
+-- Why the search for a row's last lot can end early: what an earlier period makes for l and after costs for each unit at least what the cheapest
+-- one carried into l costs (`carriedTo`), and its upkeep from l on.
 -- Main definition: `carriedTo`. Main statement: `before-dear`. Assumes nothing.
 use mathlib.Core.Path.{_≡_, ap, _∙_}
 use mathlib.Core.Logic.{⊎-elim}
@@ -13,11 +13,13 @@ use Rattle.theory.specs.Model.{Model, Rising}
 use Rattle.theory.specs.Cut.{floor-grows}
 use Rattle.theory.specs.Uncapped.{held, price}
 
--- the least that a unit costs which is made in one of the first l periods and held through these; before the first, what none costs more than
+-- the least that a unit costs which is made in one of the first l periods and held from there to their end; for l = 0 there is none, and the
+-- limit of a unit cost stands there
 abbrev pub carriedTo : (unit holding : ℕ → ℕ) → ℕ → ℕ
 carriedTo unit holding zero = maxRate
 carriedTo unit holding (suc l) = min (carriedTo unit holding l) (unit l) + holding l
 
+-- no unit that is made before l is carried in for less
 pub carried-least : (unit holding : ℕ → ℕ) (l j : ℕ) → j < l → carriedTo unit holding l ≤ unit j + (sumTo holding l - sumTo holding j)
 carried-least unit holding zero j lt = absurd (omega arith)
 carried-least unit holding (suc l) j lt =
@@ -49,7 +51,7 @@ module _ (M : Model) (rising : Rising M) (l m : ℕ) (le : l ≤ m) where
       each : M .holding i * (M .floor m - M .floor (suc i)) ≡ M .holding i * (M .floor l - M .floor (suc i)) + M .holding i * more
       each = ap (λ (v : ℕ). M .holding i * v) amount ∙ mul-add (M .holding i) (M .floor l - M .floor (suc i)) more
 
-  -- A lot of an earlier period j that serves all to m: to come to l, a unit cost w for the rest, and holding from l on is not more.
+  -- A lot in an earlier period j that serves all to m costs no less than to come to l, w for each unit of the rest, and to hold these from l on.
   pub before-dear : (costs : ℕ → ℕ) (j w : ℕ) → j < l → costs l ≤ price M costs l j
       → w ≤ M .unit j + (sumTo (M .holding) l - sumTo (M .holding) j)
       → costs l + w * more + (held M m m - held M m l) ≤ price M costs m j

@@ -74,7 +74,7 @@ module _ {p : Problem} {carried costs : List ℕ} {m : ℕ} (ready : NextRowRead
   abbrev r : ℕ → ℕ
   r = at (p .demand)
 
-  -- what periods up to k cost, of what is demanded by the row's end, to be held through: it grows
+  -- to hold what is demanded by the row's end costs no less through more periods
   held-grows : (j k : ℕ) → j ≤ k → held M (suc m) j ≤ held M (suc m) k
   held-grows = sum-grows (λ k. M .holding k * (M .floor (suc m) - M .floor (suc k)))
 
@@ -102,6 +102,7 @@ module _ {p : Problem} {carried costs : List ℕ} {m : ℕ} (ready : NextRowRead
       ap (λ (cells : List ℕ). at cells l) (ready .carries)
       ∙ at-listOf (carriedTo (at (p .unit)) (at (p .holding))) (length (p .unit)) l (omega (arith, ready .inside, ready .bounded .units))
 
+  -- nothing is held through the row's last period
   unheld : M .holding m * (M .floor (suc m) - M .floor (suc m)) ≡ 0
   unheld = let e : M .floor (suc m) - M .floor (suc m) ≡ 0 = omega arith in omega (arith, ap (λ (v : ℕ). M .holding m * v) e)
 

@@ -1,5 +1,5 @@
 -- The problem that the loops of the uncapped path run on, and how large its costs can grow: amounts are bounded by the demand of all periods,
--- rates and setup costs by their limits.
+-- rates and setup costs by their limits. What each step asks so that no sum overflows.
 -- Main definition: `uncapacitated`. Assumes nothing.
 use mathlib.Core.Path.{_≡_}
 use mathlib.Core.List.{List}

@@ -1,7 +1,7 @@
 -- The search for a row of Wagner and Whitin (report, section 3): the candidates l for the last lot of the first m + 1 periods, from m down
 -- to 0. Candidate l makes in period l + 1 all that is demanded from there to period m + 1.
 -- What the areas hold once every row is found: cell m of the choice area says where the last lot of row m begins.
--- Main definitions: `Least`, `LastLotOf`, `RowsWritten`. Assumes nothing.
+-- Main definitions: `Least`, `CheapestOf`, `LastLotOf`, `RowsWritten`. Assumes nothing.
 use mathlib.Core.Path.{_≡_}
 use mathlib.Core.List.{List}
 use Prim.Native.Nat.{ℕ, suc, _+_, _*_, _≤_, _<_}
@@ -11,7 +11,7 @@ use Rattle.day.specs.Sums.{at, listOf}
 use Rattle.day.specs.Plan.{making}
 use Rattle.theory.specs.Basics.{pick}
 use Rattle.theory.specs.Problem.{Problem, modelOf, Bounded, periods}
-use Rattle.theory.specs.Uncapped.{price, held}
+use Rattle.theory.specs.Uncapped.{price}
 use Rattle.theory.specs.Carried.{carriedTo}
 use Rattle.theory.specs.WagnerWhitin.{Chosen, wagnerWhitin}
 use Rattle.uncapped_rows.specs.declared.LastLot.{LastLot}

@@ -15,7 +15,7 @@ pub struct LastLot {
     pub from: usize,
 }
 
-// Upkeep summed from a row's end down to a period: what has to be there when the period begins, and what holding costs from then on.
+// Upkeep summed from a row's end down to a period: what has to be left when that period begins, and what holding costs from then on.
 pub struct Holding {
     pub left: u64,
     pub held: u64,
@@ -52,7 +52,7 @@ fn carried_cost(carried: &[u32], costs: &[u64], l: usize, made: u64) -> u64
     costs[l] + terms::holding_cost(carried[l], made)
 }
 
-// One period further down: what was there when the next one began was held through it.
+// The sum one period further down: what has to be left after that period is held through it, and its own demand is added.
 fn hold(s: Holding, demand: u16, holding: u32) -> Holding
     requires { ⌜ SumFits s demand ⌝ }
     ensures { λ r. ⌜ r ≡ heldThrough s demand holding ⌝ }
@@ -63,7 +63,7 @@ fn hold(s: Holding, demand: u16, holding: u32) -> Holding
 }
 
 // The rest of the search for row m + 1, once its last candidate is tried. A dropped candidate leaves the upkeep where it is summed to, and the
-// next one carries on from there. The row is left where even what is carried in from before at the least cost passes the best.
+// next one carries on from there. The row is left where the least that any earlier candidate can cost passes the best.
 fn cheapest(
     demand: &[u16],
     setup: &[u32],
@@ -142,7 +142,8 @@ fn carry(carried: u32, unit: u32, holding: u32) -> u32
     unit + holding
 }
 
-// For every period what a unit costs at least that is carried into it.
+// For every period what a unit costs at least that is carried into it. Into the first none is: the limit of a unit cost stands there, so that
+// its own is the least.
 fn fill_carried(unit: &[u32], holding: &[u32], carried: &mut [u32])
     requires { ⌜ length (now carried) ≡ length (now unit) ⌝ }
     requires { ⌜ Rates (now unit) (now holding) ⌝ }
