@@ -1,5 +1,6 @@
 //! Times the library's paths beside plain programs, and prints the tables of docs/benchmarks.md.
-//! Every figure is the median of several rounds with the smallest and the largest beside it; in a round each program runs once, on the same day.
+//! A figure is the median of several rounds with the smallest and the largest beside it; in a round each program runs once, on the same day.
+//! Of the uncapped path there are figures over many days too: for each day the shortest of many rounds.
 mod methods;
 #[allow(dead_code)]
 #[path = "../../outside/src/plain.rs"]
@@ -7,6 +8,7 @@ mod plain;
 
 use plain::{Day, Path};
 use std::hint::black_box;
+use std::time::Instant;
 use yakkurem::{BigTotals, Memory, Play, TablesMut};
 
 const ROUNDS: usize = 9;
@@ -72,7 +74,10 @@ impl std::fmt::Display for Capacity {
     }
 }
 
-const CAPACITIES: [Capacity; 4] = [Capacity::Drawn, Capacity::One(60), Capacity::One(500), Capacity::One(65_535)];
+/// One that never binds.
+const UNBOUND: Capacity = Capacity::One(65_535);
+
+const CAPACITIES: [Capacity; 4] = [Capacity::Drawn, Capacity::One(60), Capacity::One(500), UNBOUND];
 
 fn library(path: Path, day: &Day, areas: &mut Areas) -> u64 {
     let Day { demand, capacity, setup, unit, holding, store, .. } = day;
@@ -113,15 +118,33 @@ fn now() -> f64 {
     time.seconds as f64 + time.nanoseconds as f64 * 1e-9
 }
 
-/// Seconds of one call, over as many calls as take about 5 ms.
+/// Seconds of one call, over as many calls as take about 5 ms. The clock is read seldom, as that takes longer than the shortest calls.
 fn time(mut call: impl FnMut() -> u64) -> f64 {
-    let mut calls = 0;
-    let start = now();
-    while calls == 0 || now() - start < 0.005 {
-        black_box(call());
-        calls += 1;
+    let (mut calls, start) = (0, now());
+    loop {
+        let more = calls.clamp(1, 100);
+        for _ in 0..more {
+            black_box(call());
+        }
+        calls += more;
+        let seconds = now() - start;
+        if seconds >= 0.005 {
+            return seconds / calls as f64;
+        }
     }
-    (now() - start) / calls as f64
+}
+
+/// Two digits that count.
+fn two_digits(value: f64) -> String {
+    format!("{value:.*}", if value >= 0.1 { 2 } else { 1 + (-value.log10()).ceil() as usize })
+}
+
+fn in_units(seconds: f64) -> String {
+    match seconds * 1e6 {
+        us if us < 10.0 => format!("{us:.2} µs"),
+        us if us < 1e3 => format!("{us:.1} µs"),
+        us => format!("{:.2} ms", us / 1e3),
+    }
 }
 
 /// Median, smallest and largest.
@@ -134,9 +157,7 @@ fn spread(mut values: Vec<f64>) -> Spread {
 
 impl Spread {
     fn ratio(&self) -> String {
-        // two digits that count
-        let short = |v: f64| format!("{v:.*}", if v >= 0.1 { 2 } else { 1 + (-v.log10()).ceil() as usize });
-        format!("{} ({} to {})", short(self.0), short(self.1), short(self.2))
+        format!("{} ({} to {})", two_digits(self.0), two_digits(self.1), two_digits(self.2))
     }
 
     fn percent(&self) -> String {
@@ -144,7 +165,6 @@ impl Spread {
     }
 
     fn time(&self) -> String {
-        let in_units = |seconds: f64| if seconds < 1e-3 { format!("{:.1} µs", seconds * 1e6) } else { format!("{:.2} ms", seconds * 1e3) };
         format!("{} ({} to {})", in_units(self.0), in_units(self.1), in_units(self.2))
     }
 }
@@ -172,6 +192,128 @@ fn compare(path: Path, day: &Day) -> (Spread, Spread, Spread) {
 fn alone(path: Path, day: &Day) -> Spread {
     let mut areas = Areas::of(path, day);
     spread((0..ROUNDS).map(|_| time(|| library(path, black_box(day), &mut areas))).collect())
+}
+
+const SHORT_ROUNDS: usize = 100;
+const SHORT_CALLS: usize = 10;
+
+/// Seconds of one call in a short round, by the wall clock: of many rounds the shortest is one that nothing else on the machine disturbed.
+fn in_short_round(mut call: impl FnMut() -> u64) -> f64 {
+    let start = Instant::now();
+    for _ in 0..SHORT_CALLS {
+        black_box(call());
+    }
+    start.elapsed().as_secs_f64() / SHORT_CALLS as f64
+}
+
+type Method = fn(&Day, &mut Areas) -> u64;
+
+/// The uncapped path, and two plain programs of its method: with sums kept up from candidate to candidate, and from row to row.
+const UNCAPPED: [Method; 3] = [
+    |day, areas| library(Path::Uncapped, day, areas),
+    |day, areas| same_method(Path::Uncapped, day, areas),
+    |day, areas| methods::uncapped_row_to_row(day, &mut areas.costs, &mut areas.choices, &mut areas.slots),
+];
+
+/// The time of each of these on each day, the shortest of the rounds. A round goes through all days, so that a machine that is busy for a
+/// while disturbs a few rounds of every day, not all rounds of a few.
+fn shortest(days: &[Day]) -> Vec<[f64; 3]> {
+    let mut times = vec![[f64::MAX; 3]; days.len()];
+    let mut areas = UNCAPPED.map(|_| Areas::of(Path::Uncapped, &drawn(0, 96)));
+    for _ in 0..SHORT_ROUNDS {
+        for (day, times) in days.iter().zip(&mut times) {
+            let costs = [0, 1, 2].map(|k| UNCAPPED[k](day, &mut areas[k]));
+            assert!(costs.iter().all(|&cost| cost == costs[0]), "a plain program gives another cost");
+            assert!(areas.iter().all(|other| other.slots == areas[0].slots), "a plain program gives another plan");
+            for k in 0..3 {
+                times[k] = times[k].min(in_short_round(|| UNCAPPED[k](black_box(day), &mut areas[k])));
+            }
+        }
+    }
+    times
+}
+
+/// Of these times each program's, day by day, and the library's to the plain ones'.
+fn columns(times: &[[f64; 3]]) -> [Vec<f64>; 5] {
+    let column = |of: fn(&[f64; 3]) -> f64| times.iter().map(of).collect();
+    [column(|t| t[0]), column(|t| t[1]), column(|t| t[2]), column(|t| t[0] / t[1]), column(|t| t[0] / t[2])]
+}
+
+/// Cells for the smallest value, 5 % from below, the median, 95 %, and the largest.
+fn quantiles(mut values: Vec<f64>, cell: fn(f64) -> String) -> String {
+    values.sort_by(f64::total_cmp);
+    [0, 5, 50, 95, 100].map(|part| cell(values[part * (values.len() - 1) / 100])).join(" | ")
+}
+
+const MANY_LOADS: u32 = 500;
+
+/// The uncapped path beside plain programs on many loads, by which request 2.13 is judged.
+fn on_many_loads() {
+    println!("\n## The uncapped path beside plain programs\n");
+    println!(
+        "Request 2.13 asks for no more than twice the time of a plain program from section 3. Both here keep up the sums of all ½n(n + 1) \
+         candidates and drop none: from candidate to candidate as the report has them (the plain program of the other tables), and from row to \
+         row, which lets the compiler make several products at a time. The days are the loads of seeds 0 to {}; n is 96 and every capacity \
+         65,535. All give the same plan. A time is the shortest of {SHORT_ROUNDS} rounds of {SHORT_CALLS} calls by the wall clock, all taking \
+         turns; the spread is over the days, a ratio that of two times on a day.\n",
+        MANY_LOADS - 1
+    );
+    println!("| | Smallest | 5 % | Median | 95 % | Largest |");
+    println!("|---|---|---|---|---|---|");
+    let days: Vec<Day> = (0..MANY_LOADS).map(|seed| UNBOUND.set_in(drawn(seed, 96))).collect();
+    let [library, by_candidate, by_row, to_candidate, to_row] = columns(&shortest(&days));
+    println!("| Library | {} |", quantiles(library, in_units));
+    println!("| Plain, from candidate to candidate | {} |", quantiles(by_candidate, in_units));
+    println!("| Plain, from row to row | {} |", quantiles(by_row, in_units));
+    println!("| Library to the first | {} |", quantiles(to_candidate, two_digits));
+    println!("| Library to the second | {} |", quantiles(to_row, two_digits));
+}
+
+const FEW_LOADS: u32 = 50;
+
+/// Days on which a search that drops candidates may take other times: what they are called, n, and what becomes of the drawn day.
+const OTHER_DAYS: [(&str, usize, fn(Day) -> Day); 11] = [
+    ("as drawn", 12, |day| day),
+    ("as drawn", 24, |day| day),
+    ("as drawn", 48, |day| day),
+    ("as drawn", 96, |day| day),
+    ("every cost 0", 96, |day| Day { setup: vec![0; 96], unit: vec![0; 96], holding: vec![0; 96], ..day }),
+    ("every start 15,000, unit cost 600, upkeep 10", 96, |day| Day {
+        setup: vec![15_000; 96],
+        unit: vec![600; 96],
+        holding: vec![10; 96],
+        ..day
+    }),
+    ("unit costs sorted, falling", 96, |mut day| {
+        day.unit.sort_by(|a, b| b.cmp(a));
+        day
+    }),
+    ("unit costs sorted, rising", 96, |mut day| {
+        day.unit.sort();
+        day
+    }),
+    ("no upkeep", 96, |day| Day { holding: vec![0; 96], ..day }),
+    ("no start cost", 96, |day| Day { setup: vec![0; 96], ..day }),
+    ("needs in every sixth period only", 96, |mut day| {
+        (0..96).filter(|i| i % 6 < 5).for_each(|i| day.demand[i] = 0);
+        day
+    }),
+];
+
+/// The same on other days.
+fn on_other_days() {
+    println!(
+        "\nThe same for the loads of seeds 0 to {} with other n, costs and needs: how much it gains to drop candidates depends on them.\n",
+        FEW_LOADS - 1
+    );
+    println!("| Costs and needs | n | Library | To the first | To the second |");
+    println!("|---|---|---|---|---|");
+    let loads = |(_, n, change): (_, usize, fn(Day) -> Day)| (0..FEW_LOADS).map(move |seed| change(UNBOUND.set_in(drawn(seed, n))));
+    let days: Vec<Day> = OTHER_DAYS.into_iter().flat_map(loads).collect();
+    for ((name, n, _), times) in OTHER_DAYS.into_iter().zip(shortest(&days).chunks(FEW_LOADS as usize)) {
+        let [library, _, _, to_candidate, to_row] = columns(times).map(spread);
+        println!("| {name} | {n} | {} | {} | {} |", library.time(), to_candidate.ratio(), to_row.ratio());
+    }
 }
 
 /// The full path on days whose battery is full now and then: the smaller it is, the fewer totals can be reached.
@@ -470,17 +612,18 @@ fn main() {
     println!(
         "Written by `bench/run`: the library's paths beside plain Rust programs of the same methods (`bench/src/methods.rs`) and beside \
          recursion (5) by its letter (`outside/src/plain.rs`), which knows no bounds on the totals. Same process, same days, both built for \
-         release; all work on lent memory that was not cleared before a call. The library also tests the tables and clears its areas; the \
-         plain programs do neither. Recursion (5) by its letter allocates its rows.\n"
+         release; all work on lent memory that was not cleared before a call. The library also tests the tables, clears its areas and \
+         weighs its plan; the plain programs do none of these. Recursion (5) by its letter allocates its rows.\n"
     );
     println!(
         "The days are test loads of request 2.7, drawn by `yakkurem_test_load` with seed {seed}, the first whose load of 96 periods has a \
-         plan. Where a table names a capacity, a store limit, other start costs or other needs, these take the place of the drawn ones; all else \
-         is as drawn. The days have no charge at their ends, so R is T, and but for two tables no store limits.\n"
+         plan. Where a table names a capacity, a store limit, other costs or other needs, these take the place of the drawn ones; all else is as \
+         drawn. The days have no charge at their ends, so R is T, and but for two tables no store limits.\n"
     );
     println!(
         "Times are the thread's processor time on x86-64 Linux. A figure is the median of {ROUNDS} rounds, with the smallest and the \
-         largest: that spread is the machine's noise. A ratio below 1 means that the library is faster.\n"
+         largest: that spread is the machine's noise. A ratio below 1 means that the library is faster. A section with other seeds, clocks or \
+         spreads says so.\n"
     );
     println!("## Days of 96 periods\n\nR is {}.\n", drawn(seed, 96).total());
     println!("| Path | Capacity | Library | To the plain program | To recursion (5) |");
@@ -495,6 +638,8 @@ fn main() {
             println!("| {name} | {capacity} | {} | {} | {} |", time.time(), plain.ratio(), letter.ratio());
         }
     }
+    on_many_loads();
+    on_other_days();
     without_starts(seed);
     with_store(seed);
     with_ranges(seed);

@@ -1,7 +1,7 @@
 //! Plain programs of the methods of the four paths and of the call on big days, on the same lent memory, and of the call that plays a plan,
 //! for comparison of speed. They are for days without charge at the ends, all but the full path's and the play for days without store limits;
 //! but for the play, which weighs its plan, they test nothing, and they leave their areas as they are.
-use crate::plain::Day;
+use crate::plain::{Day, MAX_PERIODS};
 
 fn production(day: &Day, i: usize, x: u64) -> u64 {
     if x == 0 {
@@ -66,37 +66,91 @@ pub fn full(day: &Day, costs: &mut [u64], choices: &mut [u16], slots: &mut [u16]
     cost
 }
 
-/// Wagner and Whitin: of the candidates for the last lot, from the last to the first, the sums are kept up.
+/// Wagner and Whitin: of the candidates for a row's last lot, from the last to the first, the sums of the report's section 3 are kept up.
 pub fn uncapped(day: &Day, costs: &mut [u64], choices: &mut [u16], slots: &mut [u16]) -> u64 {
     let n = day.periods();
-    let rates: Vec<u64> = (0..n).map(|i| rate(day, i)).collect();
+    let (demand, setup, unit) = (&day.demand[..n], &day.setup[..n], &day.unit[..n]);
+    let (mut rates, mut begun) = ([0u64; MAX_PERIODS], [0u64; MAX_PERIODS]);
+    for (i, cell) in rates[..n].iter_mut().enumerate() {
+        *cell = rate(day, i);
+    }
     costs[0] = 0;
     for m in 0..n {
-        let mut made = day.demand[m] as u64;
-        let mut held = 0;
-        let mut best = costs[m] + production(day, m, made);
-        let mut from = m;
+        let (mut best, mut from) = (costs[m], m);
+        // to come to m and to start there
+        begun[m] = costs[m] + setup[m] as u64;
+        let mut made = demand[m] as u64;
         if made > 0 {
+            best = begun[m] + unit[m] as u64 * made;
+            let mut held = 0;
+            let (demand, unit, rates, begun) = (&demand[..m], &unit[..m], &rates[..m], &begun[..m]);
             for l in (0..m).rev() {
                 held += rates[l] * made;
-                made += day.demand[l] as u64;
-                let price = costs[l] + production(day, l, made) + held;
+                made += demand[l] as u64;
+                let price = begun[l] + unit[l] as u64 * made + held;
                 if price <= best {
-                    best = price;
-                    from = l;
+                    (best, from) = (price, l);
                 }
             }
         }
         costs[m + 1] = best;
         choices[m + 1] = from as u16;
     }
-    slots[..n].fill(0);
-    let mut m = n;
+    read_lots(day, choices, slots);
+    costs[n]
+}
+
+/// The plan of the last row, from where the last lot of every row begins.
+fn read_lots(day: &Day, choices: &[u16], slots: &mut [u16]) {
+    let mut m = day.periods();
+    slots[..m].fill(0);
     while m > 0 {
         let from = choices[m] as usize;
         slots[from] = day.demand[from..m].iter().sum();
         m = from;
     }
+}
+
+/// The least of these, and the first place that has it.
+fn first_least(prices: &[u64]) -> (u64, usize) {
+    let (mut least, mut place) = (u64::MAX, 0);
+    for (l, &price) in prices.iter().enumerate() {
+        if price < least {
+            (least, place) = (price, l);
+        }
+    }
+    (least, place)
+}
+
+/// The same rows in another order of sums, which a compiler can turn into vector code: what every candidate costs is kept up from row to row.
+/// Of a row's need a unit costs the candidate's key, which is unit cost and upkeep to the end of the day, less the upkeep from the row on.
+pub fn uncapped_row_to_row(day: &Day, costs: &mut [u64], choices: &mut [u16], slots: &mut [u16]) -> u64 {
+    let n = day.periods();
+    let (demand, setup, unit) = (&day.demand[..n], &day.setup[..n], &day.unit[..n]);
+    let (costs, choices) = (&mut costs[..=n], &mut choices[..=n]);
+    let (mut keys, mut prices) = ([0u32; MAX_PERIODS], [0u64; MAX_PERIODS]);
+    let mut rest = 0;
+    for i in (0..n).rev() {
+        rest += rate(day, i) as u32;
+        keys[i] = unit[i] + rest;
+    }
+    costs[0] = 0;
+    for m in 0..n {
+        let (need, rest) = (demand[m] as u64, keys[m] - unit[m]);
+        prices[m] = costs[m] + setup[m] as u64;
+        let (cost, from) = if need > 0 {
+            // keys of 32 bits, so that the compiler can make several products at a time
+            for (price, key) in prices[..=m].iter_mut().zip(&keys[..=m]) {
+                *price += (key - rest) as u64 * need;
+            }
+            first_least(&prices[..=m])
+        } else {
+            (costs[m], m)
+        };
+        costs[m + 1] = cost;
+        choices[m + 1] = from as u16;
+    }
+    read_lots(day, choices, slots);
     costs[n]
 }
 

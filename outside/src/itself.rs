@@ -1,12 +1,15 @@
 //! The plain implementation against itself and the papers, before anything is compared with it.
 mod played;
+mod searched;
 mod stamped;
 
 use crate::input::{self, Call, Input, Size, With, CALLS};
+use crate::lots;
 use crate::plain::{self, BestSoFar, Day, Loads, Planned, Refusal, Totals, Verdict};
 use crate::random::Random;
 use crate::stamp;
 pub use played::{check_plays, plays};
+pub use searched::{check_lots, check_searches, with_events, Met};
 pub use stamped::check_stamps;
 
 /// A day and its plan with cost and setups, or the number and period of the refusal. One value of b, p or h stands for all periods.
@@ -286,12 +289,16 @@ fn check_row(day: &Day, row: &Row) {
     assert_eq!(refused(day), row.claim.err().map(|(number, period)| Refusal { number, period }), "{day:?}");
 }
 
-/// The plan by trying all, which recursion (5) gives too, and without starting cost or low stores the rule of request 2.3.
+/// The plan by trying all, which recursion (5) gives too; without starting cost or low stores the rule of request 2.3; and where neither
+/// capacities nor stores can bind the last lots.
 fn planned(day: &Day) -> Option<Planned> {
     let found = plain::search(day);
     assert_eq!(found, plain::recursion(day), "{day:?}");
     if plain::started(day).is_none() && plain::low_store(day).is_none() {
         assert_eq!(found, plain::unit_by_unit(day), "{day:?}");
+    }
+    if found.is_some() && plain::binding(day).is_none() && plain::low_store(day).is_none() {
+        assert_eq!(found, Some(lots::plan(day)), "{day:?}");
     }
     found
 }

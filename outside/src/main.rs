@@ -10,7 +10,7 @@ mod shrink;
 mod test_load;
 
 use input::{Call, Input, Size, With, CALLS, EARLIER};
-use outside::{big, ends, free, holding, input, loads, plain, play, price, random, ranges, stamp, store};
+use outside::{big, ends, free, holding, input, loads, lots, plain, play, price, random, ranges, stamp, store, unbound};
 use random::Random;
 use std::iter::once;
 use std::process::exit;
@@ -66,7 +66,10 @@ impl Run {
     }
 
     fn try_input(&mut self, input: &Input) {
-        let expected = compare::expected(input);
+        self.try_expected(input, compare::expected(input));
+    }
+
+    fn try_expected(&mut self, input: &Input, expected: compare::Seen) {
         // every seventh by the crate's results too, an odd number as inputs without a stamp and with one take turns
         if differs(input, &expected) || self.inputs % 7 == 0 && !compare::results_agree(input, &expected) {
             report(input);
@@ -377,6 +380,26 @@ impl Run {
         }
     }
 
+    /// Request 2.13; gives how many inputs there were, what a search for their plans meets, and how many wrong searches they tell.
+    fn searches(&mut self) -> (usize, itself::Met, usize) {
+        let before = self.inputs;
+        itself::check_lots(&mut self.random);
+        let mut inputs = itself::with_events(&mut self.random);
+        for (size, times) in [(Size::Tiny, 4000), (Size::Middle, 1000), (Size::Long, 400)] {
+            inputs.extend(unbound::made_up(&mut self.random, size, times));
+        }
+        inputs.extend([unbound::tie_rows(), test_load::unbound(&mut self.random), unbound::limits()].concat());
+        let (met, slips) = itself::check_searches(&inputs);
+        for input in &inputs {
+            if self.inputs % one_in(&input.day) == 0 {
+                self.try_input(input);
+            } else {
+                self.try_expected(input, compare::expected_quickly(input));
+            }
+        }
+        (self.inputs - before, met, slips)
+    }
+
     fn print_counts(&self) {
         let refused = (1..=LAST).map(|number| format!("{number}: {}", self.refused[number])).collect::<Vec<_>>().join(", ");
         println!("accepted {}, refused {refused}", self.accepted);
@@ -389,6 +412,17 @@ impl Run {
     }
 }
 
+/// On one in how many days like this recursion (5) is gone through by its letter: it takes long where much is made, and too long where 2,500 units
+/// or more are made in 96 periods.
+fn one_in(day: &plain::Day) -> usize {
+    let whole = day.least_by(day.periods());
+    match day.periods() as u64 * whole * whole {
+        0..30_000_000 => 1,
+        30_000_000..600_000_000 => 25,
+        _ => usize::MAX,
+    }
+}
+
 fn differs(input: &Input, expected: &compare::Seen) -> bool {
     let seen = compare::actual(input);
     let kept =
@@ -397,7 +431,7 @@ fn differs(input: &Input, expected: &compare::Seen) -> bool {
 }
 
 fn fails(input: &Input) -> bool {
-    let expected = compare::expected(input);
+    let expected = compare::expected_quickly(input);
     differs(input, &expected) || !compare::results_agree(input, &expected)
 }
 
@@ -428,7 +462,7 @@ fn report_test_load(load: &TestLoad) -> ! {
 
 fn report(input: &Input) -> ! {
     let smallest = shrink::shrink(input, fails);
-    let (expected, seen) = (compare::expected(&smallest), compare::actual(&smallest));
+    let (expected, seen) = (compare::expected_quickly(&smallest), compare::actual(&smallest));
     println!("failed: {}", shrink::show(&smallest));
     show_seen(&expected, &seen);
     if !compare::full_agrees(&smallest, &expected) {
@@ -548,6 +582,7 @@ fn main() {
     let big_inputs = run.big();
     let played = run.play();
     let stamped = run.stamps();
+    let (unbound_inputs, met, slips) = run.searches();
     // the calls of `CALLS`, the test load, needs known as ranges, big days and plays; prices are counted apart
     println!("outside: seed {seed}, {} inputs of {} calls as the plain implementation has them", run.inputs, CALLS.len() + 4);
     run.print_counts();
@@ -568,6 +603,16 @@ fn main() {
          {disposed} spilled something, {both} both; each with charge and need in balance"
     );
     println!("stamps: {stamped} inputs, and each file of before with one and without");
+    println!(
+        "uncapped path: {unbound_inputs} inputs more, {} with ties; the search, written once more, meets {} candidates in {} rows, drops {}, carries \
+         on {} that equal the best, leaves {} rows early; {slips} wrong searches told apart",
+        met.tied,
+        met.candidates,
+        met.rows,
+        met.dropped(),
+        met.carried_on(),
+        met.left()
+    );
     println!("published instances: {} inputs, each with the published cost, doubled", published.len());
     println!("prices: {priced} costs, each as the plain implementation has it");
     eprintln!("{} seconds", start.elapsed().as_secs());

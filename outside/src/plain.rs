@@ -1,5 +1,5 @@
-//! Documents 01 and 02 (requests 2.1 to 2.7 and 2.9 to 2.12; 2.8 is in price.rs) and the report in plain code, written from these alone: what
-//! every call should answer.
+//! Documents 01 and 02 (requests 2.1 to 2.7 and 2.9 to 2.12; 2.8 is in price.rs, 2.13 in lots.rs) and the report in plain code, written from
+//! these alone: what every call should answer.
 //! Names are lot sizing's; the documents say need for demand, start for setup, upkeep for holding, made for produced, missed for lost,
 //! spilled for disposed.
 use std::iter::once;

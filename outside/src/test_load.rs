@@ -173,3 +173,19 @@ pub fn inputs(random: &mut Random) -> Vec<Input> {
     }
     inputs
 }
+
+/// Days so drawn with capacities that can't bind, by the uncapped path: of 96 periods for most seeds, and of every length.
+pub fn unbound(random: &mut Random) -> Vec<Input> {
+    let mut inputs = vec![];
+    let mut draw = |seed: u32, n: usize| {
+        let day = Day { capacity: vec![65_535; n], ..plain::test_load(seed, n) };
+        inputs.push(Input::exact(Call::Uncapped, &day, [&[]; 2]));
+    };
+    for seed in seeds(random, 300) {
+        draw(seed, MAX_PERIODS);
+    }
+    for n in 1..MAX_PERIODS {
+        draw(random.next() as u32, n);
+    }
+    inputs
+}

@@ -17,9 +17,10 @@ pub mod Exchange
 pub mod Memo
 pub mod Candidates
 pub mod Regeneration
--- What the uncapped path computes (Wagner and Whitin).
+-- What the uncapped path computes (Wagner and Whitin), and where its search can end.
 pub mod Uncapped
 pub mod WagnerWhitin
+pub mod Carried
 -- How many full loads; what the equal path computes (Florian and Klein).
 pub mod FullLoads
 pub mod FlorianKlein

@@ -28,7 +28,7 @@ use Rattle.theory.specs.Recursion.{leads-optimal}
 use Rattle.theory.specs.Stages.{Solution}
 use Rattle.theory.specs.Uncapped.{Uncapped}
 use Rattle.theory.specs.WagnerWhitin.{wagnerWhitin, wagnerWhitin-right, Row}
-use Rattle.uncapped.specs.Bounds.{uncapacitated}
+use Rattle.uncapped_rows.specs.Bounds.{uncapacitated}
 use Rattle.uncapped.specs.Solved.{Solvable, Solved}
 
 -- what the loops run on, for a day

@@ -1,5 +1,3 @@
--- Laws of the loops and of the call, in the order in which they are used.
-pub mod Candidates
-pub mod Filling
+-- Laws of the read-back and of the call, in the order in which they are used.
 pub mod ReadBack
 pub mod Entry

@@ -8,7 +8,8 @@ use lib.ListN.{length, drop, set, replicate, length-set}
 use lib.Seq.{drop-cons, drop-set-lt, getD-set-same}
 use Rattle.day.specs.Sums.{at, sumTo, sum-grows}
 use Rattle.day.specs.Day.{maxTotal}
-use Rattle.uncapped.specs.Slots.{Begins, LastLots, LotReady, LotPut}
+use Rattle.uncapped_rows.specs.Lots.{Begins, LastLots}
+use Rattle.uncapped.specs.Slots.{LotReady, LotPut}
 
 -- from the cell that was set on
 drop-set-here : (l : List ℕ) (i v : ℕ) → i < length l → drop i (set l i v) ≡ v ∷ drop (suc i) l

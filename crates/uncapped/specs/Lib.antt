@@ -1,5 +1,3 @@
--- What the loops behind the call assume and leave; the call's own contract is in the crate day.
-pub mod Bounds
+-- What the read-back and the work behind the call assume and leave; the call's own contract is in the crate day.
 pub mod Slots
-pub mod Rows
 pub mod Solved

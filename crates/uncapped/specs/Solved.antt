@@ -6,7 +6,7 @@ use lib.ListN.{length, drop}
 use Rattle.day.specs.Outcome.{Memory}
 use Rattle.theory.specs.Problem.{Problem, periods, modelOf}
 use Rattle.theory.specs.WagnerWhitin.{wagnerWhitin}
-use Rattle.uncapped.specs.Rows.{FillReady}
+use Rattle.uncapped_rows.specs.Rows.{FillReady}
 
 -- a cell of both areas for each row, and a slot for each period
 pub record Solvable (p : Problem) (m : Memory) : Type 0 where

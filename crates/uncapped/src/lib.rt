@@ -6,7 +6,7 @@ ghost use Rattle.day.specs.Lent.{dayBefore, memoryBefore, memoryAfter};
 ghost use Rattle.day.specs.Outcome.{memoryOf, sizesOf, Accepted, Runs};
 ghost use Rattle.day.specs.Paths.{uncapped};
 ghost use Rattle.checks.specs.Passed.{Admitted};
-ghost use Rattle.uncapped.specs.Bounds.{uncapacitated};
+ghost use Rattle.uncapped_rows.specs.Bounds.{uncapacitated};
 ghost use Rattle.uncapped.specs.Solved.{Solvable, Solved};
 use day::Answer;
 use day::Check;
@@ -14,7 +14,6 @@ use day::Ends;
 use day::PathKind;
 use day::Totals;
 
-mod rows;
 mod slots;
 
 // The plan into the slots. What is left in the areas is free.
@@ -35,7 +34,7 @@ fn solve(
         (memoryBefore costs choices slots)
         (memoryAfter costs choices slots) ⌝ }
 {
-    rows::fill(demand, setup, unit, holding, costs, choices);
+    uncapped_rows::fill(demand, setup, unit, holding, costs, choices);
     slots::read_back(demand, choices, slots);
 }
 

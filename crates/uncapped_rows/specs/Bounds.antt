@@ -1,12 +1,14 @@
 -- The problem that the loops of the uncapped path run on, and how large its costs can grow: amounts are bounded by the demand of all periods,
--- rates and setup costs by their limits.
+-- rates and setup costs by their limits. What each step asks so that no sum overflows.
 -- Main definition: `uncapacitated`. Assumes nothing.
+use mathlib.Core.Path.{_≡_}
 use mathlib.Core.List.{List}
-use Prim.Native.Nat.{ℕ, _+_, _*_, _≤_}
+use Prim.Native.Nat.{ℕ, _+_, _*_, _≤_, _<_}
 use lib.ListN.{length, replicate}
+use Rattle.day.specs.Sums.{at}
 use Rattle.day.specs.Day.{maxPeriods, maxCapacity, maxSetup, maxRate, maxTotal}
 use Rattle.theory.specs.Problem.{Problem, problemWith}
-use Rattle.uncapped.specs.declared.rows.Search.{Search}
+use Rattle.uncapped_rows.specs.declared.Holding.{Holding}
 
 -- what these loops run on: they read no capacity, so every period has the largest there is, which is above all demand
 abbrev pub uncapacitated : (demand setup unit holding : List ℕ) → Problem
@@ -23,8 +25,19 @@ maxHolding = maxRate * maxTotal
 abbrev pub LowCosts : (ℕ → ℕ) → ℕ → Type 0
 LowCosts costs m = (l : ℕ) → l ≤ m → costs l ≤ l * maxMaking
 
--- there is room for one candidate more: its cost, and demand r
-pub record CandidateFits (s : Search) (cost r : ℕ) : Type 0 where
-  pub below : cost ≤ maxPeriods * maxMaking
+-- a lot that a candidate can have, where coming to l has a cost
+pub record LotFits (costs : List ℕ) (l made : ℕ) : Type 0 where
+  pub cell : l < length costs
+  pub low : at costs l ≤ maxPeriods * maxMaking
+  pub few : made ≤ maxTotal
+
+-- there is room for one period more in the sum, in which r is demanded
+pub record SumFits (s : Holding) (r : ℕ) : Type 0 where
   pub held : s .held ≤ maxPeriods * maxHolding
-  pub made : s .made + r ≤ maxTotal
+  pub left : s .left + r ≤ maxTotal
+
+-- as many unit costs as rates, all within the limit
+pub record Rates (unit holding : List ℕ) : Type 0 where
+  pub size : length holding ≡ length unit
+  pub units : (k : ℕ) → k < length unit → at unit k ≤ maxRate
+  pub rates : (k : ℕ) → k < length unit → at holding k ≤ maxRate

@@ -3,24 +3,36 @@
 use mathlib.Core.Path.{_≡_, refl, sym, ap, _∙_}
 use mathlib.Core.List.{List, [], _++_}
 use Prim.Native.Nat.{ℕ, suc, _+_, _*_, _≤_, _<_}
+use native.Mathlib.Nat.{le-of-suc-le-suc}
 use native.Mathlib.Omega.{arith}
 use lib.ListN.{length, set, drop, length-set}
 use lib.Seq.{getD-set-same, getD-set-other, drop-set-lt}
 use Rattle.day.specs.Sums.{at, below}
 use Rattle.theory.specs.Basics.{upTo, upTo-zero}
 use Rattle.theory.specs.Model.{Model}
-use Rattle.theory.specs.Problem.{Problem, modelOf, model-rising, periods}
+use Rattle.theory.specs.Problem.{Problem, modelOf, model-rising, periods, Bounded}
 use Rattle.theory.specs.Stages.{Solution}
+use Rattle.theory.specs.Uncapped.{price}
 use Rattle.theory.specs.WagnerWhitin.{wagnerWhitin, wagnerWhitin-zero, lot, chosen-cost, chosen-plan}
-use Rattle.uncapped.specs.declared.rows.LastLot.{LastLot}
-use Rattle.uncapped.specs.Bounds.{LowCosts, maxMaking}
-use Rattle.uncapped.specs.Slots.{Begins, LastLots}
-use Rattle.uncapped.specs.Rows.{LastLotOf, RowsWritten}
+use Rattle.uncapped_rows.specs.declared.LastLot.{LastLot}
+use Rattle.uncapped_rows.specs.Bounds.{LowCosts, Rates, maxMaking}
+use Rattle.uncapped_rows.specs.Lots.{Begins, LastLots}
+use Rattle.uncapped_rows.specs.Rows.{LeastCosts, LastLotOf, RowsWritten}
+
+-- what the table of carried costs is made from
+pub bounded-rates : (p : Problem) → Bounded p → Rates (p .unit) (p .holding)
+bounded-rates p b =
+    record {
+      size = omega (arith, b .holdings, b .units);
+      units = λ k h. b .unit k (omega (arith, b .units));
+      rates = λ k h. b .holding k (omega (arith, b .units));
+    }
 
 -- the areas hold the rows up to m; their cells past n are as they were
 pub record LotRowsTo (p : Problem) (m : ℕ) (costs₀ choices₀ costs choices : List ℕ) : Type 0 where
   pub cost : (l : ℕ) → l ≤ m → wagnerWhitin (modelOf p) l .cost ≡ at costs l
   pub low : LowCosts (at costs) m
+  pub least : LeastCosts p (at costs) m
   pub begins : Begins (at choices) m
   pub lots : LastLots (p .demand) (λ m. wagnerWhitin (modelOf p) m .plan) (at choices) m
   pub costs-size : length costs ≡ length costs₀
@@ -40,6 +52,7 @@ module _ (p : Problem) (costs₀ choices₀ : List ℕ) where
       record {
         cost = upTo-zero (λ (l : ℕ). wagnerWhitin M l .cost ≡ at costs₀ l) (ap (λ (f : Solution). f .cost) zeroth ∙ sym none);
         low = upTo-zero (λ (l : ℕ). at costs₀ l ≤ l * maxMaking) (omega arith);
+        least = λ l h j lt. absurd (omega arith);
         begins = λ k h. absurd (omega arith);
         lots = record { none = ap (λ (f : Solution). f .plan) zeroth; more = λ k h. absurd (omega arith) };
         costs-size = refl;
@@ -58,6 +71,9 @@ module _ (p : Problem) (costs₀ choices₀ : List ℕ) where
             (chosen-cost M (model-rising p) (at costs) m (r .cost) (r .from) (c .chosen) (f .cost) ∙ sym here);
         low = upTo (λ (l : ℕ). at costs′ l ≤ l * maxMaking) m (λ l h. omega (arith, f .low l h, old l h))
             (omega (arith, here, c .low, f .low m (omega arith)));
+        least = upTo (λ (l : ℕ). (j : ℕ) → j < l → at costs′ l ≤ price M (at costs′) l j) m
+            (λ l h j lt. omega (arith, f .least l h j lt, old l h, old j (omega arith)))
+            (λ j lt. omega (arith, here, c .least j (le-of-suc-le-suc lt), old j (le-of-suc-le-suc lt)));
         begins = below (λ (k : ℕ). at choices′ (suc k) ≤ k) m (λ k h. omega (arith, f .begins k h, old′ k h)) (omega (arith, here′, c .inside));
         lots = record {
           none = f .lots .none;

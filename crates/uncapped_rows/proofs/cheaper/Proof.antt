@@ -1,11 +1,11 @@
--- `uncapped::rows::cheaper` meets its contract. Assumes nothing.
+-- `uncapped_rows::cheaper` meets its contract. Assumes nothing.
 use mathlib.Core.Path.{sym}
 use native.Mathlib.Decide.{decLe}
 use native.Mathlib.Omega.{arith}
 use Rattle.theory.specs.Basics.{pick-yes, pick-no}
-use Rattle.uncapped.specs.Rows.{better}
-use Rattle.uncapped.proofs.rows.cheaper.Statement.{statement}
-use Rattle.uncapped.proofs.rows.cheaper.Tie as tie
+use Rattle.uncapped_rows.specs.Rows.{better}
+use Rattle.uncapped_rows.proofs.cheaper.Statement.{statement}
+use Rattle.uncapped_rows.proofs.cheaper.Tie as tie
 
 returns : tie.Need-returns
 unfolding better
