@@ -3,7 +3,7 @@
 -- Main statement: `marked_right`. One test is computed over the table; what it gives is the proof. Assumes nothing.
 use Rattle.std.specs.Prelude.{◌≡◌, refl, Bool, true, false, List, [], ◌∷◌, ℕ, zero, suc, ◌≤◌, ◌<◌, ltb, length, replicate}
 use Rattle.std.proofs.Common.{ap, ◌∙◌}
-use Rattle.std.proofs.Math.Logic.{Dec·and}
+use Rattle.std.proofs.Math.Logic.Dec
 use Rattle.std.proofs.Math.Option.{Option, none, some, map}
 use Rattle.std.proofs.Math.Decide.{dec_le, dec_lt, ℕ_discrete}
 use Rattle.day.specs.declared.Refusal.{Refusal}
@@ -161,5 +161,5 @@ right? d (refused (suc k)) =
 
 -- Every row's claims hold of the written meaning.
 pub marked_right : All (λ r. All (ClaimHolds (day_of_row r)) r.claims) marked
-unfolding iff? implies? both_below below? Dec·and keeps? smaller? precedes? dec_le dec_lt ℕ_discrete
+unfolding iff? implies? both_below below? Dec.and keeps? smaller? precedes? dec_le dec_lt ℕ_discrete
 marked_right = given (all? (λ r. all? (right? (day_of_row r)) r.claims) marked) tt

@@ -2,7 +2,7 @@
 -- Main statement: `optimal?`, for the plan of a day; `none?`, for a day that has none. Assumes nothing.
 use Rattle.std.specs.Prelude.{◌≡◌, refl, List, [], ◌∷◌, ℕ, zero, suc, ◌+◌, ◌≤◌, ◌<◌}
 use Rattle.std.proofs.Common.{sym, ◌∙◌, ⊎_elim, eq-or-lt_of_le, le_of_suc-le-suc, arith}
-use Rattle.std.proofs.Math.Logic.{Dec·and}
+use Rattle.std.proofs.Math.Logic.Dec
 use Rattle.std.proofs.Math.Option.{Option, none, some, map, IsSome}
 use Rattle.std.proofs.Math.Decide.{dec_le, dec_lt, ℕ_discrete}
 use Rattle.day.specs.Sums.{at, sum_to, below, sum_ext, list_of, at-list_of}
@@ -71,9 +71,9 @@ keeps? d i x =
     iff?
     (λ p. record { served = p.0; ends = p.1.0; within = p.1.1.0; stored = p.1.1.1 })
     (λ f. (f.served, (f.ends, (f.within, f.stored))))
-    (Dec·and (below? (λ k. dec_le (demand_to d (suc k)) (d.opening + sum_to x (suc k))) i)
-    (Dec·and (implies? (ℕ_discrete i (periods d)) (ℕ_discrete (d.opening + sum_to x i) (required d)))
-    (Dec·and (below? (λ k. dec_le (x k) (at d.capacity k)) i) (below? (λ k. dec_le (inventory d x (suc k)) (at d.store k)) i))))
+    (Dec.and (below? (λ k. dec_le (demand_to d (suc k)) (d.opening + sum_to x (suc k))) i)
+    (Dec.and (implies? (ℕ_discrete i (periods d)) (ℕ_discrete (d.opening + sum_to x i) (required d)))
+    (Dec.and (below? (λ k. dec_le (x k) (at d.capacity k)) i) (below? (λ k. dec_le (inventory d x (suc k)) (at d.store k)) i))))
 
 unfoldable pub smaller? : (n : ℕ) (x y : ℕ → ℕ) → Dec (Smaller n x y)
 smaller? n x y =
@@ -89,7 +89,7 @@ precedes? costs n x y =
     iff?
     (λ p. record { cheap = p.0; small = p.1 })
     (λ p. (p.cheap, p.small))
-    (Dec·and (dec_le (costs x) (costs y)) (implies? (ℕ_discrete (costs x) (costs y)) (smaller? n x y)))
+    (Dec.and (dec_le (costs x) (costs y)) (implies? (ℕ_discrete (costs x) (costs y)) (smaller? n x y)))
 
 -- only the amounts in the periods that are spoken of count
 pub kept_alike : (d : Day) (i : ℕ) (x y : ℕ → ℕ) → ((k : ℕ) → k < i → x k ≡ y k) → KeepsTo d i x → KeepsTo d i y

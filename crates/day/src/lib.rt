@@ -1,10 +1,12 @@
 //! The types that every call answers with. What they mean is in specs/.
+#![tactic(auto)]
+
 ghost use Rattle.std.specs.Prelude.{◌≡◌};
 ghost use Rattle.day.specs.Refusals.{number_of, period_of};
 
 // Why a call is refused, with the period that it names, where it names one.
 // `number_of` and `period_of` give the documents' number and period.
-#[derive(Drop)]
+#[derive(Clone, Copy)]
 pub enum Refusal {
     PeriodCount,
     TableLength,
@@ -85,14 +87,14 @@ impl Refusal {
 }
 
 // What the tests of a call say: it goes on, or the first refusal.
-#[derive(Drop)]
+#[derive(Clone, Copy)]
 pub enum Check {
     Passed,
     Refused(Refusal),
 }
 
 // The paths (document 01, "Three paths, one plan"; document 02, 2.3, 2.10); `path_of` gives what each needs and tests.
-#[derive(Drop)]
+#[derive(Clone, Copy)]
 pub enum PathKind {
     Full,
     Uncapped,
@@ -102,77 +104,77 @@ pub enum PathKind {
 }
 
 // The inventory at both ends of a day (document 02: opening charge A, closing charge Z).
-#[derive(Drop)]
+#[derive(Clone, Copy)]
 pub struct Ends {
     pub opening: u16,
     pub closing: u16,
 }
 
 // The station and the day that a file is for, in days since 1 January 2000 (document 02, 2.12: the pair).
-#[derive(Drop)]
+#[derive(Clone, Copy)]
 pub struct Stamp {
     pub station: u16,
     pub date: u16,
 }
 
 // The stamp that a reader expects. Where that is nothing, no file has it.
-#[derive(Drop)]
+#[derive(Clone, Copy)]
 pub enum Expected {
     Nothing,
     Only(Stamp),
 }
 
 // A plan's cost and its setups (document 01: starts).
-#[derive(Drop)]
+#[derive(Clone, Copy)]
 pub struct Totals {
     pub cost: u64,
     pub setups: u64,
 }
 
 // What a path answers; the plan itself is in the lent slots.
-#[derive(Drop)]
+#[derive(Clone, Copy)]
 pub enum Answer {
     Refused(Refusal),
     Planned(Totals),
 }
 
 // How many periods of a plan are full-load periods, and how many are part-loaded (document 02, 2.6).
-#[derive(Drop)]
+#[derive(Clone, Copy)]
 pub struct Loads {
     pub full: u64,
     pub part: u64,
 }
 
 // What the equal path answers: as every path, and the plan's loads.
-#[derive(Drop)]
+#[derive(Clone, Copy)]
 pub enum EqualAnswer {
     Refused(Refusal),
     Planned(Totals, Loads),
 }
 
 // The least cost of a day with its lowest needs, and with its highest (document 02, 2.9).
-#[derive(Drop)]
+#[derive(Clone, Copy)]
 pub struct Bounds {
     pub lowest: u64,
     pub highest: u64,
 }
 
 // What the call on needs known as ranges answers.
-#[derive(Drop)]
+#[derive(Clone, Copy)]
 pub enum BoundsAnswer {
     Refused(Refusal),
     Bounded(Bounds),
 }
 
 // How many trials a big day took, and how far its cost lies above the least with all starts free (document 02, 2.10).
-#[derive(Drop)]
+#[derive(Clone, Copy)]
 pub struct Trials {
     pub used: u64,
     pub gap: u64,
 }
 
 // What the call on big days answers; the plan itself is in the lent slots.
-#[derive(Drop)]
+#[derive(Clone, Copy)]
 pub enum BigAnswer {
     Refused(Refusal),
     Planned(Totals, Trials),

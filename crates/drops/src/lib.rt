@@ -1,4 +1,5 @@
 //! The trials of a big day in turn (document 02, 2.10): each plans by the rule of 2.3 with starts taken as free, under capacities of which one more is 0.
+#![tactic(auto)]
 ghost use Rattle.std.specs.Prelude.{◌≡◌, false, [], ◌<◌, length};
 ghost use Rattle.day.specs.Sums.{at};
 ghost use Rattle.day.specs.Day.{day_of};
@@ -14,7 +15,7 @@ use day::Ends;
 use rounds::Coming;
 
 // What a trial comes to: what its plan costs, starts included, or that there is no plan.
-#[derive(Drop)]
+#[derive(Clone, Copy)]
 enum Outcome {
     NoPlan,
     Plan(u64),
@@ -113,7 +114,7 @@ pub fn begin(
 
 // Where the trials stand, beside the cells: what the best plan costs; the round, which has yet to look at the first `ahead` periods, and whether it has
 // forbidden one of the others.
-#[derive(Drop)]
+#[derive(Clone, Copy)]
 struct Standing {
     cost: u64,
     ahead: usize,

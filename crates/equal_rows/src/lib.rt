@@ -1,6 +1,7 @@
 //! The rows of the equal path. Row m is the plan of the first m periods that leaves the inventory empty, with its cost: the first of
 //! row l and an interval from l to m, over l below m. Row m stands in the choice area from m × n on, its cost in cell m of the cost area.
 //! Past the rows stands the work on an interval; what is left there, and in the slots, is free.
+#![tactic(auto)]
 ghost use Rattle.std.specs.Prelude.{◌≡◌, ℕ, ◌+◌, ◌-◌, ◌*◌, ◌≤◌, ◌<◌, min, length};
 ghost use Rattle.day.specs.Sums.{at};
 ghost use Rattle.equal_runs.specs.States.{index_of};
@@ -46,7 +47,7 @@ fn goes_first(v: u64, x: &[u16], w: u64, y: &[u16]) -> bool
 }
 
 // The fractional load of an interval, and the state that it ends in.
-#[derive(Drop)]
+#[derive(Clone, Copy)]
 struct Ending {
     part: u16,
     top: usize,

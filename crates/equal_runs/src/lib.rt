@@ -1,6 +1,7 @@
 //! The regeneration intervals of the equal path (document 01: runs). A state of one is how many full loads are made and whether the fractional
 //! load (document 01: the part load) is:
 //! j and d stand at index 2 × j + d of a row of costs.
+#![tactic(auto)]
 ghost use Rattle.std.specs.Prelude.{◌≡◌, ℕ, ◌+◌, ◌-◌, ◌*◌, ◌^◌, ◌≤◌, ◌<◌, ◌/◌, ◌%◌, length};
 ghost use Rattle.day.specs.Sums.{at, Term};
 ghost use Rattle.theory.specs.Problem.{model_of};
@@ -14,14 +15,14 @@ ghost use Rattle.equal_runs.specs.Run.{Runnable, Ran, constant_with, start_of, s
 pub const NONE: u64 = 7000000000000000000;
 
 // What an interval's periods make: nothing, a full load, or the fractional load, which is less.
-#[derive(Drop)]
+#[derive(Clone, Copy)]
 pub struct LoadSizes {
     pub full: u16,
     pub part: u16,
 }
 
 // A period of an interval: its costs, and what the interval must have made by its end.
-#[derive(Drop)]
+#[derive(Clone, Copy)]
 pub struct RunPeriod {
     pub setup: u32,
     pub unit: u32,
@@ -30,7 +31,7 @@ pub struct RunPeriod {
 }
 
 // What a state costs after some periods, and what the last of them makes.
-#[derive(Drop)]
+#[derive(Clone, Copy)]
 pub struct RunState {
     pub cost: u64,
     pub amount: u16,

@@ -1,6 +1,7 @@
 //! The free path: the greedy rule (report, section 4; document 02, 2.3), for days without setup cost whose stores can't bind.
 //! It tests, takes the net needs and the rates, writes the keys of the periods into its cost area, serves the needs in turn, clears the area, and
 //! weighs the plan.
+#![tactic(auto)]
 ghost use Rattle.std.specs.Prelude.{[]};
 ghost use Rattle.day.specs.Day.{day_of};
 ghost use Rattle.day.specs.Lent.{day_before, cells_before, cells_after};

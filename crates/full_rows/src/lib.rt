@@ -1,4 +1,5 @@
 //! The row step of recursion (5) over lent areas: costs and last amounts for each total that one more period can reach.
+#![tactic(auto)]
 ghost use Rattle.std.specs.Prelude.{◌≡◌, ◌+◌, ◌-◌, ◌≤◌, ◌<◌, min, length};
 ghost use Rattle.std.proofs.Math.Decide.{dec_lt};
 ghost use Rattle.theory.specs.Basics.{pick};
@@ -7,7 +8,7 @@ ghost use Rattle.full_rows.specs.Queue.{key_of, Entry, Queue, Window, CellFound,
 ghost use Rattle.full_rows.specs.Queue.{QueueRoom, Entered, Scratch, Queued};
 
 // One period, as the row step sees it: c, b, p and H, the totals that can be reached before it and after it.
-#[derive(Drop)]
+#[derive(Clone, Copy)]
 pub struct Stage {
     pub capacity: usize,
     pub setup: u32,
@@ -20,21 +21,21 @@ pub struct Stage {
 }
 
 // An amount, and what the total that it leads to costs before holding.
-#[derive(Drop)]
+#[derive(Clone, Copy)]
 pub struct Choice {
     pub amount: usize,
     pub price: u64,
 }
 
 // What the step writes for a total X: D_i(X), and the amount that ends its plan.
-#[derive(Drop)]
+#[derive(Clone, Copy)]
 pub struct Cell {
     pub cost: u64,
     pub amount: u16,
 }
 
 // What a turn of the row's loop finds: where the queue begins now, and the total's cell.
-#[derive(Drop)]
+#[derive(Clone, Copy)]
 pub struct Next {
     pub head: usize,
     pub cell: Cell,

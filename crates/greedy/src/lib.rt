@@ -1,5 +1,6 @@
 //! The greedy rule of the free path (report, section 4; document 02, 2.3): the needs in turn, each in batches from the period that is best for it.
 //! A batch ends the need or fills a period, so there are at most twice as many batches as periods, each found in one pass.
+#![tactic(auto)]
 ghost use Rattle.std.specs.Prelude.{◌≡◌, ◌≤◌, min, ltb, length};
 ghost use Rattle.day.specs.Sums.{at};
 ghost use Rattle.day.specs.Day.{max_periods};
@@ -22,7 +23,7 @@ pub fn keys(unit: &[u32], holding: &[u32], cells: &mut [u64])
 }
 
 // The best period so far and its key; where none has capacity left, `at` is past them all.
-#[derive(Drop)]
+#[derive(Clone, Copy)]
 pub struct Best {
     pub at: usize,
     pub key: u64,

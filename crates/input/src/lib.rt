@@ -1,10 +1,11 @@
 //! Bytes read into lent buffers, from an open descriptor or a file by its name. No contract can say which they are; they are within the
 //! buffer. Where a call answers Failed, errno says why.
+#![tactic(auto)]
 ghost use Rattle.std.specs.Prelude.{◌≤◌, length};
 ghost use Rattle.input.specs.Input.{PieceOf, InputOf};
 
 // What one read gave.
-#[derive(Drop)]
+#[derive(Clone, Copy)]
 enum Piece {
     Failed,
     End,
@@ -12,7 +13,7 @@ enum Piece {
 }
 
 // What the whole input gave.
-#[derive(Drop)]
+#[derive(Clone, Copy)]
 pub enum Input {
     Failed,
     Bytes(usize),

@@ -1,4 +1,5 @@
 //! Lines of text, each put at a place of a lent buffer that has room for a line there.
+#![tactic(auto)]
 ghost use Rattle.std.specs.Prelude.{◌≡◌, ◌+◌, ◌≤◌, length, [], ◌∷◌};
 ghost use Rattle.day.specs.Sums.{at};
 ghost use Rattle.day.specs.Day.{day_of};

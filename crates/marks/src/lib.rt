@@ -1,5 +1,6 @@
 //! Marks to come back to (document 02, 2.14): eight days in a lent store of 32-bit cells. Where a mark's cells lie, and the tests that both calls share.
 //! What the calls do is `Setting` and `Returning` in specs/; they are in the crates set_mark and return_mark.
+#![tactic(auto)]
 ghost use mathlib.Core.Path.{◌≡◌};
 ghost use Prim.Native.Nat.{◌≤◌};
 ghost use Rattle.day.specs.Refusals.{checked};

@@ -1,4 +1,5 @@
 //! The tests of the paths: 5, 6, 7 and each path's own, and all of them in order, by the documents' numbers.
+#![tactic(auto)]
 ghost use Rattle.std.specs.Prelude.{◌≡◌, [], ◌∷◌, ◌≤◌, length};
 ghost use Rattle.day.specs.Day.{day_of, tables_of, required, max_periods, max_sum};
 ghost use Rattle.day.specs.Lent.{day_before};
@@ -168,7 +169,7 @@ fn own(
 }
 
 // How many cells of each area a path needs.
-#[derive(Drop)]
+#[derive(Clone, Copy)]
 pub struct Needed {
     pub costs: usize,
     pub choices: usize,

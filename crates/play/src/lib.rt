@@ -1,4 +1,5 @@
 //! A day played through (document 02, 2.11): a plan that holds, against a table of actual needs. What the answers mean is in specs/.
+#![tactic(auto)]
 ghost use Rattle.std.specs.Prelude.{◌≡◌, length};
 ghost use Rattle.day.specs.Sums.{at};
 ghost use Rattle.day.specs.Lent.{day_before};
@@ -10,7 +11,7 @@ use day::{Check, Ends, Refusal};
 use weigher::{Rule, Verdict, Weighed};
 
 // What a plan did against actual needs, summed over the day (document 02: made, delivered, missed, spilled), and the charge left after it.
-#[derive(Drop)]
+#[derive(Clone, Copy)]
 pub struct Flows {
     pub produced: u64,
     pub delivered: u64,
@@ -20,7 +21,7 @@ pub struct Flows {
 }
 
 // What the call answers.
-#[derive(Drop)]
+#[derive(Clone, Copy)]
 pub enum PlayAnswer {
     Refused(Refusal),
     Broken(Rule, u16),

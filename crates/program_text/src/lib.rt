@@ -1,4 +1,5 @@
 //! The text that a program prints for a day file: the line of its refusal, or what the program says of its day.
+#![tactic(auto)]
 ghost use Rattle.std.specs.Prelude.{◌≡◌, ◌≤◌, length};
 ghost use Rattle.day.specs.Day.{day_of};
 ghost use Rattle.day.specs.Lent.{day_before, tables_before, tables_after};
@@ -11,7 +12,7 @@ use day::{Ends, Expected, Refusal};
 use dayfile::{ReadAnswer, layout};
 
 // The programs that read a day file.
-#[derive(Drop)]
+#[derive(Clone, Copy)]
 pub enum Program {
     Dayplan,
     Margins,

@@ -1,5 +1,6 @@
 //! A return to a mark (document 02, 2.14): the day that its cells hold, into six lent tables. What it does is `Returning` of the crate marks. Cells may
 //! hold anything: all that is given was tested first.
+#![tactic(auto)]
 ghost use mathlib.Core.Path.{◌≡◌};
 ghost use mathlib.Core.Bool.{◌||◌};
 ghost use mathlib.Core.Option.{none};

@@ -1,5 +1,6 @@
 //! The trials of a big day in lent cells (document 02, 2.10): which period is forbidden next, and the best plan so far.
 //! Of n periods there are n keys, then n marks, 0 where a period is allowed, then the n amounts of the best plan.
+#![tactic(auto)]
 ghost use Rattle.std.specs.Prelude.{◌≡◌, ◌++◌, ℕ, ◌+◌, ◌*◌, ◌^◌, ◌≤◌, ◌<◌, length, drop};
 ghost use Rattle.day.specs.Day.{max_periods};
 ghost use Rattle.day.specs.Drops.{last_open, another_round, next};
@@ -7,7 +8,7 @@ ghost use Rattle.rounds.specs.Cells.{mark_at, plan_in, amount_at, state_in, Kept
 ghost use Rattle.rounds.specs.Turns.{open_of, turn_of};
 
 // An allowed period, or that there is none.
-#[derive(Drop)]
+#[derive(Clone, Copy)]
 pub enum Open {
     At(usize),
     Nothing,
@@ -29,7 +30,7 @@ fn last_open(cells: &[u64], n: usize, m: usize) -> Open
 }
 
 // The period to forbid next, and whether its round has forbidden one before it; or the call stops.
-#[derive(Drop)]
+#[derive(Clone, Copy)]
 pub enum Coming {
     Try(usize, bool),
     Stop,

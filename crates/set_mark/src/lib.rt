@@ -1,4 +1,5 @@
 //! A day set as a mark (document 02, 2.14): its n, A, Z and six tables copied into the mark's cells. What it does is `Setting` of the crate marks.
+#![tactic(auto)]
 ghost use mathlib.Core.Path.{◌≡◌};
 ghost use Prim.Native.Nat.{◌≤◌};
 ghost use lib.ListN.{length};

@@ -1,11 +1,12 @@
 //! Six lent tables that a call fills from the front, period by period: the reader's, and those of a test load.
+#![tactic(auto)]
 ghost use Rattle.std.specs.Prelude.{◌≡◌, ◌+◌, min};
 ghost use Rattle.day.specs.Day.{tables_of};
 ghost use Rattle.day.specs.Lent.{tables_before, tables_after};
 ghost use Rattle.tables.specs.Filled.{Cells, stored};
 
 // The numbers of one period.
-#[derive(Drop)]
+#[derive(Clone, Copy)]
 pub struct Numbers {
     pub demand: u16,
     pub capacity: u16,

@@ -1,4 +1,5 @@
 //! A test load (document 02, 2.7): a made-up day that anyone can draw again from its seed, in six lent tables. What it does is `Loading` in specs/.
+#![tactic(auto)]
 ghost use Rattle.std.specs.Prelude.{◌≡◌};
 ghost use Rattle.day.specs.Day.{tables_of};
 ghost use Rattle.day.specs.Refusals.{checked};
@@ -26,7 +27,7 @@ pub fn upper(seed: u32) -> u16
 }
 
 // One period of a test load, and the seed after its draws.
-#[derive(Drop)]
+#[derive(Clone, Copy)]
 struct Drawn {
     numbers: Numbers,
     seed: u32,

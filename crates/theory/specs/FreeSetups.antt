@@ -4,7 +4,7 @@
 -- one or several at once to one period; `no_plan`; `done_optimal`. Assumes nothing.
 use Rattle.std.specs.Prelude.{◌≡◌, refl, ◌↔◌, ◌≢◌, ℕ, zero, suc, ◌+◌, ◌-◌, ◌≤◌, ◌<◌, min}
 use Rattle.std.proofs.Math.Path.{sym}
-use Rattle.std.proofs.Common.{ap, ⊎_elim, eq-or-lt_of_le, le_of_suc-le-suc, arith}
+use Rattle.std.proofs.Common.{subst, ap, ⊎_elim, eq-or-lt_of_le, le_of_suc-le-suc, arith}
 use Rattle.std.proofs.Math.Decide.{dec_lt, ℕ_discrete}
 use Rattle.day.specs.Sums.{sum_to, sum_ext, sum_grows}
 use Rattle.day.specs.Plan.{making, Precedes}
@@ -36,11 +36,14 @@ weight_before : (M : Model) (j m : ℕ) → m ≤ j → sum_to (weight M j) m �
 weight_before M j zero l = refl
 weight_before M j (suc m) l = rw (only_other j m (omega arith), past_before j (suc m) l) (omega (arith, weight_before M j m (omega arith)))
 
+weight_last : (M : Model) (m : ℕ) → sum_to (weight M m) (suc m) ≡ key M (suc m) m
+weight_last M m = rw (only_same m, past_after m (suc m) (omega arith)) (omega (arith, weight_before M m m (omega arith)))
+
 weight_key : (M : Model) (j m : ℕ) → j < m → sum_to (weight M j) m ≡ key M m j
 weight_key M j zero l = absurd (omega arith)
 weight_key M j (suc m) l =
     ⊎_elim
-    (λ (e : j ≡ m). rw (e, only_same m, past_after m (suc m) (omega arith)) (omega (arith, weight_before M m m (omega arith))))
+    (λ (e : j ≡ m). subst (λ (i : ℕ). sum_to (weight M i) (suc m) ≡ key M (suc m) i) (sym e) (weight_last M m))
     (λ (h : j < m).
     rw (only_other j m (omega arith), past_after j (suc m) l) (omega (arith, weight_key M j m h, sum_grows M.holding j m (omega arith))))
     (eq-or-lt_of_le (le_of_suc-le-suc l))

@@ -1,1 +1,2 @@
 //! The theory behind the planner, over one model; all of it is in specs/.
+#![tactic(auto)]

@@ -1,5 +1,6 @@
 //! For the trials of the paths: made-up tiny days, by the draws of a test load. A tiny day has one to four periods, in which it makes at most 10
 //! in all.
+#![tactic(auto)]
 ghost use Rattle.std.specs.Prelude.{◌≡◌, ◌+◌, ◌%◌};
 ghost use Rattle.tiny_days.specs.MadeUp.{capacity_of, store_of, drawn_of, ends_from, stores_from, MadeUp};
 
@@ -7,7 +8,7 @@ use day::Ends;
 use test_load::{next_seed, upper};
 
 // Which capacities a made-up day has: any, one throughout, or such as cannot bind.
-#[derive(Drop)]
+#[derive(Clone, Copy)]
 pub enum Capacities {
     Any,
     Equal,
@@ -26,7 +27,7 @@ fn capacity_of(capacities: Capacities, drawn: u16, common: u16) -> u16
 }
 
 // Which store limits a made-up day has: none, low ones, of which many bind, or such as no path refuses.
-#[derive(Drop)]
+#[derive(Clone, Copy)]
 pub enum Stores {
     Unlimited,
     Low,
@@ -45,7 +46,7 @@ fn store_of(stores: Stores, drawn: u16) -> u16
 }
 
 // One period of a made-up day, and the seed after its draws. Small numbers, so that ties are many.
-#[derive(Drop)]
+#[derive(Clone, Copy)]
 struct Drawn {
     seed: u32,
     demand: u16,
@@ -110,7 +111,7 @@ fn draw_stores(seed: u32, stores: Stores) -> [u16; 4]
 
 // A made-up day: the first n cells of its tables, and its ends; and the seed for the next one. The ends are drawn after the periods, then
 // the store limits, and the next day's seed is the one before these draws: so the same seed gives the same days but for ends and stores.
-#[derive(Drop)]
+#[derive(Clone, Copy)]
 pub struct Tiny {
     pub seed: u32,
     pub n: usize,

@@ -9,14 +9,14 @@ use trial_text::{cells, print, text};
 use weigher::{Verdict, Weighed};
 
 // What the search finds: the plan of the day, and its plan with all starts free.
-#[derive(Drop)]
+#[derive(Clone, Copy)]
 struct Found {
     plan: Best,
     free: Best,
 }
 
 // What the call gave with one trial fewer: the cost of its plan, and the trials used.
-#[derive(Drop)]
+#[derive(Clone, Copy)]
 struct Earlier {
     cost: u64,
     used: u64,

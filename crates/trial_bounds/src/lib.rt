@@ -1,4 +1,5 @@
 //! Trials of needs known as ranges (document 02, 2.9), in lent areas whose every cell holds the mark.
+#![tactic(auto)]
 use day::{BoundsAnswer, Ends};
 use trial_paths::paths;
 use trial_paths::paths::Path;

@@ -1,4 +1,5 @@
 //! Trials of day files: reader, lookup and writer.
+#![tactic(auto)]
 ghost use Rattle.std.specs.Prelude.{◌≡◌, ◌≤◌, ◌<◌, length};
 
 use day::{Check, Ends, Expected, Stamp};

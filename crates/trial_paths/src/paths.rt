@@ -5,7 +5,7 @@ use day::{Answer, Ends, EqualAnswer, Loads, Totals};
 use trial_text::cells::MARK;
 use trial_text::{cells, print, text};
 
-#[derive(Drop)]
+#[derive(Clone, Copy)]
 pub enum Path {
     Full,
     Uncapped,
@@ -36,7 +36,7 @@ fn name_of(path: Path) {
 }
 
 // The cells that a path needs (document 01's table; document 02, 2.3).
-#[derive(Drop)]
+#[derive(Clone, Copy)]
 pub struct Cells {
     pub costs: usize,
     pub choices: usize,
@@ -77,7 +77,7 @@ pub fn needed(path: Path, demand: &[u16], ends: Ends) -> Cells
 }
 
 // What a call answered; the loads where it gives them, else none.
-#[derive(Drop)]
+#[derive(Clone, Copy)]
 struct Answered {
     answer: Answer,
     loads: Loads,
@@ -101,7 +101,7 @@ fn with_loads(answer: EqualAnswer) -> Answered {
 }
 
 // What a call answered, and whether it left every lent cell as document 01 says.
-#[derive(Drop)]
+#[derive(Clone, Copy)]
 pub struct Outcome {
     pub answer: Answer,
     pub kept: bool,

@@ -18,7 +18,7 @@ fn refused(answer: Answer) -> u8 {
 }
 
 // What a call showed: whether it agreed with the search, the number of its refusal, and whether it left lent cells as it must.
-#[derive(Drop)]
+#[derive(Clone, Copy)]
 struct Seen {
     agrees: bool,
     number: u8,

@@ -1,4 +1,5 @@
 //! Trials of the weigher, on plans that a line gives, and of the plain search, which weighs them all.
+#![tactic(auto)]
 ghost use Rattle.std.specs.Prelude.{◌≡◌, nat_abs};
 
 use day::Ends;

@@ -1,4 +1,5 @@
 //! Trials of played days (document 02, 2.11): on the plan and the actual needs that a line gives, and on made-up tiny days.
+#![tactic(auto)]
 use day::Ends;
 use play::{Flows, PlayAnswer};
 use std::num::wrapping_add_u64;

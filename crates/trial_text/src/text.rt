@@ -105,7 +105,7 @@ pub fn number(s: &[u8]) -> u32 {
 }
 
 // A word: from where to where it goes, and where in it an 'x' stands, which says how often it is repeated.
-#[derive(Drop)]
+#[derive(Clone, Copy)]
 pub struct Word {
     pub from: usize,
     pub mark: usize,
@@ -137,7 +137,7 @@ pub fn times(s: &[u8], mark: usize, to: usize) -> u32
 }
 
 // Numbers as they are read: where the next word begins, the number at hand, how often it comes again, and whether there is one.
-#[derive(Drop)]
+#[derive(Clone, Copy)]
 struct Reading {
     at: usize,
     value: u32,

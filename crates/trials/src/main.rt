@@ -1,5 +1,6 @@
 //! Tries every call of the library on a day, a plan or a file on those of standard input, and prints a line for each answer. What it reads is
 //! the file stdin beside src/, which says how its lines are laid out; what it writes is compared with the file stdout.
+#![tactic(auto)]
 use day::Ends;
 use libc::STDIN_FILENO;
 use trial_big::call;

@@ -1,5 +1,6 @@
 //! The rows of Wagner and Whitin (report, section 3): for every m the cost of the plan of the first m periods, and how many of them come
 //! before its last lot. A candidate for the last lot is dropped as soon as its summed cost passes the best found (document 02, 2.13).
+#![tactic(auto)]
 ghost use Rattle.std.specs.Prelude.{◌≡◌, ◌+◌, ◌*◌, ◌^◌, ◌≤◌, ◌<◌, min, length};
 ghost use Rattle.day.specs.Sums.{at, Term};
 ghost use Rattle.day.specs.Day.{max_rate};
@@ -8,14 +9,14 @@ ghost use Rattle.uncapped_rows.specs.Rows.{better, lot_cost, held_through, carri
 ghost use Rattle.uncapped_rows.specs.Rows.{RowsReady, FillReady, RowsWritten};
 
 // A row's cost, and how many periods come before its last lot.
-#[derive(Drop)]
+#[derive(Clone, Copy)]
 pub struct LastLot {
     pub cost: u64,
     pub from: usize,
 }
 
 // Upkeep summed from a row's end down to a period: what has to be left when that period begins, and what holding costs from then on.
-#[derive(Drop)]
+#[derive(Clone, Copy)]
 pub struct Holding {
     pub left: u64,
     pub held: u64,

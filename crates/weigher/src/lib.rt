@@ -1,5 +1,6 @@
 //! Weighs a given plan of a day: whether it keeps the conditions, what it costs, how two plans compare.
 //! (Document 01, "The weigher"; document 02, 2.1, 2.2, 2.4, 2.5.) What the answers mean is in specs/.
+#![tactic(auto)]
 ghost use Rattle.std.specs.Prelude.{◌≡◌, ◌^◌, ◌<◌, pos, ◌-ℤ◌};
 ghost use Rattle.day.specs.Sums.{at};
 ghost use Rattle.day.specs.Day.{day_of};
@@ -12,7 +13,7 @@ ghost use Rattle.weigher.specs.Running.{walk_of};
 use day::{Check, Ends, Refusal, Totals};
 
 // The rules that a plan can break, in the order in which one period is judged.
-#[derive(Drop)]
+#[derive(Clone, Copy)]
 pub enum Rule {
     // An amount above its period's capacity.
     AboveCapacity,
@@ -25,21 +26,21 @@ pub enum Rule {
 }
 
 // What weighing says of a plan: it keeps every rule, or the first that it breaks, with the period.
-#[derive(Drop)]
+#[derive(Clone, Copy)]
 pub enum Verdict {
     Holds(Totals),
     Broken(Rule, u16),
 }
 
 // What the weigher answers.
-#[derive(Drop)]
+#[derive(Clone, Copy)]
 pub enum Weighed {
     Refused(Refusal),
     Judged(Verdict),
 }
 
 // What the comparison of two plans answers.
-#[derive(Drop)]
+#[derive(Clone, Copy)]
 pub enum Compared {
     Refused(Refusal),
     Broken(Rule, u16),
@@ -60,7 +61,7 @@ impl Rule {
 }
 
 // One period's entries.
-#[derive(Drop)]
+#[derive(Clone, Copy)]
 struct Entries {
     demand: u16,
     capacity: u16,
@@ -72,7 +73,7 @@ struct Entries {
 
 // The sums through the periods judged so far. What was made is counted on top of the opening inventory: A + X, so that the
 // inventory is `supplied` less `demanded`.
-#[derive(Drop)]
+#[derive(Clone, Copy)]
 struct Sums {
     cost: u64,
     setups: u64,
@@ -81,7 +82,7 @@ struct Sums {
 }
 
 // What one period does: the sums through it, or the rule that it breaks.
-#[derive(Drop)]
+#[derive(Clone, Copy)]
 enum Ruling {
     Kept(Sums),
     Broke(Rule),
