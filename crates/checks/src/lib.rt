@@ -1,6 +1,7 @@
 //! The documents' tests on lent tables and the ends of a day, by their numbers: each alone, and in the order in which calls apply them.
 //! Every function answers what the conditions say that it cites from the crate day. What a caller learns from an answer is in specs/.
 #![tactic(auto)]
+
 ghost use Rattle.std.specs.Prelude.{◌≡◌, ◌||◌, [], ◌+◌, ◌-◌, ◌*◌, ◌^◌, ◌≤◌, ◌<◌, min, ltb, length};
 ghost use Rattle.day.specs.Sums.{Term, at, sum_to};
 ghost use Rattle.day.specs.Day.{day_of, tables_of, required, due_of, total, max_periods, max_demand, max_capacity, max_setup, max_rate, max_half_rate, max_sum};

@@ -3,7 +3,7 @@
 -- Main statement: `florian_klein_cover`. Assumes nothing.
 use Rattle.std.specs.Prelude.{◌≡◌, refl, ◌⊎◌, ℕ, zero, suc, ◌+◌, ◌-◌, ◌%◌, ◌≤◌, ◌<◌}
 use Rattle.std.proofs.Common.{sym, ap₂, ◌∙◌, inl, inr, ⊎_elim, eq-or-lt_of_le, eq-zero-or-pos, arith}
-use Rattle.std.proofs.Math.Option.{Option, none, some}
+use Rattle.std.proofs.Math.Option.{Option}
 use Rattle.std.proofs.Math.Decide.{ℕ_discrete}
 use Rattle.day.specs.Sums.{sum_to}
 use Rattle.day.specs.Loads.{made_in}

@@ -4,7 +4,7 @@
 use Rattle.std.specs.Prelude.{◌≡◌, refl, ℕ, zero, suc, ◌+◌, ◌-◌, ◌*◌, ◌≤◌, ◌<◌}
 use Rattle.std.proofs.Common.{sym, ap, ◌∙◌, ⊎_elim, eq-or-lt_of_le, eq-zero-or-pos, le_of_suc-le-suc, arith}
 use Rattle.std.proofs.Math.Decide.{dec_lt}
-use Rattle.day.specs.Sums.{at, sum_to, sum_ext, sum_grows}
+use Rattle.day.specs.Sums.{sum_to, sum_ext, sum_grows}
 use Rattle.day.specs.Plan.{Smaller, Precedes}
 use Rattle.theory.specs.Model.{Model, Rising, Unlimited, production, cost_at, cost_to, FeasibleTo, OptimalTo}
 use Rattle.theory.specs.Order.{precedes_trans, smaller_before}

@@ -1,0 +1,2 @@
+-- The marked days are right.
+pub mod Marked
