@@ -1,5 +1,6 @@
 //! The terms of sum (1): what making an amount costs, what holding a charge costs, whether a setup is paid.
 #![tactic(auto)]
+
 ghost use Rattle.std.specs.Prelude.{◌*◌, ◌^◌, ◌<◌};
 ghost use Rattle.day.specs.Sums.{Term};
 ghost use Rattle.day.specs.Plan.{making, setup_at};
