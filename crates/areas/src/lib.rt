@@ -1,6 +1,7 @@
 //! Lent cells cleared, areas at the end of an accepted call and slots where a plan begins with nothing made; cells copied.
 //! Wide cells have 64 bits, narrow ones 16.
 #![tactic(auto)]
+
 ghost use Rattle.std.specs.Prelude.{◌≡◌, ◌≤◌, length};
 ghost use Rattle.day.specs.Outcome.{Cleared};
 
