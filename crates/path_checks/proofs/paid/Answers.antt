@@ -1,0 +1,12 @@
+-- A setup cost above 0 is the first that is.
+use Rattle.std.proofs.Common.{arith}
+use borrow.Author.Tests.{lt-ltb}
+use Rattle.day.specs.declared.Refusal.TheVariants.{PaidSetup}
+use Rattle.day.specs.Sums.{at}
+use Rattle.checks.specs.Search.{refused_here}
+use Rattle.path_checks.proofs.paid.Goals as goal
+
+pub returns-then-setup-i-gt0 : goal.returns-then-setup-i-gt0
+returns-then-setup-i-gt0 c =
+    let above = lt-ltb 0 (at c.args.setup.now c.loop-i.i) (omega arith) in
+    refused_here c.loop-i.invariant PaidSetup above (omega arith)
