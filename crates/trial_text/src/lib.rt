@@ -1,5 +1,6 @@
 //! What the trials share: the lines that they read, what they print, and the cells that they lend. It needs none of the library's calls.
 #![tactic(auto)]
+
 pub mod cells;
 pub mod print;
 pub mod text;

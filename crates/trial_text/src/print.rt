@@ -1,43 +1,46 @@
 //! What the trials print.
 use day::{Ends, Refusal};
-use libc::STDOUT_FILENO;
+use std::io;
+use std::io::Write;
 
-pub fn text(words: &[u8]) {
-    io::write_all(STDOUT_FILENO, words);
+pub fn text(rt: &impl Print, words: &[u8]) -> io::Result<()> {
+    io::writer(rt).write_all(words)
 }
 
-pub fn number(words: &[u8], n: u64) {
-    io::write_all(STDOUT_FILENO, words);
-    io::print_decimal(STDOUT_FILENO, n);
+pub fn number(rt: &impl Print, words: &[u8], n: u64) -> io::Result<()> {
+    text(rt, words)?;
+    print!(rt; "{n}")
 }
 
-pub fn end() {
-    text(b"\n");
+pub fn end(rt: &impl Print) -> io::Result<()> {
+    text(rt, b"\n")
 }
 
-pub fn refusal(r: Refusal) {
-    number(b" refused ", r.number() as u64);
-    number(b" period ", r.period() as u64);
+pub fn refusal(rt: &impl Print, r: Refusal) -> io::Result<()> {
+    number(rt, b" refused ", r.number() as u64)?;
+    number(rt, b" period ", r.period() as u64)
 }
 
 // The ends of a day that has any.
-pub fn ends(e: Ends) {
+pub fn ends(rt: &impl Print, e: Ends) -> io::Result<()> {
     if 0 < e.opening || 0 < e.closing {
-        number(b" opening ", e.opening as u64);
-        number(b" closing ", e.closing as u64);
+        number(rt, b" opening ", e.opening as u64)?;
+        number(rt, b" closing ", e.closing as u64)?;
     }
+    Ok(())
 }
 
-fn amount(x: u16) {
-    number(b" ", x as u64);
+fn amount(rt: &impl Print, x: u16) -> io::Result<()> {
+    number(rt, b" ", x as u64)
 }
 
-pub fn amounts(plan: &[u16]) {
+pub fn amounts(rt: &impl Print, plan: &[u16]) -> io::Result<()> {
     let mut k = 0;
     while k < plan.len() {
-        amount(plan[k]);
+        amount(rt, plan[k])?;
         k += 1;
     }
+    Ok(())
 }
 
 // Whether one of the store limits limits anything.
@@ -53,32 +56,36 @@ fn limited(store: &[u16]) -> bool {
 }
 
 // The store limits of a day that has any.
-pub fn stores(store: &[u16]) {
+pub fn stores(rt: &impl Print, store: &[u16]) -> io::Result<()> {
     if limited(store) {
-        text(b" stores");
-        amounts(store);
+        text(rt, b" stores")?;
+        amounts(rt, store)?;
     }
+    Ok(())
 }
 
 // Says so where a call did not leave lent cells as it must.
-pub fn unless(kept: bool) {
+pub fn unless(rt: &impl Print, kept: bool) -> io::Result<()> {
     if !kept {
-        text(b", WRONG CELLS");
+        text(rt, b", WRONG CELLS")?;
     }
+    Ok(())
 }
 
-fn one_count(k: usize, n: u64) {
+fn one_count(rt: &impl Print, k: usize, n: u64) -> io::Result<()> {
     if 0 < n {
-        number(b" ", k as u64);
-        number(b": ", n);
+        number(rt, b" ", k as u64)?;
+        number(rt, b": ", n)?;
     }
+    Ok(())
 }
 
 // How many there are of each kind.
-pub fn counts(of: [u64; 21]) {
+pub fn counts(rt: &impl Print, of: [u64; 21]) -> io::Result<()> {
     let mut k = 0;
     while k < 21 {
-        one_count(k, of[k]);
+        one_count(rt, k, of[k])?;
         k += 1;
     }
+    Ok(())
 }

@@ -26,6 +26,11 @@ pub fn product(a: usize, b: usize) -> usize
     a * b
 }
 
+// Whether two words are the same.
+pub fn same(a: &[u8], b: &[u8]) -> bool {
+    a == b
+}
+
 // The first place from there on that holds the byte, or, where not `there`, another one; the length where none does.
 pub fn find(s: &[u8], from: usize, byte: u8, there: bool) -> usize
     requires { from ≤ length s.now }
