@@ -133,7 +133,7 @@ record Came (full j d x j' d' : ℕ) : Type 0 where
   index : index_of j d - step_of full x ≡ index_of j' d'
   few : d' ≤ d
 
-came : {x j' d' : ℕ} (full part j d : ℕ) → part < full → (0 < d → 0 < part) → Step full part j d x j' d' → Came full j d x j' d'
+came : (full part j d : ℕ) {x j' d' : ℕ} → part < full → (0 < d → 0 < part) → Step full part j d x j' d' → Came full j d x j' d'
 came full part j d less real stay = record { index = omega (arith, step_none full 0 refl); few = omega arith }
 came full part j d less real (one_part h) =
     record { index = omega (arith, step_part full part (λ e. omega (arith, real h)) (λ e. omega arith)); few = omega arith }

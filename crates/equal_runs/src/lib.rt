@@ -2,6 +2,7 @@
 //! load (document 01: the part load) is:
 //! j and d stand at index 2 × j + d of a row of costs.
 #![tactic(auto)]
+
 ghost use Rattle.std.specs.Prelude.{◌≡◌, ℕ, ◌+◌, ◌-◌, ◌*◌, ◌^◌, ◌≤◌, ◌<◌, ◌/◌, ◌%◌, length};
 ghost use Rattle.day.specs.Sums.{at, Term};
 ghost use Rattle.theory.specs.Problem.{model_of};

@@ -1,0 +1,2 @@
+-- What the loop of `run` keeps.
+pub mod Running
