@@ -1,11 +1,11 @@
 -- What a contract says of lent tables: the values that they hold when a call begins, and when it ends.
--- Main definitions: `day_before`, `tables_before`, `tables_after`; `memory_before`, `memory_after`, of a path that is lent no choice area
+-- Main definitions: `day_before`, `tables_before`, `tables_lent`, `tables_after`; `memory_before`, `memory_after`, of a path that is lent no choice area
 -- `cells_before`, `cells_after`, and of a call that is lent no slots `areas_before`, `areas_after`. Assumes nothing.
 use Rattle.std.specs.Prelude.{List, [], ℕ}
 use Rattle.std.specs.Borrow.{Bor, MutBor}
 use denote.Triple.Both.{Both}
 use Rattle.day.specs.declared.Ends.{Ends}
-use Rattle.day.specs.Day.{Day, day_of, tables_of}
+use Rattle.day.specs.Day.{Day, day_of, no_ends, tables_of}
 use Rattle.day.specs.Outcome.{Memory, memory_of}
 
 -- a slice that is lent to be read, as a contract's `ensures` has it: at entry and at exit
@@ -20,9 +20,12 @@ abbrev pub day_before : (demand capacity setup unit holding store : Lent) → En
 day_before demand capacity setup unit holding store ends =
     day_of demand.entry.now capacity.entry.now setup.entry.now unit.entry.now holding.entry.now store.entry.now ends
 
--- tables that are lent without ends
-abbrev pub tables_before : (demand capacity setup unit holding store : LentMut) → Day
-tables_before demand capacity setup unit holding store =
+-- tables that are lent without ends: to be read, and to be filled
+abbrev pub tables_before : (demand capacity setup unit holding store : Lent) → Day
+tables_before demand capacity setup unit holding store = day_before demand capacity setup unit holding store no_ends
+
+abbrev pub tables_lent : (demand capacity setup unit holding store : LentMut) → Day
+tables_lent demand capacity setup unit holding store =
     tables_of demand.entry.now capacity.entry.now setup.entry.now unit.entry.now holding.entry.now store.entry.now
 
 abbrev pub tables_after : (demand capacity setup unit holding store : LentMut) → Day

@@ -5,7 +5,7 @@ ghost use Rattle.std.specs.Prelude.{◌≡◌, ◌≤◌, length};
 ghost use Rattle.day.specs.Day.{tables_of, ends_of, max_periods};
 ghost use Rattle.day.specs.Refusals.{checked, bad_value};
 ghost use Rattle.day.specs.File.{body_length, limit_in, periods_in, day_in};
-ghost use Rattle.day.specs.Lent.{tables_before, tables_after};
+ghost use Rattle.day.specs.Lent.{tables_lent, tables_after};
 ghost use Rattle.tables.specs.Filled.{Cells};
 ghost use Rattle.dayfile.specs.Answers.{with_day, bad_read, Reading};
 ghost use Rattle.dayfile_reader.specs.Numbers.{numbers_in};
@@ -73,7 +73,7 @@ fn fill(
     requires n_value { n ≡ periods_in file.now }
     requires cells { Cells n (tables_of demand.old capacity.old setup.old unit.old holding.old store.old) }
     ensures { tables_after demand capacity setup unit holding store
-        ≡ with_day file.now (tables_before demand capacity setup unit holding store) }
+        ≡ with_day file.now (tables_lent demand capacity setup unit holding store) }
 {
     let mut at = layout::head_end(file);
     let mut k = 0;
@@ -153,7 +153,7 @@ pub fn read(
     store: &mut [u16],
     expected: Expected,
 ) -> ReadAnswer
-    ensures { Reading expected file.now (tables_before demand capacity setup unit holding store) result
+    ensures { Reading expected file.now (tables_lent demand capacity setup unit holding store) result
         (tables_after demand capacity setup unit holding store) }
 {
     let n = layout::periods(file);

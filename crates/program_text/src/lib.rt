@@ -2,7 +2,7 @@
 #![tactic(auto)]
 ghost use Rattle.std.specs.Prelude.{◌≡◌, ◌≤◌, length};
 ghost use Rattle.day.specs.Day.{day_of};
-ghost use Rattle.day.specs.Lent.{day_before, tables_before, tables_after};
+ghost use Rattle.day.specs.Lent.{day_before, tables_lent, tables_after};
 ghost use Rattle.checks.specs.Passed.{Limits};
 ghost use Rattle.lines.specs.Text.{line_bytes, Put, Prints};
 ghost use Rattle.plan_text.specs.Text.{text_bytes};
@@ -39,7 +39,7 @@ fn read(
     store: &mut [u16],
     expected: Expected,
 ) -> ReadAnswer
-    ensures { Inputs expected file.now (tables_before demand capacity setup unit holding store) result
+    ensures { Inputs expected file.now (tables_lent demand capacity setup unit holding store) result
         (tables_after demand capacity setup unit holding store) }
 {
     if 1837 < file.len() {

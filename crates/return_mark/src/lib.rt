@@ -10,7 +10,7 @@ ghost use lib.ListN.{length};
 ghost use Rattle.day.specs.Sums.{at};
 ghost use Rattle.day.specs.Day.{tables_of, ends_of, periods, required, max_periods, max_demand, max_capacity, max_setup, max_rate, max_half_rate, max_store, max_total};
 ghost use Rattle.day.specs.Refusals.{checked, first, bad_value, bad_slots, total_tests};
-ghost use Rattle.day.specs.Lent.{tables_before, tables_after};
+ghost use Rattle.day.specs.Lent.{tables_lent, tables_after};
 ghost use Rattle.tables.specs.Filled.{Cells, with_tables};
 ghost use Rattle.marks.specs.Store.{mark_cells, held_in};
 ghost use Rattle.marks.specs.Calls.{held_tests, no_day, mark_tests, bad_return, Giving, Returning};
@@ -188,7 +188,7 @@ fn fill(
     requires n_value { n ≡ at mark.now 0 }
     requires cells { Cells n (tables_of demand.old capacity.old setup.old unit.old holding.old store.old) }
     ensures { tables_after demand capacity setup unit holding store
-        ≡ with_tables (held_in mark.now) (tables_before demand capacity setup unit holding store) }
+        ≡ with_tables (held_in mark.now) (tables_lent demand capacity setup unit holding store) }
 {
     let mut k = 0;
     while k < n {
@@ -210,7 +210,7 @@ fn give(
 ) -> ReadAnswer
     requires sound { Sound mark.now }
     requires cells { Cells (periods (held_in mark.now)) (tables_of demand.old capacity.old setup.old unit.old holding.old store.old) }
-    ensures { Giving none (held_in mark.now) (tables_before demand capacity setup unit holding store) result
+    ensures { Giving none (held_in mark.now) (tables_lent demand capacity setup unit holding store) result
         (tables_after demand capacity setup unit holding store) }
 {
     let n = mark[0] as usize;
@@ -229,7 +229,7 @@ pub fn recall(
     holding: &mut [u32],
     store: &mut [u16],
 ) -> ReadAnswer
-    ensures { Returning mark cells.now (tables_before demand capacity setup unit holding store) result
+    ensures { Returning mark cells.now (tables_lent demand capacity setup unit holding store) result
         (tables_after demand capacity setup unit holding store) }
 {
     let room = tables::shortest(

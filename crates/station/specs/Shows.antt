@@ -12,7 +12,7 @@ use Rattle.day.specs.Outcome.{Path, Memory, Runs}
 use Rattle.day.specs.Loads.{EqualRuns}
 use Rattle.day.specs.Ranges.{Bounding}
 use Rattle.day.specs.Drops.{Dropping}
-use Rattle.day.specs.Lent.{Lent, day_before, tables_before, tables_after}
+use Rattle.day.specs.Lent.{Lent, day_before, tables_lent, tables_after}
 use Rattle.dayfile.specs.Answers.{Reading, Writing, lookup_figures, read_figures, write_figures}
 use Rattle.test_load.specs.Load.{Loading}
 use Rattle.codes.specs.Codes.{seen, seen_of, check_code, expected_of}
@@ -50,7 +50,7 @@ ReadShows file expected demand capacity setup unit holding store day r =
     Reading
     (expected_of expected.entry.now)
     file.entry.now
-    (tables_before demand capacity setup unit holding store)
+    (tables_lent demand capacity setup unit holding store)
     a
     (tables_after demand capacity setup unit holding store))
     read_figures
@@ -68,5 +68,5 @@ WriteShows stamp demand capacity setup unit holding store ends out count r =
 -- a test load has no out-array: some answer that it may give, by its code alone
 pub record LoadShows (seed n : ℕ) (demand capacity setup unit holding store : Lent) (r : ℕ) : Type 0 where
   pub answer : Check
-  pub given : Loading seed n (tables_before demand capacity setup unit holding store) answer (tables_after demand capacity setup unit holding store)
+  pub given : Loading seed n (tables_lent demand capacity setup unit holding store) answer (tables_after demand capacity setup unit holding store)
   pub shown : r ≡ check_code answer

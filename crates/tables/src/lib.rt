@@ -2,7 +2,7 @@
 #![tactic(auto)]
 ghost use Rattle.std.specs.Prelude.{◌≡◌, ◌+◌, min};
 ghost use Rattle.day.specs.Day.{tables_of};
-ghost use Rattle.day.specs.Lent.{tables_before, tables_after};
+ghost use Rattle.day.specs.Lent.{tables_lent, tables_after};
 ghost use Rattle.tables.specs.Filled.{Cells, stored};
 
 // The numbers of one period.
@@ -28,7 +28,7 @@ pub fn put(
     store: &mut [u16],
 )
     requires { Cells (k + 1) (tables_of demand.old capacity.old setup.old unit.old holding.old store.old) }
-    ensures { tables_after demand capacity setup unit holding store ≡ stored k numbers (tables_before demand capacity setup unit holding store) }
+    ensures { tables_after demand capacity setup unit holding store ≡ stored k numbers (tables_lent demand capacity setup unit holding store) }
 {
     demand[k] = numbers.demand;
     capacity[k] = numbers.capacity;

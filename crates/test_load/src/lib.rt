@@ -3,7 +3,7 @@
 ghost use Rattle.std.specs.Prelude.{◌≡◌};
 ghost use Rattle.day.specs.Day.{tables_of};
 ghost use Rattle.day.specs.Refusals.{checked};
-ghost use Rattle.day.specs.Lent.{tables_before, tables_after};
+ghost use Rattle.day.specs.Lent.{tables_lent, tables_after};
 ghost use Rattle.tables.specs.Filled.{Cells};
 ghost use Rattle.test_load.specs.Draws.{next_seed, upper};
 ghost use Rattle.test_load.specs.Load.{bad_load, with_load, Loading};
@@ -68,7 +68,7 @@ fn draw_periods(
 )
     requires { Cells n (tables_of demand.old capacity.old setup.old unit.old holding.old store.old) }
     ensures { tables_after demand capacity setup unit holding store
-        ≡ with_load seed n (tables_before demand capacity setup unit holding store) }
+        ≡ with_load seed n (tables_lent demand capacity setup unit holding store) }
 {
     let mut at = seed;
     let mut k = 0;
@@ -105,7 +105,7 @@ pub fn fill(
     holding: &mut [u32],
     store: &mut [u16],
 ) -> Check
-    ensures { Loading seed n (tables_before demand capacity setup unit holding store) result (tables_after demand capacity setup unit holding store) }
+    ensures { Loading seed n (tables_lent demand capacity setup unit holding store) result (tables_after demand capacity setup unit holding store) }
 {
     let cells = tables::shortest(
         demand.len(),
