@@ -1,13 +1,7 @@
 -- What a loop keeps that writes amounts one after the other, into wide cells or narrow ones.
 -- Main statements: `writing_none`, where it begins; `writing_more`, one amount more; `writing_kept`, `writing_handed`, where it ends.
 -- Assumes nothing.
-use mathlib.Core.Path.{◌≡◌, refl, sym, ap, ap₂, ◌∙◌}
-use mathlib.Core.List.{List, ◌++◌}
-use Prim.Native.Nat.{ℕ, ◌+◌, ◌*◌, ◌≤◌, ◌<◌}
-use native.Mathlib.Numerals.{add-one}
-use native.Mathlib.Omega.{arith}
-use lib.ListN.{length, take, drop, set, length-set, take-append-drop}
-use lib.Seq.{length-take-le, get_or-take, get_or-set_same, get_or-set_other, drop-set-lt}
+use Rattle.std.proofs.Common.{◌≡◌, refl, sym, ap, ap₂, ◌∙◌, List, ◌++◌, ℕ, ◌+◌, ◌*◌, ◌≤◌, ◌<◌, add-one, arith, length, take, drop, set, length-set, take-append-drop, length-take-le, get_or-take, get_or-set_same, get_or-set_other, drop-set-lt}
 use Rattle.day.specs.Sums.{at, below, list_of-at}
 use Rattle.rounds.specs.Cells.{amount_at, plan_in, Kept}
 

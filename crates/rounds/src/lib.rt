@@ -1,6 +1,7 @@
 //! The trials of a big day in lent cells (document 02, 2.10): which period is forbidden next, and the best plan so far.
 //! Of n periods there are n keys, then n marks, 0 where a period is allowed, then the n amounts of the best plan.
 #![tactic(auto)]
+
 ghost use Rattle.std.specs.Prelude.{◌≡◌, ◌++◌, ℕ, ◌+◌, ◌*◌, ◌^◌, ◌≤◌, ◌<◌, length, drop};
 ghost use Rattle.day.specs.Day.{max_periods};
 ghost use Rattle.day.specs.Drops.{last_open, another_round, next};
