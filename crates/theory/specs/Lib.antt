@@ -31,16 +31,12 @@ pub mod Greedy
 pub mod FreeSetups
 pub mod Batches
 pub mod Counted
--- What the loops run on; the days of documents 01 and 02 as such problems, and their store limits; the rule of 2.3 on them; demands 2 and 3;
--- easier days; the trials of big days; agreement of paths; the demands of the calls, and 2.6 of the equal path.
+-- What the loops run on; the days of documents 01 and 02 as such problems, and their store limits; what demands 2 and 3 say, and the trials of big
+-- days. What holds of these is in proofs/.
 pub mod Problem
 pub mod Net
 pub mod Store
-pub mod Base
-pub mod InTurn
 pub mod Demands
-pub mod Easier
 pub mod Drops
 pub mod Agreement
 pub mod Calls
-pub mod EqualLoads

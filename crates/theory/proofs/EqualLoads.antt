@@ -21,8 +21,9 @@ use Rattle.theory.specs.FullLoads.{few_loads}
 use Rattle.theory.specs.FlorianKlein.{few_parts}
 use Rattle.theory.specs.Problem.{model_of, model_rising, model_unlimited}
 use Rattle.theory.specs.Net.{problem_of, floor_is}
-use Rattle.theory.specs.Store.{Loose, limits_loose}
-use Rattle.theory.specs.Base.{loose_plan}
+use Rattle.theory.specs.Store.{Loose}
+use Rattle.theory.proofs.Loose.{limits_loose}
+use Rattle.theory.proofs.Base.{loose_plan}
 
 -- Whatever is made, the day's periods are runs one after another.
 module _ (d : Day) (x : ℕ → ℕ) where

@@ -11,7 +11,8 @@ use Rattle.theory.specs.Model.{Model, FeasibleTo, OptimalTo, cost_to}
 use Rattle.theory.specs.Problem.{model_under, model_of, ceiling_in}
 use Rattle.theory.specs.Problem as Problem
 use Rattle.theory.specs.Net.{rate_of, problem_of, Fits, rate_is, periods_is, net_covers, floor_is, total_is}
-use Rattle.theory.specs.Store.{ceilings_of, store_model, Loose, ceiling_is, above_net}
+use Rattle.theory.specs.Store.{ceilings_of, store_model, Loose}
+use Rattle.theory.proofs.Store.{ceiling_is, above_net}
 
 -- the charge that every plan holds after i periods: A − R while A lasts, then 0, and Z at the end
 abbrev held_by : Day → ℕ → ℕ

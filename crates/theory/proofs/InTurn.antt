@@ -20,7 +20,7 @@ use Rattle.theory.specs.FreeSetups.{Free, key, key_order, Progress, Due, progres
 use Rattle.theory.specs.Problem.{model_of, model_rising, model_unlimited}
 use Rattle.theory.specs.Net.{rate_of, problem_of, Fits, rate_is, net_zero, floor_is}
 use Rattle.theory.specs.Store.{Loose}
-use Rattle.theory.specs.Base.{loose_feasible, loose_plan}
+use Rattle.theory.proofs.Base.{loose_feasible, loose_plan}
 
 -- a less b is z
 abbrev Less : (a b : ℕ) → ℤ → Type 0
