@@ -1,11 +1,7 @@
 -- The walk over a day's periods while it runs: what its sums are then, where it goes on, where a broken rule stops it, where it ends.
 -- Assumes nothing.
-use mathlib.Core.Path.{◌≡◌, refl, sym, ap, ◌∙◌}
-use mathlib.Core.Logic.{⊎_elim}
-use Prim.Native.Nat.{ℕ, zero, suc, ◌+◌, ◌≤◌, ◌<◌}
-use native.Mathlib.Nat.{eq-or-lt_of_le, le_of_suc-le-suc}
-use native.Mathlib.Omega.{arith}
-use lib.Arith.{le-zero}
+use Rattle.std.proofs.Common.{◌≡◌, refl, sym, ap, ◌∙◌, ⊎_elim, ℕ, zero, suc, ◌+◌, ◌≤◌, ◌<◌, eq-or-lt_of_le, le_of_suc-le-suc, arith}
+use Rattle.std.proofs.Math.Arith.{le-zero}
 use Rattle.day.specs.Sums.{sum_to}
 use Rattle.day.specs.Day.{Day, periods, demand_to}
 use Rattle.weigher.specs.declared.Rule.{Rule}

@@ -10,7 +10,6 @@ use Rattle.day.specs.Sums.{at, sum_to}
 use Rattle.day.specs.Find.{Found, find, find_here, none_found, nothing_found, some_found}
 use Rattle.day.specs.Day.{Day, periods, due_of, due_to, due_least, demand_to}
 use Rattle.day.specs.Plan.{inventory, Feasible}
-use Rattle.day.specs.Refusals.{first}
 use Rattle.day.specs.Figures.{first_value, second_value}
 use Rattle.day.specs.Outcome.{Counts}
 use Rattle.weigher.specs.declared.Rule.{Rule}
