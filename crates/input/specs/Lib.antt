@@ -1,2 +1,0 @@
--- What is known of bytes that were read; no contract can say what they are.
-pub mod Input
