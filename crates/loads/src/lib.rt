@@ -1,5 +1,6 @@
 //! How a plan loads the cell (document 02, 2.6): its full-load periods and its part-loaded ones, counted.
 #![tactic(auto)]
+
 ghost use Rattle.std.specs.Prelude.{◌≡◌, ◌&&◌, ◌≤◌, ltb, length};
 ghost use Rattle.day.specs.Sums.{at, Term};
 ghost use Rattle.day.specs.Loads.{one_if, loads_through};

@@ -2,6 +2,7 @@
 //! been made, and the rates, which are what a unit left after each period costs to hold. For the full path also the ceilings: the most that the
 //! store limits let be made by the end of each period.
 #![tactic(auto)]
+
 ghost use Rattle.std.specs.Prelude.{◌≡◌, [], ◌≤◌, length};
 ghost use Rattle.day.specs.Day.{day_of, required};
 ghost use Rattle.theory.specs.Net.{net_needs, rates_of, NetFits, HalfRates, NetTables};
