@@ -1,9 +1,5 @@
 -- What the calls of the tests answer, in plain variables. Assumes nothing.
-use mathlib.Core.Path.{◌≡◌, sym, ◌∙◌}
-use mathlib.Core.List.{List}
-use Prim.Native.Nat.{ℕ}
-use native.Mathlib.Omega.{arith}
-use lib.ListN.{length}
+use Rattle.std.proofs.Common.{◌≡◌, sym, ◌∙◌, List, ℕ, length, arith}
 use Rattle.day.specs.declared.Check.{Check}
 use Rattle.day.specs.Day.{Day, periods, with_demand}
 use Rattle.day.specs.Refusals.{checked, above_limit, bad_value, bad_values}
