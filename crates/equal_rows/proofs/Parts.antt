@@ -1,11 +1,9 @@
 -- Lists whose parts were lent and came back, and what fits past the rows. Assumes nothing.
-use mathlib.Core.Path.{◌≡◌, ap, ◌∙◌}
-use mathlib.Core.List.{List, [], ◌++◌, append-nil}
-use Prim.Native.Nat.{ℕ, ◌+◌, ◌-◌, ◌*◌, ◌≤◌}
-use native.Mathlib.Nat.{mul-le-mul, mul-le-mul_right}
-use native.Mathlib.Omega.{arith}
-use lib.ListN.{length, take, drop, length-drop, length-append, drop_of_length-le}
-use lib.Seq.{length-take-le, drop_at, take_at, take_all}
+use Rattle.std.proofs.Common.{◌≡◌, ap, ◌∙◌, List, [], ◌++◌, ℕ, ◌+◌, ◌-◌, ◌*◌, ◌≤◌, arith, length, take, drop}
+use Rattle.std.proofs.Common.{mul-le-mul, length-drop, length-append, length-take-le, drop_at, take_at, take_all}
+use Rattle.std.proofs.Math.Nat.{mul-le-mul_right}
+use Rattle.std.proofs.Math.ListN.{drop_of_length-le}
+use Rattle.std.proofs.lemmas.List.{append-nil}
 use borrow.Rule.Slice.PartMut.{mid_of, post_of, put_mid}
 use Rattle.equal_rows.specs.Rows.{Areas, AreasSized, row_of}
 
