@@ -1,11 +1,8 @@
 -- Laws of the call: what passed tests leave for the work, what the work leaves is what an accepted call leaves, and the count of its plan's loads.
 -- Assumes nothing.
-use mathlib.Core.Path.{◌≡◌, refl, sym, ap, subst, ◌∙◌}
-use mathlib.Core.List.{List, ◌++◌}
-use mathlib.Core.Option.{none}
-use Prim.Native.Nat.{ℕ, ◌-◌, ◌≤◌, ◌<◌}
-use native.Mathlib.Omega.{arith}
-use lib.ListN.{length, drop, replicate, get_or-append}
+use Rattle.std.proofs.Common.{◌≡◌, refl, sym, ap, subst, ◌∙◌, List, ◌++◌, ℕ, ◌-◌, ◌≤◌, ◌<◌, length, drop, replicate, arith}
+use Rattle.std.proofs.Math.Option.{none}
+use lib.ListN.{get_or-append}
 use borrow.Rule.Slice.PartMut.{mid_of, put_mid, mid_len, same_len_mid, drop_put}
 use Rattle.day.specs.declared.Totals.{Totals}
 use Rattle.day.specs.declared.Loads.{Loads}
@@ -27,8 +24,10 @@ use Rattle.weigher.specs.Walk.{FeasiblePlan, path_plan}
 use Rattle.theory.specs.Problem.{Problem, model_of}
 use Rattle.theory.specs.Problem as Problem
 use Rattle.theory.specs.Net.{NetTables, problem_by, problem_of, periods_is, bounded, problem_is}
-use Rattle.theory.specs.Store.{Loose, limits_loose, loose_supplied}
-use Rattle.theory.specs.Base.{loose_optimal}
+use Rattle.theory.specs.Store.{Loose}
+use Rattle.theory.proofs.Store.{loose_supplied}
+use Rattle.theory.proofs.Loose.{limits_loose}
+use Rattle.theory.proofs.Base.{loose_optimal}
 use Rattle.theory.specs.Cut.{optimal_ext}
 use Rattle.equal_rows.specs.Rows.{areas}
 use Rattle.equal.specs.Solved.{Solvable, PlanFound}
