@@ -1,14 +1,8 @@
 -- Laws of the search for a row: upkeep is summed period by period, a candidate takes the best one's place or is dropped, and what the search
 -- ends with is the row's last lot.
 -- Assumes nothing.
-use mathlib.Core.Path.{◌≡◌, refl, sym, ap, ◌∙◌}
-use mathlib.Core.List.{List}
-use mathlib.Core.Logic.{⊎_elim}
-use Prim.Native.Nat.{ℕ, suc, ◌+◌, ◌-◌, ◌*◌, ◌≤◌, ◌<◌}
-use native.Mathlib.Nat.{mul-le-mul, eq-or-lt_of_le}
-use native.Mathlib.Decide.{dec_le, dec_lt}
-use native.Mathlib.Omega.{arith}
-use lib.ListN.{length}
+use Rattle.std.proofs.Common.{◌≡◌, refl, sym, ap, ◌∙◌, List, ⊎_elim, ℕ, suc, ◌+◌, ◌-◌, ◌*◌, ◌≤◌, ◌<◌, mul-le-mul, eq-or-lt_of_le, arith, length}
+use Rattle.std.proofs.Math.Decide.{dec_le, dec_lt}
 use Rattle.day.specs.Sums.{at, sum_grows, at-list_of, length-list_of}
 use Rattle.day.specs.Day.{max_periods, max_total}
 use Rattle.day.specs.Plan.{making}

@@ -1,12 +1,6 @@
 -- Laws of the loop over the rows: no row but the first is there at the start, and each last lot adds one.
 -- Assumes nothing.
-use mathlib.Core.Path.{◌≡◌, refl, sym, ap, ◌∙◌}
-use mathlib.Core.List.{List, [], ◌++◌}
-use Prim.Native.Nat.{ℕ, suc, ◌+◌, ◌*◌, ◌≤◌, ◌<◌}
-use native.Mathlib.Nat.{le_of_suc-le-suc}
-use native.Mathlib.Omega.{arith}
-use lib.ListN.{length, set, drop, length-set}
-use lib.Seq.{get_or-set_same, get_or-set_other, drop-set-lt}
+use Rattle.std.proofs.Common.{◌≡◌, refl, sym, ap, ◌∙◌, List, [], ◌++◌, ℕ, suc, ◌+◌, ◌*◌, ◌≤◌, ◌<◌, le_of_suc-le-suc, arith, length, set, drop, length-set, get_or-set_same, get_or-set_other, drop-set-lt}
 use Rattle.day.specs.Sums.{at, below}
 use Rattle.theory.specs.Basics.{up_to, up_to-zero}
 use Rattle.theory.specs.Model.{Model}

@@ -1,3 +1,4 @@
 -- Laws of the loops, in the order in which they are used.
 pub mod Candidates
+pub mod Carrying
 pub mod Filling
