@@ -2,7 +2,7 @@
 -- best, and one that is summed to its end is compared with it.
 use Rattle.std.proofs.Common.{◌≡◌, ℕ, suc, ◌+◌, ◌-◌, ◌≤◌, ◌<◌, List, arith}
 use Rattle.day.specs.Sums.{at}
-use Rattle.theory.specs.Problem.{Problem, demand_to}
+use Rattle.theory.specs.Problem.{Problem}
 use Rattle.uncapped_rows.specs.declared.LastLot.{LastLot}
 use Rattle.uncapped_rows.specs.declared.Holding.{Holding}
 use Rattle.uncapped_rows.specs.Bounds.{LotFits}
