@@ -1,13 +1,8 @@
 -- Laws of the call: what passed tests leave for the trials, and what the trials leave is what an accepted call leaves.
 -- Main statements: `prepared`; `preparable`, `startable`, `runnable`, `narrow`, `answerable`; `best_so_far`; `given_plan`. Assumes nothing.
-use mathlib.Core.Path.{◌≡◌, refl, sym, ap, ap₂, ◌∙◌, subst}
-use mathlib.Core.Bool.{false}
-use mathlib.Core.List.{List, [], ◌∷◌, ◌++◌}
-use mathlib.Core.Option.{none, some}
-use Prim.Native.Nat.{ℕ, zero, ◌+◌, ◌-◌, ◌*◌, ◌^◌, ◌≤◌, ◌<◌}
-use native.Mathlib.Omega.{arith}
-use lib.ListN.{length, take, drop, replicate, length-append, length-drop, length-replicate, get_or-replicate}
-use lib.Seq.{ext_get_or, get_or-drop, drop_at}
+use Rattle.std.proofs.Common.{◌≡◌, refl, sym, ap, ap₂, ◌∙◌, subst, false, List, [], ◌∷◌, ◌++◌, ℕ, zero, ◌+◌, ◌-◌, ◌*◌, ◌^◌, ◌≤◌, ◌<◌, arith, length, take, drop, replicate, length-append, length-drop, ext_get_or, get_or-drop, drop_at}
+use Rattle.std.proofs.Math.Option.{none, some}
+use Rattle.std.proofs.Math.ListN.{length-replicate, get_or-replicate}
 use borrow.Author.Tests.{ne_eqb}
 use Rattle.day.specs.declared.Refusal.{Refusal}
 use Rattle.day.specs.declared.Refusal.TheVariants.{NoTrials}

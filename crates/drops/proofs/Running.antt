@@ -1,12 +1,6 @@
 -- What the loop over the trials keeps. Main statements: `running_first`, where it begins; `running_comes`, what the next trial finds; `running_more`, one
 -- trial more; `running_stops`, `running_used`, where it ends. Assumes nothing.
-use mathlib.Core.Path.{◌≡◌, refl, sym, ap, ◌∙◌}
-use mathlib.Core.Bool.{Bool, false}
-use mathlib.Core.List.{List}
-use Prim.Native.Nat.{ℕ, zero, suc, ◌+◌, ◌*◌, ◌≤◌, ◌<◌}
-use native.Mathlib.Numerals.{add-one}
-use native.Mathlib.Omega.{arith}
-use lib.ListN.{length, drop}
+use Rattle.std.proofs.Common.{◌≡◌, refl, sym, ap, ◌∙◌, Bool, false, List, ℕ, zero, suc, ◌+◌, ◌*◌, ◌≤◌, ◌<◌, add-one, arith, length, drop}
 use Rattle.day.specs.Day.{Day, periods, max_periods}
 use Rattle.day.specs.Drops.{Tried, next, FirstTrial, NextTrial, TriedIn}
 use Rattle.theory.specs.Drops.{tried_stands}

@@ -1,15 +1,8 @@
 -- Laws of the trials in turn. Main statements: `begun`, what trial 1 leaves; `step_none`, `step_dearer`, `step_cheaper`, what a further one leaves.
 -- Assumes nothing.
-use mathlib.Core.Path.{◌≡◌, refl, sym, ap, ◌∙◌, subst}
-use mathlib.Core.Bool.{Bool, true}
-use mathlib.Core.List.{List}
-use mathlib.Core.Option.{Option, none, some}
-use Prim.Native.Nat.{ℕ, ◌+◌, ◌*◌, ◌≤◌, ◌<◌}
-use native.Mathlib.Decide.{ℕ_discrete}
-use native.Mathlib.Omega.{arith}
-use lib.Dec.{ltb}
-use lib.ListN.{length, drop, set, replicate, length-set}
-use lib.Seq.{get_or-set_same, get_or-set_other, drop-set-lt}
+use Rattle.std.proofs.Common.{◌≡◌, refl, sym, ap, ◌∙◌, subst, Bool, true, List, Option, ℕ, ◌+◌, ◌*◌, ◌≤◌, ◌<◌, arith, ltb, length, drop, set, replicate, length-set, get_or-set_same, get_or-set_other, drop-set-lt}
+use Rattle.std.proofs.Math.Option.{none, some}
+use Rattle.std.proofs.Math.Decide.{ℕ_discrete}
 use borrow.Author.Tests.{lt-ltb, le-ltb}
 use Rattle.day.specs.Sums.{at, length-list_of}
 use Rattle.day.specs.Day.{Day, periods}

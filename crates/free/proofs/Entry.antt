@@ -1,12 +1,8 @@
 -- Laws of the call: what passed tests leave for the loops, and what the loops leave is what an accepted call leaves.
 -- Assumes nothing.
-use mathlib.Core.Path.{◌≡◌, refl, ap, ap₂, ◌∙◌, subst}
-use mathlib.Core.List.{List, ◌++◌}
-use mathlib.Core.Option.{some}
-use Prim.Native.Nat.{ℕ, ◌≤◌}
-use native.Mathlib.Omega.{arith}
-use lib.ListN.{length, drop, replicate, length-replicate}
-use lib.Seq.{drop_at}
+use Rattle.std.proofs.Common.{◌≡◌, refl, ap, ap₂, ◌∙◌, subst, List, ◌++◌, ℕ, ◌≤◌, arith, length, drop, replicate, drop_at}
+use Rattle.std.proofs.Math.Option.{some}
+use Rattle.std.proofs.Math.ListN.{length-replicate}
 use Rattle.day.specs.declared.Totals.{Totals}
 use Rattle.day.specs.Sums.{at}
 use Rattle.day.specs.Day.{Day}

@@ -1,11 +1,6 @@
 -- Laws of the read-back: a lot is put from its end to its beginning, and each lot gives the plan's end from where it begins.
 -- Assumes nothing.
-use mathlib.Core.Path.{◌≡◌, refl, ap, ◌∙◌}
-use mathlib.Core.List.{List, ◌∷◌, ◌++◌, append_assoc}
-use Prim.Native.Nat.{ℕ, suc, ◌+◌, ◌-◌, ◌≤◌, ◌<◌}
-use native.Mathlib.Omega.{arith}
-use lib.ListN.{length, drop, set, replicate, length-set}
-use lib.Seq.{drop-cons, drop-set-lt, get_or-set_same}
+use Rattle.std.proofs.Common.{◌≡◌, refl, ap, ◌∙◌, List, ◌∷◌, ◌++◌, append_assoc, ℕ, suc, ◌+◌, ◌-◌, ◌≤◌, ◌<◌, arith, length, drop, set, replicate, length-set, drop-cons, drop-set-lt, get_or-set_same}
 use Rattle.day.specs.Sums.{at, sum_to, sum_grows}
 use Rattle.day.specs.Day.{max_total}
 use Rattle.uncapped_rows.specs.Lots.{Begins, LastLots}
