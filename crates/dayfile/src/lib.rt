@@ -2,6 +2,7 @@
 //! on it.
 //! What the calls do is said by `Lookup`, `Reading` and `Writing` in specs/; the layout itself is in the crate day's `File`.
 #![tactic(auto)]
+
 pub mod layout;
 pub mod lookup;
 

@@ -1,5 +1,6 @@
 //! Six lent tables that a call fills from the front, period by period: the reader's, and those of a test load.
 #![tactic(auto)]
+
 ghost use Rattle.std.specs.Prelude.{◌≡◌, ◌+◌, min};
 ghost use Rattle.day.specs.Day.{tables_of};
 ghost use Rattle.day.specs.Lent.{tables_lent, tables_after};

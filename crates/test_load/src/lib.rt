@@ -1,5 +1,6 @@
 //! A test load (document 02, 2.7): a made-up day that anyone can draw again from its seed, in six lent tables. What it does is `Loading` in specs/.
 #![tactic(auto)]
+
 ghost use Rattle.std.specs.Prelude.{◌≡◌};
 ghost use Rattle.day.specs.Day.{tables_of};
 ghost use Rattle.day.specs.Refusals.{checked};
