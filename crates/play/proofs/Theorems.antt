@@ -1,6 +1,6 @@
 -- What holds of a played day (document 02, 2.11), over the call's contract. Main statements: `play_inventory`, `play_demand`, both balances;
 -- `played_keeps`, `keeps_played`, which plans are played; `plays_is`, one answer keeps the promise; `as_planned`. Assumes nothing.
-use Rattle.std.specs.Prelude.{◌≡◌, refl, List, [], ◌∷◌, ◌++◌, ℕ, zero, suc, ◌+◌, ◌-◌, ◌≤◌, length}
+use Rattle.std.proofs.Common.{◌≡◌, refl, List, [], ◌∷◌, ◌++◌, ℕ, zero, suc, ◌+◌, ◌-◌, ◌≤◌, length}
 use Rattle.std.proofs.Common.{ap, ◌∙◌, arith}
 use Rattle.std.proofs.Math.Option.{Option, none, some, none-ne-some, some-ne-none}
 use Rattle.day.specs.declared.Refusal.{Refusal}
@@ -24,7 +24,7 @@ use Rattle.play.specs.declared.PlayAnswer.{PlayAnswer}
 use Rattle.play.specs.declared.PlayAnswer.TheVariants.{Refused, Broken, Played}
 use Rattle.play.specs.Play.{lost_of, disposed_of, left_of, inventory_to, flows_to, flows_of}
 use Rattle.play.specs.Answers.{play_refusal, played_on, play_figures, Plays}
-use Rattle.play.specs.Run.{inventory_balance, demand_balance}
+use Rattle.play.proofs.Running.{inventory_balance, demand_balance}
 
 -- the figures fix the flows
 abbrev flows_with : List ℕ → Flows
