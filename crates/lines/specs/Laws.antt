@@ -6,7 +6,7 @@ use Rattle.std.proofs.Math.Nat.{pow-le-pow_right}
 use Rattle.std.proofs.Math.Decide.{dec_lt}
 use Rattle.std.proofs.Math.Seq.{paste}
 use Rattle.std.proofs.lemmas.List.Edits.{length-paste, take-paste, drop-paste}
-use Rattle.io.specs.Digits.{last_digits, IsDigitCount}
+use Rattle.lines.specs.Digits.{last_digits, IsDigitCount}
 use Rattle.day.specs.Sums.{at, sum_to, sum_ext}
 use Rattle.day.specs.Day.{Day}
 use Rattle.day.specs.Plan.{inventory}
@@ -28,7 +28,7 @@ pasted_put line place text h =
     }
 
 -- a 64-bit number has at most 20 digits
-pub few_digits : (n k : ℕ) → IsDigitCount 10 1 n k → n < 2 ^ 64 → k ≤ 20
+pub few_digits : (n k : ℕ) → IsDigitCount 10 n k → n < 2 ^ 64 → k ≤ 20
 few_digits n k f h = go (dec_lt 20 k)
   where
     go : Dec (20 < k) → k ≤ 20
@@ -36,7 +36,7 @@ few_digits n k f h = go (dec_lt 20 k)
     go (no l) = omega arith
 
 -- the fewest digits that hold a number, as `places` counts them
-places_are : (n k : ℕ) → IsDigitCount 10 1 n k → k ≤ 20 → places n ≡ k
+places_are : (n k : ℕ) → IsDigitCount 10 n k → k ≤ 20 → places n ≡ k
 places_are n zero f h = absurd (omega (arith, f.0))
 places_are n (suc k) f h =
     ap places_of
@@ -53,7 +53,7 @@ places_are n (suc k) f h =
 
 -- digits that were put after a word are the number in decimal
 pub number_put : {before between after : List ℕ} {place start next : ℕ} {word : List ℕ} (n k : ℕ) (text : List ℕ)
-    → IsDigitCount 10 1 n k → n < 2 ^ 64 → text ≡ last_digits 10 k n → length text ≤ k
+    → IsDigitCount 10 n k → n < 2 ^ 64 → text ≡ last_digits 10 k n → length text ≤ k
     → Put before place word between start
     → Put between start text after next
     → PutWithin (length word + 20) before place (labelled word n) after next

@@ -3,7 +3,7 @@
 use Rattle.std.specs.Prelude.{◌≡◌, refl, List, [], ◌∷◌, ◌++◌, ℕ, suc, ◌+◌, ◌^◌, ◌≤◌, ltb, length, take, drop}
 use Rattle.std.proofs.Common.{sym, ap, ◌∙◌, append-nil, append_assoc, length-append, arith}
 use Rattle.std.proofs.Math.Option.{Option, none, some}
-use Rattle.io.specs.Digits.{last_digits}
+use Rattle.lines.specs.Digits.{last_digits}
 use Rattle.day.specs.declared.Refusal.{Refusal}
 use Rattle.day.specs.Sums.{drop_later}
 use Rattle.day.specs.Find.{find}

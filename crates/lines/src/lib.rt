@@ -1,5 +1,8 @@
 //! Lines of text, each put at a place of a lent buffer that has room for a line there.
 #![tactic(auto)]
+
+mod decimal;
+
 ghost use Rattle.std.specs.Prelude.{◌≡◌, ◌+◌, ◌≤◌, length, [], ◌∷◌};
 ghost use Rattle.day.specs.Sums.{at};
 ghost use Rattle.day.specs.Day.{day_of};
@@ -28,7 +31,7 @@ fn put_labelled(line: &mut [u8], place: usize, word: &[u8], n: u64) -> usize
     ensures { PutWithin (length word.now + 20) line.old place (labelled word.now n) line.new result }
 {
     let mut digits = [0u8; 20];
-    let k = io::decimal(n, &mut digits);
+    let k = decimal::put(n, &mut digits);
     let start = put(line, place, word);
     put(line, start, &digits[..k])
 }

@@ -1,0 +1,2 @@
+-- Powers of a base, for the digits of a number.
+pub mod Powers
