@@ -1,4 +1,4 @@
--- Laws of the call: what passed tests leave for the work, what the work leaves is what an accepted call leaves, and the count of its plan's loads.
+-- Laws of the call: what passed tests leave for the work, and what the work leaves is what an accepted call leaves.
 -- Assumes nothing.
 use Rattle.std.proofs.Common.{◌≡◌, refl, sym, ap, subst, ◌∙◌, List, ◌++◌, ℕ, ◌-◌, ◌≤◌, ◌<◌, length, drop, replicate, arith}
 use Rattle.std.proofs.Math.Option.{none}
@@ -44,7 +44,7 @@ abbrev pub back : (k : ℕ) (l part : List ℕ) → List ℕ
 back k l part = put_mid 0 (k - 0) l part
 
 module _ (k : ℕ) (l part : List ℕ) (e : length part ≡ length (front k l)) where
-  pub back_length : length (back k l part) ≡ length l
+  back_length : length (back k l part) ≡ length l
   back_length = same_len_mid 0 (k - 0) l part e
 
   back_rest : k ≤ length l → drop k (back k l part) ≡ drop k l
@@ -66,14 +66,6 @@ module _ (d : Day) (m : Memory) (ok : Admitted equal d (sizes_of m)) (r : Needed
 
   choices_inside : r.choices ≤ length m.choices
   choices_inside = omega (arith, needed.choices, ok.room.choices)
-
-  -- what the work left in the front parts fits what is to be cleared
-  pub costs_back : (costs : List ℕ) → length costs ≡ length (front r.costs m.costs) → r.costs ≤ length (back r.costs m.costs costs)
-  costs_back costs e = omega (arith, costs_inside, back_length r.costs m.costs costs e)
-
-  pub choices_back : (choices : List ℕ) → length choices ≡ length (front r.choices m.choices)
-      → r.choices ≤ length (back r.choices m.choices choices)
-  choices_back choices e = omega (arith, choices_inside, back_length r.choices m.choices choices e)
 
   -- The net needs and the rates as they were filled in.
   module _ (net rates : List ℕ) (filled : NetTables d net rates) where
@@ -133,18 +125,3 @@ module _ (d : Day) (m : Memory) (ok : Admitted equal d (sizes_of m)) (r : Needed
             costs = rw needed.costs at (back_cleared r.costs m.costs costs e costs_inside costs' clear);
             choices = rw needed.choices at (back_cleared r.choices m.choices choices f choices_inside choices' clear');
           }
-
--- What is counted once the work is done: the loads of the plan in the slots.
-module _ (d : Day) (m after : Memory) (t : Totals) (passed : refusal equal d (sizes_of m) ≡ none) (done : Accepted equal d t m after) where
-  ok : Admitted equal d (sizes_of m)
-  ok = admitted equal d (sizes_of m) passed
-
-  each : length d.capacity ≡ periods d
-  each = ok.day.limits.lengths.capacity
-
-  pub countable : length d.capacity ≤ length after.slots
-  countable = omega (arith, each, ok.room.slots, done.size)
-
-  pub loads_counted : (l : Loads) → l ≡ loads_through (at d.capacity) (at after.slots) (length d.capacity)
-      → CountsLoads d (at after.slots) (Planned t l)
-  loads_counted l is = rw (is, each, first_value done.counts, second_value done.counts) refl
