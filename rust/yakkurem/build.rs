@@ -1,4 +1,4 @@
-// Links target/staticlib/libstation.a, which `rt staticlib station` makes; YAKKUREM_LIB names another directory.
+// Links target/staticlib/libstation.a, which `tools/build station` makes; YAKKUREM_LIB names another directory.
 fn main() {
     println!("cargo:rerun-if-env-changed=YAKKUREM_LIB");
     let directory = std::env::var("YAKKUREM_LIB")
