@@ -4,7 +4,6 @@ use Rattle.std.specs.Prelude.{◌≡◌, refl, List, ℕ, zero, suc, ◌+◌, �
 use Rattle.std.proofs.Common.{ap, ⊎_elim, eq-or-lt_of_le, le_of_lt, le_trans, lt_of_lt_of_le, mul-add, arith}
 use Rattle.std.proofs.Math.Decide.{dec_lt}
 use Rattle.day.specs.Sums.{at}
-use Rattle.day.specs.Plan.{making}
 use Rattle.theory.specs.Basics.{pick}
 use Rattle.theory.specs.Cheapest.{cheapest, cheapest_right, cheapest_unique}
 use Rattle.theory.specs.Full.{lowest, highest, row_amount}

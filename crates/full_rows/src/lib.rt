@@ -1,5 +1,6 @@
 //! The row step of recursion (5) over lent areas: costs and last amounts for each total that one more period can reach.
 #![tactic(auto)]
+
 ghost use Rattle.std.specs.Prelude.{◌≡◌, ◌+◌, ◌-◌, ◌≤◌, ◌<◌, min, length};
 ghost use Rattle.std.proofs.Math.Decide.{dec_lt};
 ghost use Rattle.theory.specs.Basics.{pick};
