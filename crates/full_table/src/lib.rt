@@ -1,5 +1,6 @@
 //! The table of recursion (5) in lent areas: its rows, one for each period, and the plan read back from it.
 #![tactic(auto)]
+
 ghost use Rattle.std.specs.Prelude.{◌≡◌, ◌++◌, drop};
 ghost use Rattle.theory.specs.Problem.{problem_with};
 ghost use Rattle.full_table.specs.Table.{stage_at, Staged, Fillable, TableFilled, Traceable, plan_read};
