@@ -2,6 +2,7 @@
 ghost use Rattle.std.specs.Prelude.{◌≤◌};
 
 use day::{BigAnswer, Ends};
+use std::io;
 use trial_paths::paths;
 use trial_text::cells::MARK;
 use trial_text::{cells, print, text};
@@ -21,24 +22,32 @@ pub fn as_left(answer: BigAnswer, n: usize, costs: &[u64], slots: &[u16]) -> boo
     cells::costs_left(costs, 3 * k, true) && cells::amounts_left(slots, k, false)
 }
 
-fn print_answer(line: &[u8], answer: BigAnswer, slots: &[u16], n: usize, kept: bool) {
-    print::text(text::name(line));
-    print::text(b" big");
+fn print_answer(
+    rt: &impl Print,
+    line: &[u8],
+    answer: BigAnswer,
+    slots: &[u16],
+    n: usize,
+    kept: bool,
+) -> io::Result<()> {
+    print::text(rt, text::name(line))?;
+    print::text(rt, b" big")?;
     match answer {
-        BigAnswer::Refused(r) => print::refusal(r),
+        BigAnswer::Refused(r) => print::refusal(rt, r)?,
         BigAnswer::Planned(t, b) => {
             let end = text::least(n, slots.len());
-            paths::print_plan(t, &slots[0..end]);
-            print::number(b" trials ", b.used);
-            print::number(b" gap ", b.gap);
+            paths::print_plan(rt, t, &slots[0..end])?;
+            print::number(rt, b" trials ", b.used)?;
+            print::number(rt, b" gap ", b.gap)?;
         }
     }
-    print::unless(kept);
-    print::end();
+    print::unless(rt, kept)?;
+    print::end(rt)
 }
 
 // How many trials are allowed is in field 6, how many cost cells and slots are lent in fields 7 and 8.
 pub fn lent(
+    rt: &impl Print,
     line: &[u8],
     demand: &[u16],
     capacity: &[u16],
@@ -47,7 +56,7 @@ pub fn lent(
     holding: &[u32],
     store: &[u16],
     ends: Ends,
-) {
+) -> io::Result<()> {
     let mut cost_area = [119u64; 300];
     let mut slot_area = [MARK; 130];
     let a = text::least(text::size(text::number_in(line, 7)), 300);
@@ -68,5 +77,5 @@ pub fn lent(
     );
     let n = demand.len();
     let kept = as_left(answer, n, costs, slots);
-    print_answer(line, answer, slots, n, kept);
+    print_answer(rt, line, answer, slots, n, kept)
 }

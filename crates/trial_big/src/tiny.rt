@@ -2,6 +2,7 @@
 use crate::call;
 use day::{Answer, BigAnswer, Ends, Totals, Trials};
 use plain::Best;
+use std::io;
 use tiny_days::{Capacities, Stores};
 use trial_paths::tiny;
 use trial_text::cells::MARK;
@@ -257,7 +258,7 @@ fn days(
 }
 
 // Made-up days, laid out as those of the paths; the most trials allowed are in field 5.
-pub fn made_up(line: &[u8]) {
+pub fn made_up(rt: &impl Print, line: &[u8]) -> io::Result<()> {
     let mut counts = [0u64; 21];
     days(
         tiny::named(text::name(line)),
@@ -268,7 +269,7 @@ pub fn made_up(line: &[u8]) {
         text::low(text::number_in(line, 3)),
         text::size(text::number_in(line, 5)),
     );
-    print::text(line);
-    print::counts(counts);
-    print::end();
+    print::text(rt, line)?;
+    print::counts(rt, counts)?;
+    print::end(rt)
 }

@@ -1,23 +1,25 @@
 //! Trials of needs known as ranges (document 02, 2.9), in lent areas whose every cell holds the mark.
 #![tactic(auto)]
+
 use day::{BoundsAnswer, Ends};
+use std::io;
 use trial_paths::paths;
 use trial_paths::paths::Path;
 use trial_text::cells::MARK;
 use trial_text::{cells, print, text};
 
-fn print_answer(line: &[u8], answer: BoundsAnswer, kept: bool) {
-    print::text(text::name(line));
-    print::text(b" bounds");
+fn print_answer(rt: &impl Print, line: &[u8], answer: BoundsAnswer, kept: bool) -> io::Result<()> {
+    print::text(rt, text::name(line))?;
+    print::text(rt, b" bounds")?;
     match answer {
-        BoundsAnswer::Refused(r) => print::refusal(r),
+        BoundsAnswer::Refused(r) => print::refusal(rt, r)?,
         BoundsAnswer::Bounded(b) => {
-            print::number(b" lowest ", b.lowest);
-            print::number(b" highest ", b.highest);
+            print::number(rt, b" lowest ", b.lowest)?;
+            print::number(rt, b" highest ", b.highest)?;
         }
     }
-    print::unless(kept);
-    print::end();
+    print::unless(rt, kept)?;
+    print::end(rt)
 }
 
 // After a refusal every cell holds the mark. Otherwise the cells that the full path needs for the highest needs hold zero, later ones the mark.
@@ -42,6 +44,7 @@ fn as_left(
 
 // The call in lent areas. It prints the line's name and the answer.
 fn run(
+    rt: &impl Print,
     line: &[u8],
     lowest: &[u16],
     demand: &[u16],
@@ -53,16 +56,17 @@ fn run(
     costs: &mut [u64],
     choices: &mut [u16],
     ends: Ends,
-) {
+) -> io::Result<()> {
     let answer = bounds::least_costs(
         lowest, demand, capacity, setup, unit, holding, store, costs, choices, ends,
     );
     let kept = as_left(answer, demand, costs, choices, ends);
-    print_answer(line, answer, kept);
+    print_answer(rt, line, answer, kept)
 }
 
 // The lowest needs are in field 6, how many cost cells and choice cells are lent in fields 7 and 8.
 pub fn bounds(
+    rt: &impl Print,
     line: &[u8],
     demand: &[u16],
     capacity: &[u16],
@@ -71,7 +75,7 @@ pub fn bounds(
     holding: &[u32],
     store: &[u16],
     ends: Ends,
-) {
+) -> io::Result<()> {
     let mut lowest = [0u16; 128];
     let mut cost_area = [119u64; 8196];
     let mut choice_area = [MARK; 393314];
@@ -79,6 +83,7 @@ pub fn bounds(
     let a = text::least(text::size(text::number_in(line, 7)), 8196);
     let b = text::least(text::size(text::number_in(line, 8)), 393314);
     run(
+        rt,
         line,
         &lowest[0..n],
         demand,
@@ -90,5 +95,5 @@ pub fn bounds(
         &mut cost_area[0..a],
         &mut choice_area[0..b],
         ends,
-    );
+    )
 }

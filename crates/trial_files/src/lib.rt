@@ -1,9 +1,11 @@
 //! Trials of day files: reader, lookup and writer.
 #![tactic(auto)]
+
 ghost use Rattle.std.specs.Prelude.{◌≡◌, ◌≤◌, ◌<◌, length};
 
 use day::{Check, Ends, Expected, Stamp};
 use dayfile::{ReadAnswer, WriteAnswer};
+use std::io;
 use trial_text::cells::MARK;
 use trial_text::{cells, print, text};
 
@@ -137,7 +139,7 @@ fn written(
         WriteAnswer::Refused(_) => 15,
         WriteAnswer::Bytes(m) => {
             let end = text::least(m, 1837);
-            if check::same(&out[0..end], file) {
+            if text::same(&out[0..end], file) {
                 0
             } else {
                 15
@@ -212,13 +214,13 @@ fn change(file: &mut [u8], counts: &mut [u64; 21])
     }
 }
 
-fn stores(store: [u16; 98], n: usize) {
+fn stores(rt: &impl Print, store: [u16; 98], n: usize) -> io::Result<()> {
     let end = text::least(n, 98);
-    print::stores(&store[0..end]);
+    print::stores(rt, &store[0..end])
 }
 
 // The reader, with so many cells in each table, and the stamp that it expects.
-fn read(file: &[u8], room: usize, stamp: Expected) {
+fn read(rt: &impl Print, file: &[u8], room: usize, stamp: Expected) -> io::Result<()> {
     let mut demand = [MARK; 98];
     let mut capacity = [MARK; 98];
     let mut setup = [119u32; 98];
@@ -236,60 +238,67 @@ fn read(file: &[u8], room: usize, stamp: Expected) {
         &mut store[0..k],
         stamp,
     ) {
-        ReadAnswer::Refused(r) => print::refusal(r),
+        ReadAnswer::Refused(r) => print::refusal(rt, r),
         ReadAnswer::Periods(n, ends) => {
-            print::number(b" periods ", n as u64);
-            print::ends(ends);
-            stores(store, n);
+            print::number(rt, b" periods ", n as u64)?;
+            print::ends(rt, ends)?;
+            stores(rt, store, n)
         }
     }
 }
 
 // How long the part is that a lookup hands out, with the demand and the store limit in it, and what its companion says.
-fn look(file: &[u8], period: usize) {
+fn look(rt: &impl Print, file: &[u8], period: usize) -> io::Result<()> {
     let body = dayfile::lookup::body(file, period);
-    print::number(b" bytes ", body.len() as u64);
+    print::number(rt, b" bytes ", body.len() as u64)?;
     if 1 < body.len() {
-        print::number(b" need ", cells::wide_8(body[1]));
+        print::number(rt, b" need ", cells::wide_8(body[1]))?;
     }
     if 17 < body.len() {
         let high = cells::wide_8(body[16]);
-        print::number(b" store ", 256 * high + cells::wide_8(body[17]));
+        print::number(rt, b" store ", 256 * high + cells::wide_8(body[17]))?;
     }
     if let Check::Refused(r) = dayfile::lookup::check(file, period) {
-        print::refusal(r);
+        print::refusal(rt, r)?;
     }
+    Ok(())
 }
 
 // What the first word of the name says: read, look, cut or change.
-fn trial(line: &[u8], file: &mut [u8]) {
+fn trial(rt: &impl Print, line: &[u8], file: &mut [u8]) -> io::Result<()> {
     let mut counts = [0u64; 21];
     let kind = text::kind(text::name(line));
-    if check::same(kind, b"read") {
-        return read(file, text::size(text::number_in(line, 2)), expected(line));
+    if text::same(kind, b"read") {
+        return read(
+            rt,
+            file,
+            text::size(text::number_in(line, 2)),
+            expected(line),
+        );
     }
-    if check::same(kind, b"look") {
-        return look(file, text::size(text::number_in(line, 2)));
+    if text::same(kind, b"look") {
+        return look(rt, file, text::size(text::number_in(line, 2)));
     }
-    if check::same(kind, b"cut") {
+    if text::same(kind, b"cut") {
         cut(file, &mut counts);
-        return print::counts(counts);
+        return print::counts(rt, counts);
     }
     change(file, &mut counts);
-    print::counts(counts);
+    print::counts(rt, counts)
 }
 
 // A trial of the file in field 1.
-pub fn file(line: &[u8]) {
+pub fn file(rt: &impl Print, line: &[u8]) -> io::Result<()> {
     let mut file = [0u8; 1900];
     let n = bytes(text::field(line, 1), &mut file);
-    print::text(text::name(line));
-    trial(line, &mut file[0..n]);
-    print::end();
+    print::text(rt, text::name(line))?;
+    trial(rt, line, &mut file[0..n])?;
+    print::end(rt)
 }
 
 // The writer, and what the reader says of the file that it made.
 fn write_into(
+    rt: &impl Print,
     demand: &[u16],
     capacity: &[u16],
     setup: &[u32],
@@ -298,7 +307,7 @@ fn write_into(
     store: &[u16],
     out: &mut [u8],
     ends: Ends,
-) {
+) -> io::Result<()> {
     match dayfile_writer::write(
         demand,
         capacity,
@@ -311,27 +320,28 @@ fn write_into(
         own(),
     ) {
         WriteAnswer::Refused(r) => {
-            print::refusal(r);
-            print::unless(cells::bytes_left(out, 0, false));
+            print::refusal(rt, r)?;
+            print::unless(rt, cells::bytes_left(out, 0, false))
         }
         WriteAnswer::Bytes(m) => {
             let end = text::least(m, out.len());
-            print::number(b" bytes ", m as u64);
-            print::unless(cells::bytes_left(out, m, false));
-            read(&out[0..end], demand.len(), Expected::Only(own()));
+            print::number(rt, b" bytes ", m as u64)?;
+            print::unless(rt, cells::bytes_left(out, m, false))?;
+            read(rt, &out[0..end], demand.len(), Expected::Only(own()))
         }
     }
 }
 
 // The room for a file: as much as field 6 says, or, where the line has only a day, five bytes more than the longest file.
 fn room_of(line: &[u8]) -> usize {
-    if check::same(text::kind(line), b"write") {
+    if text::same(text::kind(line), b"write") {
         return text::size(text::number_in(line, 6));
     }
     1842
 }
 
 pub fn write(
+    rt: &impl Print,
     line: &[u8],
     demand: &[u16],
     capacity: &[u16],
@@ -340,12 +350,13 @@ pub fn write(
     holding: &[u32],
     store: &[u16],
     ends: Ends,
-) {
+) -> io::Result<()> {
     let mut out = [FILL; 1842];
     let end = text::least(room_of(line), 1842);
-    print::text(text::name(line));
-    print::text(b" file");
+    print::text(rt, text::name(line))?;
+    print::text(rt, b" file")?;
     write_into(
+        rt,
         demand,
         capacity,
         setup,
@@ -354,6 +365,6 @@ pub fn write(
         store,
         &mut out[0..end],
         ends,
-    );
-    print::end();
+    )?;
+    print::end(rt)
 }

@@ -2,6 +2,7 @@
 ghost use Rattle.std.specs.Prelude.{◌≤◌};
 
 use day::{Answer, Ends, EqualAnswer, Loads, Totals};
+use std::io;
 use trial_text::cells::MARK;
 use trial_text::{cells, print, text};
 
@@ -14,24 +15,24 @@ pub enum Path {
 }
 
 fn named(kind: &[u8]) -> Path {
-    if check::same(kind, b"uncapped") {
+    if text::same(kind, b"uncapped") {
         return Path::Uncapped;
     }
-    if check::same(kind, b"equal") {
+    if text::same(kind, b"equal") {
         return Path::Equal;
     }
-    if check::same(kind, b"free") {
+    if text::same(kind, b"free") {
         return Path::Free;
     }
     Path::Full
 }
 
-fn name_of(path: Path) {
+fn name_of(rt: &impl Print, path: Path) -> io::Result<()> {
     match path {
-        Path::Full => print::text(b" full"),
-        Path::Uncapped => print::text(b" uncapped"),
-        Path::Equal => print::text(b" equal"),
-        Path::Free => print::text(b" free"),
+        Path::Full => print::text(rt, b" full"),
+        Path::Uncapped => print::text(rt, b" uncapped"),
+        Path::Equal => print::text(rt, b" equal"),
+        Path::Free => print::text(rt, b" free"),
     }
 }
 
@@ -145,37 +146,46 @@ fn as_left(costs: &[u64], choices: &[u16], slots: &[u16], needed: Cells, n: usiz
         && cells::amounts_left(slots, n, false)
 }
 
-pub fn print_plan(t: Totals, plan: &[u16]) {
-    print::amounts(plan);
-    print::number(b" cost ", t.cost);
-    print::number(b" starts ", t.setups);
+pub fn print_plan(rt: &impl Print, t: Totals, plan: &[u16]) -> io::Result<()> {
+    print::amounts(rt, plan)?;
+    print::number(rt, b" cost ", t.cost)?;
+    print::number(rt, b" starts ", t.setups)
 }
 
 // Only the equal path counts them.
-fn print_loads(path: Path, loads: Loads) {
+fn print_loads(rt: &impl Print, path: Path, loads: Loads) -> io::Result<()> {
     if let Path::Equal = path {
-        print::number(b" full-load ", loads.full);
-        print::number(b" part-loaded ", loads.part);
+        print::number(rt, b" full-load ", loads.full)?;
+        print::number(rt, b" part-loaded ", loads.part)?;
     }
+    Ok(())
 }
 
-fn print_answer(line: &[u8], path: Path, given: Answered, slots: &[u16], n: usize, kept: bool) {
+fn print_answer(
+    rt: &impl Print,
+    line: &[u8],
+    path: Path,
+    given: Answered,
+    slots: &[u16],
+    n: usize,
+    kept: bool,
+) -> io::Result<()> {
     if line.len() == 0 {
-        return;
+        return Ok(());
     }
-    print::text(text::name(line));
-    name_of(path);
+    print::text(rt, text::name(line))?;
+    name_of(rt, path)?;
     let answer = given.answer;
     match answer {
-        Answer::Refused(r) => print::refusal(r),
+        Answer::Refused(r) => print::refusal(rt, r)?,
         Answer::Planned(t) => {
             let end = text::least(n, slots.len());
-            print_plan(t, &slots[0..end]);
-            print_loads(path, given.loads);
+            print_plan(rt, t, &slots[0..end])?;
+            print_loads(rt, path, given.loads)?;
         }
     }
-    print::unless(kept);
-    print::end();
+    print::unless(rt, kept)?;
+    print::end(rt)
 }
 
 // The cells that a call clears: none where it refuses.
@@ -198,6 +208,7 @@ fn planned(answer: Answer, n: usize) -> usize {
 
 // A path in lent memory. It prints the line's name and the answer, unless the line is empty.
 pub fn run(
+    rt: &impl Print,
     path: Path,
     line: &[u8],
     demand: &[u16],
@@ -210,7 +221,7 @@ pub fn run(
     choices: &mut [u16],
     slots: &mut [u16],
     ends: Ends,
-) -> Outcome {
+) -> io::Result<Outcome> {
     let given = plan(
         path, demand, capacity, setup, unit, holding, store, costs, choices, slots, ends,
     );
@@ -223,12 +234,13 @@ pub fn run(
         cleared(path, answer, demand, ends),
         n,
     );
-    print_answer(line, path, given, slots, n, kept);
-    Outcome { answer, kept }
+    print_answer(rt, line, path, given, slots, n, kept)?;
+    Ok(Outcome { answer, kept })
 }
 
 // One path in so many cells and slots.
 fn within(
+    rt: &impl Print,
     path: Path,
     line: &[u8],
     demand: &[u16],
@@ -241,7 +253,7 @@ fn within(
     choices: usize,
     slots: usize,
     ends: Ends,
-) {
+) -> io::Result<()> {
     let mut cost_area = [119u64; 8196];
     let mut choice_area = [MARK; 393314];
     let mut slot_area = [MARK; 130];
@@ -249,6 +261,7 @@ fn within(
     let b = text::least(choices, 393314);
     let c = text::least(slots, 130);
     run(
+        rt,
         path,
         line,
         demand,
@@ -261,11 +274,13 @@ fn within(
         &mut choice_area[0..b],
         &mut slot_area[0..c],
         ends,
-    );
+    )?;
+    Ok(())
 }
 
 // One path in two cells and a slot more than it needs.
 fn roomy(
+    rt: &impl Print,
     path: Path,
     line: &[u8],
     demand: &[u16],
@@ -275,10 +290,11 @@ fn roomy(
     holding: &[u32],
     store: &[u16],
     ends: Ends,
-) {
+) -> io::Result<()> {
     let need = needed(path, demand, ends);
     let slots = text::least(demand.len(), 128) + 1;
     within(
+        rt,
         path,
         line,
         demand,
@@ -291,7 +307,7 @@ fn roomy(
         need.choices + 2,
         slots,
         ends,
-    );
+    )
 }
 
 // The four paths, by number.
@@ -305,6 +321,7 @@ pub fn path_of(k: usize) -> Path {
 }
 
 pub fn all(
+    rt: &impl Print,
     line: &[u8],
     demand: &[u16],
     capacity: &[u16],
@@ -313,10 +330,11 @@ pub fn all(
     holding: &[u32],
     store: &[u16],
     ends: Ends,
-) {
+) -> io::Result<()> {
     let mut k = 0;
     while k < 4 {
         roomy(
+            rt,
             path_of(k),
             line,
             demand,
@@ -326,13 +344,15 @@ pub fn all(
             holding,
             store,
             ends,
-        );
+        )?;
         k += 1;
     }
+    Ok(())
 }
 
 // One path in as many cost cells, choice cells and slots as fields 6, 7 and 8 say.
 pub fn lent(
+    rt: &impl Print,
     line: &[u8],
     demand: &[u16],
     capacity: &[u16],
@@ -341,8 +361,9 @@ pub fn lent(
     holding: &[u32],
     store: &[u16],
     ends: Ends,
-) {
+) -> io::Result<()> {
     within(
+        rt,
         named(text::kind(line)),
         line,
         demand,
@@ -355,5 +376,5 @@ pub fn lent(
         text::size(text::number_in(line, 7)),
         text::size(text::number_in(line, 8)),
         ends,
-    );
+    )
 }

@@ -5,6 +5,7 @@ use crate::paths;
 use crate::paths::Path;
 use day::{Answer, Ends};
 use plain::Best;
+use std::io;
 use tiny_days::{Capacities, Stores};
 use trial_text::cells::MARK;
 use trial_text::{cells, print, text};
@@ -26,6 +27,7 @@ struct Seen {
 }
 
 fn see(
+    rt: &impl Print,
     path: Path,
     best: Best,
     demand: &[u16],
@@ -35,11 +37,12 @@ fn see(
     holding: &[u32],
     store: &[u16],
     ends: Ends,
-) -> Seen {
+) -> io::Result<Seen> {
     let mut costs = [119u64; 32];
     let mut choices = [MARK; 102];
     let mut slots = [MARK; 5];
     let run = paths::run(
+        rt,
         path,
         b"",
         demand,
@@ -52,13 +55,13 @@ fn see(
         &mut choices,
         &mut slots,
         ends,
-    );
+    )?;
     let answer = run.answer;
-    Seen {
+    Ok(Seen {
         agrees: plain::agrees(best, demand, answer, &slots, ends),
         number: refused(answer),
         kept: run.kept,
-    }
+    })
 }
 
 // Which count is of the days on which the path agreed with the search.
@@ -87,6 +90,7 @@ fn count(counts: &mut [u64; 21], path: Path, seen: Seen) {
 }
 
 fn compare(
+    rt: &impl Print,
     demand: &[u16],
     capacity: &[u16],
     setup: &[u32],
@@ -95,18 +99,19 @@ fn compare(
     store: &[u16],
     counts: &mut [u64; 21],
     ends: Ends,
-) {
+) -> io::Result<()> {
     let best = plain::search(demand, capacity, setup, unit, holding, store, ends);
     cells::count_if(counts, 0, best.found);
     let mut k = 0;
     while k < 4 {
         let path = paths::path_of(k);
         let seen = see(
-            path, best, demand, capacity, setup, unit, holding, store, ends,
-        );
+            rt, path, best, demand, capacity, setup, unit, holding, store, ends,
+        )?;
         count(counts, path, seen);
         k += 1;
     }
+    Ok(())
 }
 
 // The setup costs of a day: those drawn, or none.
@@ -116,13 +121,14 @@ fn setups(drawn: [u32; 4], free: bool) -> [u32; 4] {
 
 // The day of a seed, and the seed of the next one.
 fn one_day(
+    rt: &impl Print,
     seed: u32,
     capacities: Capacities,
     stores: Stores,
     free: bool,
     counts: &mut [u64; 21],
     most: u16,
-) -> u32 {
+) -> io::Result<u32> {
     let d = tiny_days::make_up(seed, capacities, stores, most);
     let n = d.n;
     let demand = d.demand;
@@ -134,6 +140,7 @@ fn one_day(
     let store = d.store;
     let ends = d.ends;
     compare(
+        rt,
         &demand[0..n],
         &capacity[0..n],
         &setup[0..n],
@@ -142,11 +149,12 @@ fn one_day(
         &store[0..n],
         counts,
         ends,
-    );
-    d.seed
+    )?;
+    Ok(d.seed)
 }
 
 fn days(
+    rt: &impl Print,
     capacities: Capacities,
     stores: Stores,
     free: bool,
@@ -154,20 +162,21 @@ fn days(
     days: u32,
     counts: &mut [u64; 21],
     most: u16,
-) {
+) -> io::Result<()> {
     let mut s = seed;
     let mut i = 0;
     while i < days {
-        s = one_day(s, capacities, stores, free, counts, most);
+        s = one_day(rt, s, capacities, stores, free, counts, most)?;
         i += 1;
     }
+    Ok(())
 }
 
 pub fn named(name: &[u8]) -> Capacities {
-    if check::same(name, b"equal") {
+    if text::same(name, b"equal") {
         return Capacities::Equal;
     }
-    if check::same(name, b"unbound") {
+    if text::same(name, b"unbound") {
         return Capacities::Unbound;
     }
     Capacities::Any
@@ -175,10 +184,10 @@ pub fn named(name: &[u8]) -> Capacities {
 
 // A field begins with the space after its ';'.
 pub fn stores_of(field: &[u8]) -> Stores {
-    if check::same(field, b" low") {
+    if text::same(field, b" low") {
         return Stores::Low;
     }
-    if check::same(field, b" ample") {
+    if text::same(field, b" ample") {
         return Stores::Ample;
     }
     Stores::Unlimited
@@ -186,23 +195,24 @@ pub fn stores_of(field: &[u8]) -> Stores {
 
 // Made-up days with the capacities that the trial is named after; of one named free any, and no setup cost. They are made from the seed of
 // field 1, as many as field 2 says, with ends of at most the number in field 3 and the store limits of field 4.
-pub fn made_up(line: &[u8]) {
+pub fn made_up(rt: &impl Print, line: &[u8]) -> io::Result<()> {
     let mut counts = [0u64; 21];
     days(
+        rt,
         named(text::name(line)),
         stores_of(text::field(line, 4)),
-        check::same(text::name(line), b"free"),
+        text::same(text::name(line), b"free"),
         text::number_in(line, 1),
         text::number_in(line, 2),
         &mut counts,
         text::low(text::number_in(line, 3)),
-    );
-    print::text(b"made-up ");
-    print::text(text::name(line));
-    print::text(text::field(line, 1));
-    print::text(text::field(line, 2));
-    print::text(text::field(line, 3));
-    print::text(text::field(line, 4));
-    print::counts(counts);
-    print::end();
+    )?;
+    print::text(rt, b"made-up ")?;
+    print::text(rt, text::name(line))?;
+    print::text(rt, text::field(line, 1))?;
+    print::text(rt, text::field(line, 2))?;
+    print::text(rt, text::field(line, 3))?;
+    print::text(rt, text::field(line, 4))?;
+    print::counts(rt, counts)?;
+    print::end(rt)
 }

@@ -1,28 +1,30 @@
 //! Trials of played days (document 02, 2.11): on the plan and the actual needs that a line gives, and on made-up tiny days.
 #![tactic(auto)]
+
 use day::Ends;
 use play::{Flows, PlayAnswer};
-use std::num::wrapping_add_u64;
+use std::io;
 use tiny_days::{Capacities, Stores};
 use trial_paths::tiny;
 use trial_text::{cells, print, text};
 
-fn print_answer(answer: PlayAnswer) {
+fn print_answer(rt: &impl Print, answer: PlayAnswer) -> io::Result<()> {
     match answer {
-        PlayAnswer::Refused(r) => print::refusal(r),
-        PlayAnswer::Broken(rule, period) => trial_plans::broken(rule, period),
+        PlayAnswer::Refused(r) => print::refusal(rt, r),
+        PlayAnswer::Broken(rule, period) => trial_plans::broken(rt, rule, period),
         PlayAnswer::Played(f) => {
-            print::number(b" made ", f.produced);
-            print::number(b" delivered ", f.delivered);
-            print::number(b" missed ", f.lost);
-            print::number(b" spilled ", f.disposed);
-            print::number(b" left ", f.left);
+            print::number(rt, b" made ", f.produced)?;
+            print::number(rt, b" delivered ", f.delivered)?;
+            print::number(rt, b" missed ", f.lost)?;
+            print::number(rt, b" spilled ", f.disposed)?;
+            print::number(rt, b" left ", f.left)
         }
     }
 }
 
 // The plan of field 6 against the needs of field 7.
 pub fn play(
+    rt: &impl Print,
     line: &[u8],
     demand: &[u16],
     capacity: &[u16],
@@ -31,14 +33,14 @@ pub fn play(
     holding: &[u32],
     store: &[u16],
     ends: Ends,
-) {
+) -> io::Result<()> {
     let mut plan = [0u16; 128];
     let mut actual = [0u16; 128];
     let n = text::amounts(text::field(line, 6), 1, &mut plan);
     let m = text::amounts(text::field(line, 7), 1, &mut actual);
-    print::text(text::name(line));
-    print::text(b" play");
-    print_answer(play::play(
+    print::text(rt, text::name(line))?;
+    print::text(rt, b" play")?;
+    let answer = play::play(
         demand,
         capacity,
         setup,
@@ -48,15 +50,16 @@ pub fn play(
         &plan[0..n],
         &actual[0..m],
         ends,
-    ));
-    print::end();
+    );
+    print_answer(rt, answer)?;
+    print::end(rt)
 }
 
 // Whether both sums of document 02 come out: opening + made = delivered + spilled + left, and delivered + missed = needed.
 fn balanced(f: Flows, needed: usize, ends: Ends) -> bool {
-    let gone = wrapping_add_u64(f.delivered, f.disposed);
-    wrapping_add_u64(ends.opening as u64, f.produced) == wrapping_add_u64(gone, f.left)
-        && wrapping_add_u64(f.delivered, f.lost) == needed as u64
+    let gone = f.delivered.wrapping_add(f.disposed);
+    (ends.opening as u64).wrapping_add(f.produced) == gone.wrapping_add(f.left)
+        && f.delivered.wrapping_add(f.lost) == needed as u64
 }
 
 // Whether a plan did what it was made for: nothing missed or spilled, and the closing charge left.
@@ -163,7 +166,7 @@ fn days(
 }
 
 // Made-up days, laid out as those of the paths.
-pub fn made_up(line: &[u8]) {
+pub fn made_up(rt: &impl Print, line: &[u8]) -> io::Result<()> {
     let mut counts = [0u64; 21];
     days(
         tiny::named(text::name(line)),
@@ -173,7 +176,7 @@ pub fn made_up(line: &[u8]) {
         &mut counts,
         text::low(text::number_in(line, 3)),
     );
-    print::text(line);
-    print::counts(counts);
-    print::end();
+    print::text(rt, line)?;
+    print::counts(rt, counts)?;
+    print::end(rt)
 }

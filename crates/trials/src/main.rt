@@ -1,14 +1,19 @@
 //! Tries every call of the library on a day, a plan or a file on those of standard input, and prints a line for each answer. What it reads is
 //! the file stdin beside src/, which says how its lines are laid out; what it writes is compared with the file stdout.
 #![tactic(auto)]
+
+ghost use Rattle.std.specs.Prelude.{◌≤◌, IfOk, length};
+
 use day::Ends;
-use libc::STDIN_FILENO;
+use std::io;
+use std::io::Read;
 use trial_big::call;
 use trial_paths::paths;
 use trial_text::text;
 
 // The trials of a day, by the line's kind.
 fn day(
+    rt: &impl Print,
     line: &[u8],
     demand: &[u16],
     capacity: &[u16],
@@ -17,34 +22,52 @@ fn day(
     holding: &[u32],
     store: &[u16],
     ends: Ends,
-) {
+) -> io::Result<()> {
     let kind = text::kind(line);
-    if check::same(kind, b"day") {
-        paths::all(line, demand, capacity, setup, unit, holding, store, ends);
-        trial_plans::searched(line, demand, capacity, setup, unit, holding, store, ends);
-        return trial_files::write(line, demand, capacity, setup, unit, holding, store, ends);
+    if text::same(kind, b"day") {
+        paths::all(
+            rt, line, demand, capacity, setup, unit, holding, store, ends,
+        )?;
+        trial_plans::searched(
+            rt, line, demand, capacity, setup, unit, holding, store, ends,
+        )?;
+        return trial_files::write(
+            rt, line, demand, capacity, setup, unit, holding, store, ends,
+        );
     }
-    if check::same(kind, b"weigh") || check::same(kind, b"compare") {
-        return trial_plans::plans(line, demand, capacity, setup, unit, holding, store, ends);
+    if text::same(kind, b"weigh") || text::same(kind, b"compare") {
+        return trial_plans::plans(
+            rt, line, demand, capacity, setup, unit, holding, store, ends,
+        );
     }
-    if check::same(kind, b"bounds") {
-        return trial_bounds::bounds(line, demand, capacity, setup, unit, holding, store, ends);
+    if text::same(kind, b"bounds") {
+        return trial_bounds::bounds(
+            rt, line, demand, capacity, setup, unit, holding, store, ends,
+        );
     }
-    if check::same(kind, b"big") {
-        return call::lent(line, demand, capacity, setup, unit, holding, store, ends);
+    if text::same(kind, b"big") {
+        return call::lent(
+            rt, line, demand, capacity, setup, unit, holding, store, ends,
+        );
     }
-    if check::same(kind, b"play") {
-        return trial_play::play(line, demand, capacity, setup, unit, holding, store, ends);
+    if text::same(kind, b"play") {
+        return trial_play::play(
+            rt, line, demand, capacity, setup, unit, holding, store, ends,
+        );
     }
-    if check::same(kind, b"write") {
-        return trial_files::write(line, demand, capacity, setup, unit, holding, store, ends);
+    if text::same(kind, b"write") {
+        return trial_files::write(
+            rt, line, demand, capacity, setup, unit, holding, store, ends,
+        );
     }
-    paths::lent(line, demand, capacity, setup, unit, holding, store, ends);
+    paths::lent(
+        rt, line, demand, capacity, setup, unit, holding, store, ends,
+    )
 }
 
 // A line that begins with five of a day's tables: demands; capacities; setup, unit and holding costs. After a '|' it has the day's ends and,
 // after a '/' there, the sixth: store limits.
-fn tables(line: &[u8]) {
+fn tables(rt: &impl Print, line: &[u8]) -> io::Result<()> {
     let row = text::row(line);
     let mut demand = [0u16; 128];
     let mut capacity = [0u16; 128];
@@ -59,6 +82,7 @@ fn tables(line: &[u8]) {
     let h = text::rates(text::field(row, 5), n, &mut holding);
     let s = text::stores(line, n, &mut store);
     day(
+        rt,
         row,
         &demand[0..n],
         &capacity[0..c],
@@ -67,41 +91,57 @@ fn tables(line: &[u8]) {
         &holding[0..h],
         &store[0..s],
         text::ends(line),
-    );
+    )
 }
 
 // A line: the kind of trial, its name, and fields. A line that begins with '#', and an empty one, says nothing.
-fn trial(line: &[u8]) {
+fn trial(rt: &impl Print, line: &[u8]) -> io::Result<()> {
     let kind = text::kind(line);
     if line.len() == 0 || text::find(line, 0, b'#', true) == 0 {
-        return;
+        return Ok(());
     }
-    if check::same(kind, b"file") {
-        return trial_files::file(line);
+    if text::same(kind, b"file") {
+        return trial_files::file(rt, line);
     }
-    if check::same(kind, b"made-up") {
-        return trial_paths::tiny::made_up(line);
+    if text::same(kind, b"made-up") {
+        return trial_paths::tiny::made_up(rt, line);
     }
-    if check::same(kind, b"made-up-big") {
-        return trial_big::tiny::made_up(line);
+    if text::same(kind, b"made-up-big") {
+        return trial_big::tiny::made_up(rt, line);
     }
-    if check::same(kind, b"made-up-play") {
-        return trial_play::made_up(line);
+    if text::same(kind, b"made-up-play") {
+        return trial_play::made_up(rt, line);
     }
-    tables(line);
+    tables(rt, line)
 }
 
-fn lines(input: &[u8]) {
+fn lines(rt: &impl Print, input: &[u8]) -> io::Result<()> {
     let mut at = 0;
     while at < input.len() {
         let end = text::find(input, at, b'\n', true);
-        trial(&input[at..end]);
+        trial(rt, &input[at..end])?;
         at = end + 1;
     }
+    Ok(())
 }
 
-fn main() {
-    let mut input = io::large_buffer();
-    let n = io::read_full(STDIN_FILENO, &mut input);
-    lines(&input[0..n]);
+// Reads until the room is full or the input ends; input may come in pieces.
+fn read_full(from: &mut impl Read, room: &mut [u8]) -> io::Result<usize>
+    ensures { IfOk result (λ n. n ≤ length room.old) }
+{
+    let mut have = 0;
+    while have < room.len() {
+        let n = from.read(&mut room[have..])?;
+        if n == 0 {
+            break;
+        }
+        have += n;
+    }
+    Ok(have)
+}
+
+fn main(rt: HostRuntime) -> io::Result<()> {
+    let mut input = [0u8; 65536];
+    let n = read_full(&mut rt.reader(), &mut input)?;
+    lines(&rt, &input[0..n])
 }
