@@ -21,9 +21,9 @@ use Rattle.weigher.specs.Walk.{FeasiblePlan, path_plan}
 use Rattle.theory.specs.Net.{rates_of, NetTables, limits_fill}
 use Rattle.theory.specs.Store.{Loose}
 use Rattle.theory.specs.Greedy.{key_of}
-use Rattle.theory.specs.Batches.{cleared_length, cleared_fresh}
-use Rattle.theory.specs.Demands.{feasible_iff}
-use Rattle.theory.specs.Drops.{Stands, tried_stands, first_optimal, free_least}
+use Rattle.theory.proofs.Batches.{cleared_length, cleared_fresh}
+use Rattle.theory.proofs.Demands.{feasible_iff}
+use Rattle.theory.proofs.Drops.{Stands, tried_stands, first_optimal, free_least}
 use Rattle.greedy.specs.Keys.{Keyed}
 use Rattle.rounds.specs.Cells.{mark_at, amount_at, marks_in, plan_in, state_in}
 use Rattle.drops.specs.Trial.{retriable}

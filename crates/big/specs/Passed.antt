@@ -9,7 +9,8 @@ use Rattle.day.specs.Outcome.{Sizes, refusal}
 use Rattle.day.specs.Paths.{big}
 use Rattle.day.specs.Drops.{big_refusal}
 use Rattle.checks.specs.Passed.{Admitted, admitted}
-use Rattle.theory.specs.Store.{Loose, passed_loose}
+use Rattle.theory.specs.Store.{Loose}
+use Rattle.theory.proofs.Loose.{passed_loose}
 
 module _ (trials : ℕ) (d : Day) (s : Sizes) (ok : big_refusal trials d s ≡ none) where
   tests : (refusal big d s ≡ none) × (no_trials trials ≡ none)

@@ -25,12 +25,12 @@ use Rattle.day.specs.Drops.{starts_free, Tried, Ended, big_refusal, Dropping}
 use Rattle.checks.specs.Passed.{DayLimits}
 use Rattle.theory.specs.Net.{limits_fit}
 use Rattle.theory.specs.Store.{Loose}
-use Rattle.theory.specs.Demands.{shortage_iff, shortage_names}
-use Rattle.theory.specs.Easier.{least_one}
-use Rattle.theory.specs.Calls.{only_shortage}
+use Rattle.theory.proofs.Demands.{shortage_iff, shortage_names}
+use Rattle.theory.proofs.Easier.{least_one}
+use Rattle.theory.proofs.Calls.{only_shortage}
 use Rattle.big.specs.Passed.{big_loose, big_trials}
 use Rattle.big.specs.Work.{begins_with}
-use Rattle.theory.specs.Drops.{Stands, tried_stands, free_least, ended_cheaper, ended_one}
+use Rattle.theory.proofs.Drops.{Stands, tried_stands, free_least, ended_cheaper, ended_one}
 
 -- An accepted call.
 module _ (trials : ℕ) (d : Day) (before after : Memory) (a : Totals) (b : Trials) (runs : Dropping trials d before (Planned a b) after) where

@@ -12,11 +12,13 @@ use Rattle.theory.specs.Model.{Model, OptimalTo, FeasibleTo}
 use Rattle.theory.specs.Problem.{model_of, model_rising, model_unlimited}
 use Rattle.theory.specs.Net.{net_need, net_needs, problem_of, floor_is}
 use Rattle.theory.specs.Store.{Loose}
-use Rattle.theory.specs.Base.{loose_feasible, loose_plan}
+use Rattle.theory.proofs.Base.{loose_feasible, loose_plan}
 use Rattle.theory.specs.FreeSetups.{key}
 use Rattle.theory.specs.Greedy.{greedy_to, greedy_to_same}
-use Rattle.theory.specs.Batches.{Solves, cleared_length, cleared_fresh, greedy, greedy_right}
-use Rattle.theory.specs.Drops.{Plans, plans_ruled, ruled_plans, trial_loose, trial_free, lower_feasible}
+use Rattle.theory.specs.Batches.{Solves, greedy}
+use Rattle.theory.proofs.Batches.{cleared_length, cleared_fresh, greedy_right}
+use Rattle.theory.specs.Drops.{Plans}
+use Rattle.theory.proofs.Drops.{plans_ruled, ruled_plans, trial_loose, trial_free, lower_feasible}
 use Rattle.drops.specs.Trial.{Triable}
 
 module _ (d : Day) (net allowances cells plan : List ℕ) (ok : Triable d net allowances cells plan) where

@@ -3,7 +3,7 @@
 use Rattle.std.proofs.Common.{◌≡◌, refl, sym, ap, ◌∙◌, Bool, false, List, ℕ, zero, suc, ◌+◌, ◌*◌, ◌≤◌, ◌<◌, add-one, arith, length, drop}
 use Rattle.day.specs.Day.{Day, periods, max_periods}
 use Rattle.day.specs.Drops.{Tried, next, FirstTrial, NextTrial, TriedIn}
-use Rattle.theory.specs.Drops.{tried_stands}
+use Rattle.theory.proofs.Drops.{tried_stands}
 use Rattle.rounds.specs.declared.Coming.{Coming}
 use Rattle.rounds.specs.declared.Coming.TheVariants.{Try, Stop}
 use Rattle.rounds.specs.Cells.{state_in}

@@ -9,7 +9,7 @@ use Rattle.day.specs.Day.{Day, periods}
 use Rattle.day.specs.Plan.{cost}
 use Rattle.day.specs.Drops.{starts_free, allowed, trial_day, Ruled, Tried, Turn, forbidding, undone, done, judged, settled}
 use Rattle.rounds.specs.Cells.{mark_at, marks_in, plan_in, Kept}
-use Rattle.theory.specs.Drops.{ruled_plans, trial_loose, trial_free, feasible_free, allowed_all, allowed_less, allowed_again, next_allowed, same_state}
+use Rattle.theory.proofs.Drops.{ruled_plans, trial_loose, trial_free, feasible_free, allowed_all, allowed_less, allowed_again, next_allowed, same_state}
 use Rattle.drops.specs.declared.Standing.{Standing}
 use Rattle.drops.specs.declared.Outcome.{Outcome}
 use Rattle.drops.specs.declared.Outcome.TheVariants.{NoPlan, Plan}

@@ -18,10 +18,13 @@ use Rattle.weigher.specs.Walk.{FeasiblePlan, path_plan}
 use Rattle.theory.specs.Model.{Model}
 use Rattle.theory.specs.Problem.{Problem, periods, model_of, model_rising, model_unlimited}
 use Rattle.theory.specs.Net.{net_needs, rates_of, NetTables, problem_of, periods_is, bounded}
-use Rattle.theory.specs.Store.{Loose, limits_loose, loose_supplied}
-use Rattle.theory.specs.Base.{loose_optimal}
+use Rattle.theory.specs.Store.{Loose}
+use Rattle.theory.proofs.Loose.{limits_loose}
+use Rattle.theory.proofs.Store.{loose_supplied}
+use Rattle.theory.proofs.Base.{loose_optimal}
 use Rattle.theory.specs.FreeSetups.{Free}
-use Rattle.theory.specs.Batches.{Filled, Solves, cleared_length, cleared_fresh, greedy, greedy_right}
+use Rattle.theory.specs.Batches.{Filled, Solves, greedy}
+use Rattle.theory.proofs.Batches.{cleared_length, cleared_fresh, greedy_right}
 use Rattle.free.specs.Solved.{free_of, Solvable, Solved}
 
 -- what the loops run on, for a day

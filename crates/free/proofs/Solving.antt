@@ -8,7 +8,8 @@ use Rattle.theory.specs.Model.{Model}
 use Rattle.theory.specs.Problem.{Problem, periods, model_of, model_rising, model_unlimited, supplied_covered}
 use Rattle.theory.specs.Greedy.{key_of, greedy_to, greedy_to_same}
 use Rattle.theory.specs.FreeSetups.{key}
-use Rattle.theory.specs.Batches.{Filled, greedy, greedy_covered, cleared_fresh}
+use Rattle.theory.specs.Batches.{Filled, greedy}
+use Rattle.theory.proofs.Batches.{greedy_covered, cleared_fresh}
 use Rattle.greedy.specs.Keys.{Keyed}
 use Rattle.greedy.specs.Search.{Told}
 use Rattle.free.specs.Solved.{free_of, Solvable, Solved}

@@ -18,8 +18,9 @@ use Rattle.theory.specs.Cut.{optimal_ext}
 use Rattle.theory.specs.Model.{Model}
 use Rattle.theory.specs.Problem.{Problem, Bounded, periods, total, model_of, model_rising, model_unlimited}
 use Rattle.theory.specs.Net.{net_needs, rates_of, NetTables, problem_of, periods_is, floor_is, total_is, bounded}
-use Rattle.theory.specs.Store.{Loose, limits_loose}
-use Rattle.theory.specs.Base.{loose_optimal}
+use Rattle.theory.specs.Store.{Loose}
+use Rattle.theory.proofs.Loose.{limits_loose}
+use Rattle.theory.proofs.Base.{loose_optimal}
 use Rattle.theory.specs.Recursion.{leads_optimal}
 use Rattle.theory.specs.Stages.{Solution}
 use Rattle.theory.specs.Uncapped.{Uncapped}
