@@ -2,6 +2,7 @@
 //! It tests, takes the net needs and the rates, finds the cost and the last lot of every row, reads the plan back, clears its areas, and
 //! weighs the plan.
 #![tactic(auto)]
+
 ghost use Rattle.day.specs.Day.{day_of};
 ghost use Rattle.day.specs.Lent.{day_before, memory_before, memory_after};
 ghost use Rattle.day.specs.Outcome.{memory_of, sizes_of, Accepted, Runs};
