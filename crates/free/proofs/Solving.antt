@@ -1,7 +1,7 @@
 -- Laws of `solve`: by keys in cells, from cleared slots, the loops give what the greedy rule gives, which finds a plan where no period is short.
 -- Main statement: `solved`. Assumes nothing.
-use Rattle.std.proofs.Common.{◌≡◌, refl, sym, ap, ◌∙◌, subst, Bool, true, false, List, [], Option, ℕ, ◌<◌, arith, drop}
-use Rattle.std.proofs.Math.Option.{some, none-ne-some}
+use Rattle.std.proofs.Common.{◌≡◌, refl, sym, ap, ◌∙◌, subst, Bool, true, false, List, [], ℕ, ◌<◌, arith, drop}
+use Rattle.std.proofs.Math.Option.{Option, some, none-ne-some}
 use Rattle.day.specs.Sums.{at}
 use Rattle.day.specs.Outcome.{Memory, memory_of, cleared, Cleared}
 use Rattle.theory.specs.Model.{Model}
