@@ -1,7 +1,7 @@
 -- Laws of one trial: what the loops of the greedy rule tell is what the rule of 2.3 gives for the day with starts taken as free.
 -- Main statements: `trial_none`, `trial_some`; `trial_feasible`, its plan is one of the day. Assumes nothing.
-use Rattle.std.proofs.Common.{◌≡◌, refl, sym, ap, ◌∙◌, subst, Bool, true, false, List, Option, ℕ, arith, length}
-use Rattle.std.proofs.Math.Option.{none, some}
+use Rattle.std.proofs.Common.{◌≡◌, refl, sym, ap, ◌∙◌, subst, Bool, true, false, List, ℕ, arith, length}
+use Rattle.std.proofs.Math.Option.{Option, none, some}
 use Rattle.day.specs.Sums.{at, length-list_of}
 use Rattle.day.specs.Day.{Day, periods, total, net_end}
 use Rattle.day.specs.Outcome.{cleared, Cleared}

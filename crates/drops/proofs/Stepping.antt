@@ -1,7 +1,7 @@
 -- Laws of the trials in turn. Main statements: `begun`, what trial 1 leaves; `step_none`, `step_dearer`, `step_cheaper`, what a further one leaves.
 -- Assumes nothing.
-use Rattle.std.proofs.Common.{◌≡◌, refl, sym, ap, ◌∙◌, subst, Bool, true, List, Option, ℕ, ◌+◌, ◌*◌, ◌≤◌, ◌<◌, arith, ltb, length, drop, set, replicate, length-set, get_or-set_same, get_or-set_other, drop-set-lt}
-use Rattle.std.proofs.Math.Option.{none, some}
+use Rattle.std.proofs.Common.{◌≡◌, refl, sym, ap, ◌∙◌, subst, Bool, true, List, ℕ, ◌+◌, ◌*◌, ◌≤◌, ◌<◌, arith, ltb, length, drop, set, replicate, length-set, get_or-set_same, get_or-set_other, drop-set-lt}
+use Rattle.std.proofs.Math.Option.{Option, none, some}
 use Rattle.std.proofs.Math.Decide.{ℕ_discrete}
 use borrow.Author.Tests.{lt-ltb, le-ltb}
 use Rattle.day.specs.Sums.{at, length-list_of}

@@ -2,6 +2,7 @@
 //! It tests, takes the net needs and the rates, writes the keys of the periods into its cost area, serves the needs in turn, clears the area, and
 //! weighs the plan.
 #![tactic(auto)]
+
 ghost use Rattle.std.specs.Prelude.{[]};
 ghost use Rattle.day.specs.Day.{day_of};
 ghost use Rattle.day.specs.Lent.{day_before, cells_before, cells_after};
