@@ -1,23 +1,18 @@
 -- Laws of the call: what passed tests leave for the work, and what the work leaves is what an accepted call leaves.
 -- Assumes nothing.
 use Rattle.std.proofs.Common.{◌≡◌, refl, sym, ap, subst, ◌∙◌, List, ◌++◌, ℕ, ◌-◌, ◌≤◌, ◌<◌, length, drop, replicate, arith}
-use Rattle.std.proofs.Math.Option.{none}
 use lib.ListN.{get_or-append}
 use borrow.Rule.Slice.PartMut.{mid_of, put_mid, mid_len, same_len_mid, drop_put}
 use Rattle.day.specs.declared.Totals.{Totals}
-use Rattle.day.specs.declared.Loads.{Loads}
-use Rattle.day.specs.declared.EqualAnswer.TheVariants.{Planned}
 use Rattle.day.specs.Sums.{at}
 use Rattle.day.specs.Day.{Day, periods}
 use Rattle.day.specs.Plan.{Optimal}
 use Rattle.day.specs.Refusals.{unequal, low_store}
 use Rattle.day.specs.Tests.{first_two}
-use Rattle.day.specs.Figures.{first_value, second_value}
-use Rattle.day.specs.Outcome.{Memory, memory_of, sizes_of, refusal, Cleared, Accepted}
+use Rattle.day.specs.Outcome.{Memory, memory_of, sizes_of, Cleared, Accepted}
 use Rattle.day.specs.Paths.{equal}
-use Rattle.day.specs.Loads.{loads_through, CountsLoads}
 use Rattle.path_checks.specs.declared.Needed.{Needed}
-use Rattle.checks.specs.Passed.{Admitted, admitted, equal_passed}
+use Rattle.checks.specs.Passed.{Admitted, equal_passed}
 use Rattle.path_checks.specs.Needed.{NeededBy}
 use Rattle.weigher.specs.Verdict.{totals_of}
 use Rattle.weigher.specs.Walk.{FeasiblePlan, path_plan}

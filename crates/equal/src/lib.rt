@@ -2,6 +2,7 @@
 //! It tests, takes the net needs and the rates, finds the plan row by row, hands out the last row, clears its areas, weighs the plan, and counts
 //! its loads.
 #![tactic(auto)]
+
 ghost use Rattle.std.specs.Prelude.{length};
 ghost use Rattle.day.specs.Day.{day_of};
 ghost use Rattle.day.specs.Lent.{day_before, memory_before, memory_after};

@@ -1,7 +1,6 @@
 -- The tests leave what each step asks, and the steps what an accepted call leaves.
-use Rattle.std.proofs.Common.{◌-◌, length}
-use Rattle.day.specs.Day.{Day, day_of}
-use Rattle.day.specs.Outcome.{Memory, memory_of}
+use Rattle.day.specs.Day.{day_of}
+use Rattle.day.specs.Outcome.{memory_of}
 use Rattle.equal.proofs.Entry.{solvable, slots_feasible, work_accepted}
 use Rattle.equal.proofs.work.Goals as goal
 
