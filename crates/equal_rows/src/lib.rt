@@ -2,6 +2,7 @@
 //! row l and an interval from l to m, over l below m. Row m stands in the choice area from m × n on, its cost in cell m of the cost area.
 //! Past the rows stands the work on an interval; what is left there, and in the slots, is free.
 #![tactic(auto)]
+
 ghost use Rattle.std.specs.Prelude.{◌≡◌, ℕ, ◌+◌, ◌-◌, ◌*◌, ◌≤◌, ◌<◌, min, length};
 ghost use Rattle.day.specs.Sums.{at};
 ghost use Rattle.equal_runs.specs.States.{index_of};

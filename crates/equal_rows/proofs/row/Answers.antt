@@ -1,5 +1,5 @@
 -- A candidate more is tried; once all are, row m is found.
-use Rattle.std.proofs.Common.{ℕ, ◌+◌, ◌-◌, length, length-set, arith}
+use Rattle.std.proofs.Common.{ℕ, ◌+◌, length, length-set, arith}
 use Rattle.equal_runs.specs.Bounds.{marker}
 use Rattle.equal_runs.specs.Run.{constant_with}
 use Rattle.equal_rows.specs.Rows.{Areas, areas, sized_as}
