@@ -1,0 +1,23 @@
+-- A plan more is weighed, and the better kept; on a tiny day what is kept of all is the plan of the day.
+use Rattle.std.proofs.Common.{◌≡◌, add-one, arith}
+use Rattle.day.specs.Day.{day_of}
+use Rattle.weigher.specs.Answers.{weighs_is}
+use Rattle.plain.specs.Search.{chosen_more}
+use Rattle.plain.specs.Optimal.{chosen_optimal}
+use Rattle.plain.proofs.search.Goals as goal
+
+pub loop-m-preserved : goal.loop-m-preserved
+loop-m-preserved c =
+    let a = c.args in
+    let d = day_of a.demand.now a.capacity.now a.setup.now a.unit.now a.holding.now a.store.now a.ends in
+    let more = chosen_more d c.loop-m.m c.loop-m.best c.loop-m.invariant.1 in
+    let weighed = weighs_is d c.plan_of-plan.result c.weigh-w.result c.weigh-w.ensures in
+    (omega arith, rw (add-one, c.better-best.ensures, weighed, c.plan_of-plan.ensures) more)
+
+pub returns : goal.returns
+returns c =
+    let a = c.args in
+    let d = day_of a.demand.now a.capacity.now a.setup.now a.unit.now a.holding.now a.store.now a.ends in
+    let e : c.loop-m.m ≡ c.plans-count.result = omega arith in
+    let chosen = rw (e, c.plans-count.ensures) at c.loop-m.invariant.1 in
+    record { chosen = chosen; tiny = λ t. chosen_optimal d t c.loop-m.best chosen }
