@@ -1,1 +1,2 @@
+-- What the answers cite.
 pub mod Entry
