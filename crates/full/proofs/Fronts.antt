@@ -20,8 +20,9 @@ use Rattle.weigher.specs.Verdict.{totals_of}
 use Rattle.weigher.specs.Walk.{FeasiblePlan, path_plan}
 use Rattle.theory.specs.Problem.{Problem, periods}
 use Rattle.theory.specs.Net.{NetTables, problem_by, limits_fit, periods_is, total_is, bounded, problem_is}
-use Rattle.theory.specs.Store.{ceiling_at, ceilings_of, ceiling_is, passes_covered}
-use Rattle.theory.specs.Base.{store_optimal}
+use Rattle.theory.specs.Store.{ceiling_at, ceilings_of}
+use Rattle.theory.proofs.Store.{ceiling_is, passes_covered}
+use Rattle.theory.proofs.Base.{store_optimal}
 use Rattle.full_table.specs.Table.{cell_at, Fillable, TableFilled, Traceable, plan_read}
 use Rattle.full_table.specs.Right.{back_length, filled_longer, filled_traced, filled_optimal}
 use Rattle.full.specs.Work.{Workable, PlanLeft}

@@ -1,5 +1,6 @@
 //! The full path (document 01, "Three paths, one plan"): the plan of any day by recursion (5), over lent areas.
 #![tactic(auto)]
+
 ghost use Rattle.day.specs.Day.{day_of};
 ghost use Rattle.day.specs.Lent.{day_before, memory_before, memory_after};
 ghost use Rattle.day.specs.Outcome.{memory_of, sizes_of, Accepted, Runs};
