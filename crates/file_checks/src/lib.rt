@@ -1,5 +1,6 @@
 //! The tests of a reading on the file itself, before those on lent tables: the walk (10, 11, 12), whose file it is (20), the count of its periods (1).
 #![tactic(auto)]
+
 ghost use Rattle.std.specs.Prelude.{◌≡◌};
 ghost use Rattle.day.specs.Refusals.{checked, first};
 ghost use Rattle.day.specs.File.{periods_in, same_stamp, has_stamp, is_expected, wrong_stamp};
