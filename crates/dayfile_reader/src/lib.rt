@@ -1,6 +1,7 @@
 //! The reader (document 01, "Day file"; document 02, 2.1, 2.5, 2.12): the periods of a file into six lent tables. What it does is `Reading` of the
 //! crate dayfile.
 #![tactic(auto)]
+
 ghost use Rattle.std.specs.Prelude.{◌≡◌, ◌≤◌, length};
 ghost use Rattle.day.specs.Day.{tables_of, ends_of, max_periods};
 ghost use Rattle.day.specs.Refusals.{checked, bad_value};
