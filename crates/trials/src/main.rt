@@ -2,11 +2,8 @@
 //! the file stdin beside src/, which says how its lines are laid out; what it writes is compared with the file stdout.
 #![tactic(auto)]
 
-ghost use Rattle.std.specs.Prelude.{◌≤◌, IfOk, length};
-
 use day::Ends;
 use std::io;
-use std::io::Read;
 use trial_big::call;
 use trial_paths::paths;
 use trial_text::text;
@@ -125,23 +122,8 @@ fn lines(rt: &impl Print, input: &[u8]) -> io::Result<()> {
     Ok(())
 }
 
-// Reads until the room is full or the input ends; input may come in pieces.
-fn read_full(from: &mut impl Read, room: &mut [u8]) -> io::Result<usize>
-    ensures { IfOk result (λ n. n ≤ length room.old) }
-{
-    let mut have = 0;
-    while have < room.len() {
-        let n = from.read(&mut room[have..])?;
-        if n == 0 {
-            break;
-        }
-        have += n;
-    }
-    Ok(have)
-}
-
 fn main(rt: HostRuntime) -> io::Result<()> {
-    let mut input = [0u8; 65536];
-    let n = read_full(&mut rt.reader(), &mut input)?;
-    lines(&rt, &input[0..n])
+    let mut bytes = [0u8; 65536];
+    let n = input::read(&mut rt.reader(), &mut bytes)?;
+    lines(&rt, &bytes[0..n])
 }
