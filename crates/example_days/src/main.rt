@@ -5,7 +5,9 @@
 use day::{Ends, Stamp};
 use dayfile::WriteAnswer;
 use dayfile::layout::NO_LIMIT;
-use libc::STDOUT_FILENO;
+use std::fs;
+use std::io;
+use std::rt::Files;
 
 // Whose files they are: station 17's, for 16 November 2026.
 const STATION: u16 = 17;
@@ -13,23 +15,16 @@ const STATION: u16 = 17;
 const DATE: u16 = 9816;
 
 // Bytes under a name in the current folder; its name and their count go to standard output.
-fn put(name: &[u8], bytes: &[u8]) {
-    let fd = os::open_overwrite(name);
-    if fd < 0 {
-        os::fail(name);
-        return;
-    }
-    io::write_all(fd, bytes);
-    libc::close(fd);
-    io::write_all(STDOUT_FILENO, name);
-    io::write_all(STDOUT_FILENO, b" ");
-    io::print_decimal(STDOUT_FILENO, bytes.len() as u64);
-    io::write_all(STDOUT_FILENO, b"\n");
+fn put(rt: &(impl Files + Print), name: &str, bytes: &[u8]) -> io::Result<()> {
+    fs::write(rt, name, bytes)?;
+    let n = bytes.len();
+    println!(rt; "{name} {n}")
 }
 
 // The file of a day.
 fn save(
-    name: &[u8],
+    rt: &(impl Files + Print),
+    name: &str,
     demand: &[u16],
     capacity: &[u16],
     setup: &[u32],
@@ -37,7 +32,7 @@ fn save(
     holding: &[u32],
     store: &[u16],
     ends: Ends,
-) {
+) -> io::Result<()> {
     let stamp = Stamp {
         station: STATION,
         date: DATE,
@@ -47,16 +42,22 @@ fn save(
         demand, capacity, setup, unit, holding, store, &mut file, ends, stamp,
     );
     let WriteAnswer::Bytes(n) = answer else {
-        io::write_all(STDOUT_FILENO, b"refused ");
-        io::write_all(STDOUT_FILENO, name);
-        io::write_all(STDOUT_FILENO, b"\n");
-        return;
+        return println!(rt; "refused {name}");
     };
-    put(name, &file[0..n]);
+    put(rt, name, &file[0..n])
 }
 
 // A day of one to three periods, with one start cost, unit cost and upkeep throughout, whose store limits nothing.
-fn save_row(name: &[u8], demand: &[u16], capacity: &[u16], b: u32, p: u32, h: u32, ends: Ends) {
+fn save_row(
+    rt: &(impl Files + Print),
+    name: &str,
+    demand: &[u16],
+    capacity: &[u16],
+    b: u32,
+    p: u32,
+    h: u32,
+    ends: Ends,
+) -> io::Result<()> {
     let n = demand.len();
     let setup = [b; 3];
     let unit = [p; 3];
@@ -64,6 +65,7 @@ fn save_row(name: &[u8], demand: &[u16], capacity: &[u16], b: u32, p: u32, h: u3
     let store = [NO_LIMIT; 3];
     if n <= 3 {
         save(
+            rt,
             name,
             demand,
             capacity,
@@ -72,8 +74,9 @@ fn save_row(name: &[u8], demand: &[u16], capacity: &[u16], b: u32, p: u32, h: u3
             &holding[0..n],
             &store[0..n],
             ends,
-        );
+        )?;
     }
+    Ok(())
 }
 
 // No charge before the day and none after it.
@@ -84,36 +87,37 @@ fn no_ends() -> Ends {
     }
 }
 
-fn save_marked() {
+fn save_marked(rt: &(impl Files + Print)) -> io::Result<()> {
     let none = no_ends();
-    save_row(b"m1.day", &[0], &[0], 5, 1, 1, none);
-    save_row(b"m2.day", &[1], &[1], 5, 2, 9, none);
-    save_row(b"m3.day", &[2], &[1], 5, 2, 9, none);
-    save_row(b"m4.day", &[2, 3], &[5, 5], 10, 1, 1, none);
-    save_row(b"m5.day", &[2, 3], &[5, 5], 10, 1, 4, none);
-    save_row(b"m6.day", &[2, 2], &[4, 4], 10, 1, 5, none);
-    save_row(b"m7.day", &[0, 4], &[3, 3], 10, 1, 1, none);
-    save_row(b"m8.day", &[1, 5], &[2, 3], 0, 1, 1, none);
-    save_row(b"m9.day", &[1, 4], &[2, 3], 0, 1, 1, none);
-    save_row(b"m10.day", &[3, 0], &[2, 9], 0, 1, 1, none);
-    save_row(b"m11.day", &[2, 2, 3], &[4, 4, 4], 6, 1, 1, none);
-    save_row(b"m12.day", &[0, 0], &[0, 0], 5, 1, 1, none);
-    save_row(b"tie.day", &[2, 2], &[4, 4], 8, 1, 2, none);
+    save_row(rt, "m1.day", &[0], &[0], 5, 1, 1, none)?;
+    save_row(rt, "m2.day", &[1], &[1], 5, 2, 9, none)?;
+    save_row(rt, "m3.day", &[2], &[1], 5, 2, 9, none)?;
+    save_row(rt, "m4.day", &[2, 3], &[5, 5], 10, 1, 1, none)?;
+    save_row(rt, "m5.day", &[2, 3], &[5, 5], 10, 1, 4, none)?;
+    save_row(rt, "m6.day", &[2, 2], &[4, 4], 10, 1, 5, none)?;
+    save_row(rt, "m7.day", &[0, 4], &[3, 3], 10, 1, 1, none)?;
+    save_row(rt, "m8.day", &[1, 5], &[2, 3], 0, 1, 1, none)?;
+    save_row(rt, "m9.day", &[1, 4], &[2, 3], 0, 1, 1, none)?;
+    save_row(rt, "m10.day", &[3, 0], &[2, 9], 0, 1, 1, none)?;
+    save_row(rt, "m11.day", &[2, 2, 3], &[4, 4, 4], 6, 1, 1, none)?;
+    save_row(rt, "m12.day", &[0, 0], &[0, 0], 5, 1, 1, none)?;
+    save_row(rt, "tie.day", &[2, 2], &[4, 4], 8, 1, 2, none)
 }
 
 // M11's tables, with charge at both ends: the first period makes nothing, and the last one more than it needs.
-fn save_ends() {
+fn save_ends(rt: &(impl Files + Print)) -> io::Result<()> {
     let ends = Ends {
         opening: 3,
         closing: 2,
     };
-    save_row(b"ends.day", &[2, 2, 3], &[4, 4, 4], 6, 1, 1, ends);
+    save_row(rt, "ends.day", &[2, 2, 3], &[4, 4, 4], 6, 1, 1, ends)
 }
 
 // M11's tables, with a store that takes little before the last period: what the second needs, the first can't make.
-fn save_store() {
+fn save_store(rt: &(impl Files + Print)) -> io::Result<()> {
     save(
-        b"store.day",
+        rt,
+        "store.day",
         &[2, 2, 3],
         &[4, 4, 4],
         &[6, 6, 6],
@@ -121,7 +125,7 @@ fn save_store() {
         &[1, 1, 1],
         &[1, 1, NO_LIMIT],
         no_ends(),
-    );
+    )
 }
 
 // The needs of quarter hours: 2 watt-hours each, 5 in a pass of half an hour every three hours.
@@ -147,7 +151,7 @@ fn fuel() -> [u32; 96] {
     unit
 }
 
-fn save_passes() {
+fn save_passes(rt: &(impl Files + Print)) -> io::Result<()> {
     let demand = passes();
     let capacity = [12u16; 96];
     let setup = [4000u32; 96];
@@ -155,7 +159,8 @@ fn save_passes() {
     let holding = [20u32; 96];
     let store = [NO_LIMIT; 96];
     save(
-        b"passes.day",
+        rt,
+        "passes.day",
         &demand,
         &capacity,
         &setup,
@@ -163,25 +168,26 @@ fn save_passes() {
         &holding,
         &store,
         no_ends(),
-    );
+    )
 }
 
-fn save_id() {
+fn save_id(rt: &(impl Files + Print)) -> io::Result<()> {
     put(
-        b"station.id",
+        rt,
+        "station.id",
         &[
             (STATION / 256) as u8,
             (STATION % 256) as u8,
             (DATE / 256) as u8,
             (DATE % 256) as u8,
         ],
-    );
+    )
 }
 
-fn main() {
-    save_id();
-    save_marked();
-    save_ends();
-    save_store();
-    save_passes();
+fn main(rt: HostRuntime) -> io::Result<()> {
+    save_id(&rt)?;
+    save_marked(&rt)?;
+    save_ends(&rt)?;
+    save_store(&rt)?;
+    save_passes(&rt)
 }
