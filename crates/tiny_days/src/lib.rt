@@ -1,6 +1,7 @@
 //! For the trials of the paths: made-up tiny days, by the draws of a test load. A tiny day has one to four periods, in which it makes at most 10
 //! in all.
 #![tactic(auto)]
+
 ghost use Rattle.std.specs.Prelude.{◌≡◌, ◌+◌, ◌%◌};
 ghost use Rattle.tiny_days.specs.MadeUp.{capacity_of, store_of, drawn_of, ends_from, stores_from, MadeUp};
 
