@@ -1,0 +1,89 @@
+-- The period is forbidden for the trial, and after it as the rule says.
+use Rattle.std.proofs.Common.{◌<◌, ◌≤◌, length, length-set, arith}
+use Rattle.day.specs.Day.{day_of, max_periods}
+use Rattle.drops.proofs.Stepping.{inside, step_none, step_dearer, step_cheaper}
+use Rattle.drops.proofs.step.Goals as goal
+use Rattle.drops.proofs.step.Goals.{in-Plan+else-cost-s, in_default}
+
+pub offset_bounds-allowed-k : goal.offset_bounds-allowed-k
+offset_bounds-allowed-k c =
+    let a = c.args in
+    let given = day_of a.demand.now a.capacity.now a.setup.now a.unit.now a.holding.now a.store.now a.ends in
+    let within = inside given _ _ _ _ a.s a.k a.dropped c.requires.held c.requires.next_is in
+    omega (arith, within, c.requires.held.triable.limits.limits.few)
+
+pub bounds-allowed-k : goal.bounds-allowed-k
+bounds-allowed-k c =
+    let a = c.args in
+    let given = day_of a.demand.now a.capacity.now a.setup.now a.unit.now a.holding.now a.store.now a.ends in
+    let within = inside given _ _ _ _ a.s a.k a.dropped c.requires.held c.requires.next_is in
+    omega (arith, within, c.requires.held.triable.each)
+
+pub overflow_add-cells : goal.overflow_add-cells
+overflow_add-cells c =
+    let a = c.args in
+    let given = day_of a.demand.now a.capacity.now a.setup.now a.unit.now a.holding.now a.store.now a.ends in
+    let within = inside given _ _ _ _ a.s a.k a.dropped c.requires.held c.requires.next_is in
+    omega (arith, within, c.requires.held.triable.limits.limits.few)
+
+pub offset_bounds-cells-n : goal.offset_bounds-cells-n
+offset_bounds-cells-n c =
+    let a = c.args in
+    let given = day_of a.demand.now a.capacity.now a.setup.now a.unit.now a.holding.now a.store.now a.ends in
+    let within = inside given _ _ _ _ a.s a.k a.dropped c.requires.held c.requires.next_is in
+    omega (arith, within, c.requires.held.triable.limits.limits.few)
+
+pub bounds-cells-n : goal.bounds-cells-n
+bounds-cells-n c =
+    let a = c.args in
+    let given = day_of a.demand.now a.capacity.now a.setup.now a.unit.now a.holding.now a.store.now a.ends in
+    let within = inside given _ _ _ _ a.s a.k a.dropped c.requires.held c.requires.next_is in
+    omega (arith, within, c.requires.held.room)
+
+pub returns-then-cost-s : goal.returns-then-cost-s
+returns-then-cost-s c =
+    let a = c.args in
+    let given = day_of a.demand.now a.capacity.now a.setup.now a.unit.now a.holding.now a.store.now a.ends in
+    step_cheaper given _ _ _ _ a.s a.k a.dropped c.requires.held c.requires.next_is _ c.trial.auto.plan c.trial.result c.trial.ensures _ _
+    c.in-Plan.is c.if-cost-s.true c.keep.ensures
+
+pub offset_bounds-capacity-k : goal.offset_bounds-capacity-k
+offset_bounds-capacity-k c =
+    let a = c.args in
+    let given = day_of a.demand.now a.capacity.now a.setup.now a.unit.now a.holding.now a.store.now a.ends in
+    let within = inside given _ _ _ _ a.s a.k a.dropped c.requires.held c.requires.next_is in
+    omega (arith, within, c.requires.held.triable.limits.limits.few)
+
+pub bounds-capacity-k : goal.bounds-capacity-k
+bounds-capacity-k c =
+    let a = c.args in
+    let given = day_of a.demand.now a.capacity.now a.setup.now a.unit.now a.holding.now a.store.now a.ends in
+    let within = inside given _ _ _ _ a.s a.k a.dropped c.requires.held c.requires.next_is in
+    omega (arith, within, c.requires.held.triable.limits.limits.lengths.capacity)
+
+pub offset_bounds-allowed-k-2 : goal.offset_bounds-allowed-k-2
+offset_bounds-allowed-k-2 c =
+    let a = c.args in
+    let given = day_of a.demand.now a.capacity.now a.setup.now a.unit.now a.holding.now a.store.now a.ends in
+    let within = inside given _ _ _ _ a.s a.k a.dropped c.requires.held c.requires.next_is in
+    omega (arith, within, c.requires.held.triable.limits.limits.few)
+
+pub bounds-allowed-k-2 : goal.bounds-allowed-k-2
+bounds-allowed-k-2 c =
+    let a = c.args in
+    let given = day_of a.demand.now a.capacity.now a.setup.now a.unit.now a.holding.now a.store.now a.ends in
+    let within = inside given _ _ _ _ a.s a.k a.dropped c.requires.held c.requires.next_is in
+    omega (arith, within, c.requires.held.triable.each, length-set a.allowed.now a.k 0)
+
+pub returns : goal.returns
+returns c =
+    let a = c.args in
+    let given = day_of a.demand.now a.capacity.now a.setup.now a.unit.now a.holding.now a.store.now a.ends in
+    elim c.match-trial.branch [
+      in-Plan+else-cost-s w ↦
+          step_dearer given _ _ _ _ a.s a.k a.dropped c.requires.held c.requires.next_is _ c.trial.auto.plan c.trial.result c.trial.ensures _
+          w.in-Plan.is w.if-cost-s.false
+      | in_default w ↦
+          step_none given _ _ _ _ a.s a.k a.dropped c.requires.held c.requires.next_is _ c.trial.auto.plan c.trial.result c.trial.ensures
+          w.in_default.is
+    ]
