@@ -1,5 +1,6 @@
 //! The trials of a big day in turn (document 02, 2.10): each plans by the rule of 2.3 with starts taken as free, under capacities of which one more is 0.
 #![tactic(auto)]
+
 ghost use Rattle.std.specs.Prelude.{◌≡◌, false, [], ◌<◌, length};
 ghost use Rattle.day.specs.Sums.{at};
 ghost use Rattle.day.specs.Day.{day_of};

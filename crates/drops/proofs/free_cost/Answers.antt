@@ -21,5 +21,5 @@ returns c =
     sym (ap (λ (i : ℕ). take {A = ℕ} i (replicate max_periods 0)) all ∙ zeros n max_periods c.requires.weighable.few) in
     ap (λ (t : Totals). t.cost) c.totals-totals.ensures
     ∙ ap
-        (λ (setup : List ℕ). cost (day_of a.demand.now a.capacity.now setup a.unit.now a.holding.now a.store.now a.ends) (at a.plan.now))
-        (sym free)
+    (λ (setup : List ℕ). cost (day_of a.demand.now a.capacity.now setup a.unit.now a.holding.now a.store.now a.ends) (at a.plan.now))
+    (sym free)

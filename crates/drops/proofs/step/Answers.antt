@@ -1,6 +1,6 @@
 -- The period is forbidden for the trial, and after it as the rule says.
-use Rattle.std.proofs.Common.{◌<◌, ◌≤◌, length, length-set, arith}
-use Rattle.day.specs.Day.{day_of, max_periods}
+use Rattle.std.proofs.Common.{length-set, arith}
+use Rattle.day.specs.Day.{day_of}
 use Rattle.drops.proofs.Stepping.{inside, step_none, step_dearer, step_cheaper}
 use Rattle.drops.proofs.step.Goals as goal
 use Rattle.drops.proofs.step.Goals.{in-Plan+else-cost-s, in_default}
@@ -80,7 +80,7 @@ returns c =
     let a = c.args in
     let given = day_of a.demand.now a.capacity.now a.setup.now a.unit.now a.holding.now a.store.now a.ends in
     elim c.match-trial.branch [
-      in-Plan+else-cost-s w ↦
+      | in-Plan+else-cost-s w ↦
           step_dearer given _ _ _ _ a.s a.k a.dropped c.requires.held c.requires.next_is _ c.trial.auto.plan c.trial.result c.trial.ensures _
           w.in-Plan.is w.if-cost-s.false
       | in_default w ↦
