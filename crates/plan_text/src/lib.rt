@@ -1,5 +1,6 @@
 //! The text that `dayplan` prints for a day (document 01, "Marked days"), put into a lent buffer.
 #![tactic(auto)]
+
 ghost use Rattle.std.specs.Prelude.{◌+◌, ◌*◌, ◌≤◌, [], ◌++◌, length};
 ghost use Rattle.day.specs.Sums.{at};
 ghost use Rattle.day.specs.Day.{day_of};

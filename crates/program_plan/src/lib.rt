@@ -1,5 +1,6 @@
 //! The full path as the programs run it: in the areas of document 01, with slots lent.
 #![tactic(auto)]
+
 ghost use Rattle.day.specs.Lent.{day_before};
 ghost use Rattle.program_plan.specs.Areas.{PlansInAreas};
 
