@@ -1,5 +1,6 @@
 //! The text that `margins` prints for a day and a file of actual needs (document 02, 2.11), put into a lent buffer.
 #![tactic(auto)]
+
 ghost use Rattle.std.specs.Prelude.{◌≡◌, ◌+◌, ◌*◌, ◌≤◌, ◌<◌, length};
 ghost use Rattle.day.specs.Sums.{at};
 ghost use Rattle.day.specs.Day.{day_of, max_demand, max_periods};

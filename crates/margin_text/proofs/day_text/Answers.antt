@@ -1,5 +1,5 @@
 -- 2 and 3 on the actual needs decide; then the lines of the margins are the text.
-use Rattle.std.proofs.Common.{◌≡◌, ◌*◌, ◌∙◌, sym, arith, length}
+use Rattle.std.proofs.Common.{◌∙◌, sym, arith}
 use Rattle.day.specs.Day.{day_of}
 use Rattle.day.specs.Tests.{passed, refused}
 use Rattle.margin_text.specs.Laws.{needs_refused, needs_decide, needs_said}
