@@ -1,5 +1,6 @@
 //! The tests of the paths: 5, 6, 7 and each path's own, and all of them in order, by the documents' numbers.
 #![tactic(auto)]
+
 ghost use Rattle.std.specs.Prelude.{◌≡◌, [], ◌∷◌, ◌≤◌, length};
 ghost use Rattle.day.specs.Day.{day_of, tables_of, required, max_periods, max_sum};
 ghost use Rattle.day.specs.Lent.{day_before};
@@ -59,7 +60,8 @@ pub fn shortage(demand: &[u16], capacity: &[u16], store: &[u16], ends: Ends) -> 
         let limit = demanded + (store[i] as u64);
         most = checks::smaller(most + (capacity[i] as u64), checks::beyond(limit, opening));
         i += 1;
-        if limit < opening || most < checks::net_to(demanded, i == demand.len(), ends) {
+        let overfull = limit < opening;
+        if overfull || most < checks::net_to(demanded, i == demand.len(), ends) {
             return Check::Refused(Refusal::Shortage(i as u16));
         }
     }
@@ -110,7 +112,8 @@ fn paid(demand: &[u16], setup: &[u32]) -> Check
 {
     let mut i = 0;
     while i < demand.len() {
-        if setup[i] > 0 {
+        let charged = setup[i] > 0;
+        if charged {
             return Check::Refused(Refusal::PaidSetup((i + 1) as u16));
         }
         i += 1;

@@ -1,6 +1,7 @@
 //! Weighs a given plan of a day: whether it keeps the conditions, what it costs, how two plans compare.
 //! (Document 01, "The weigher"; document 02, 2.1, 2.2, 2.4, 2.5.) What the answers mean is in specs/.
 #![tactic(auto)]
+
 ghost use Rattle.std.specs.Prelude.{◌≡◌, ◌^◌, ◌<◌, pos, ◌-ℤ◌};
 ghost use Rattle.day.specs.Sums.{at};
 ghost use Rattle.day.specs.Day.{day_of};

@@ -7,7 +7,7 @@ use Rattle.day.specs.Day.{Day, day_of, demand_to, net_to}
 use Rattle.day.specs.Refusals.{most_to, short}
 use Rattle.checks.specs.Search.{refused_here}
 use Rattle.path_checks.proofs.shortage.Goals as goal
-use Rattle.path_checks.proofs.shortage.Goals.{then-limit-opening-via-then-limit-opening, then-limit-opening-via-else-limit-opening+then-most-net_to}
+use Rattle.path_checks.proofs.shortage.Goals.{then-overfull-via-then-overfull, then-overfull-via-else-overfull+then-most-net_to}
 
 -- a period is short by A alone, or by what must have been made
 short_store : (d : Day) (i : ℕ) → demand_to d (suc i) + at d.store i < d.opening → short d i ≡ true
@@ -17,17 +17,17 @@ short_made : (d : Day) (i : ℕ) → d.opening ≤ demand_to d (suc i) + at d.st
 short_made d i room l =
     rw (le-ltb (demand_to d (suc i) + at d.store i) d.opening room, lt-ltb (most_to d (suc i)) (net_to d (suc i)) l) refl
 
-pub returns-then-limit-opening : goal.returns-then-limit-opening
-returns-then-limit-opening c =
+pub returns-then-overfull : goal.returns-then-overfull
+returns-then-overfull c =
     let d = day_of c.args.demand.now c.args.capacity.now [] [] [] c.args.store.now c.args.ends in
     let i = c.loop-i.i in
     let summed : c.loop-i.demanded + at d.demand i ≡ demand_to d (suc i) = omega arith in
     let reached : c.smaller-most.result ≡ most_to d (suc i) = omega (arith, c.smaller-most.ensures, c.beyond.ensures, c.loop-i.invariant.2.is, summed) in
     refused_here c.loop-i.invariant.0 Shortage
-    (elim c.then-limit-opening.branch [
-      then-limit-opening-via-then-limit-opening w ↦ short_store d i (omega arith)
-    | then-limit-opening-via-else-limit-opening+then-most-net_to w ↦
-        let net : w.net_to.result ≡ net_to d (suc i) = rw (add-one, summed) at w.net_to.ensures in
-        short_made d i (omega arith) (omega arith)
+    (elim c.then-overfull.branch [
+      | then-overfull-via-then-overfull w ↦ short_store d i (omega arith)
+      | then-overfull-via-else-overfull+then-most-net_to w ↦
+          let net : w.net_to.result ≡ net_to d (suc i) = rw (add-one, summed) at w.net_to.ensures in
+          short_made d i (omega arith) (omega arith)
     ])
     (omega arith)

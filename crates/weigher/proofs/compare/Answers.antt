@@ -1,5 +1,5 @@
 -- The costs of both answers fit by the widths of the tables.
-use Rattle.std.proofs.Common.{List, ℕ, w16, Fits}
+use Rattle.std.proofs.Common.{List, ℕ, w16, Fits, rules}
 use Rattle.day.specs.Sums.{at}
 use Rattle.day.specs.Day.{Day, day_of}
 use Rattle.weigher.specs.declared.Weighed.{Weighed}
@@ -20,10 +20,10 @@ comparison-requires c =
       unit = c.type_inv.unit;
       holding = c.type_inv.holding;
       amount = amount;
-    } in (
-      signed d a.plan.now c.weigh-first.result (wide a.plan.now c.type_inv.plan) c.weigh-first.ensures,
-      signed d a.other.now c.weigh-second.result (wide a.other.now c.type_inv.other) c.weigh-second.ensures,
-    )
+    } in
+    let first = signed d a.plan.now c.weigh-first.result (wide a.plan.now c.type_inv.plan) c.weigh-first.ensures in
+    let second = signed d a.other.now c.weigh-second.result (wide a.other.now c.type_inv.other) c.weigh-second.ensures in
+    search rules
 
 pub returns : goal.returns
 returns c =
