@@ -1,16 +1,11 @@
 -- Laws of `sets l i vs`, the list l with vs stored from index i on, and of the stores that make a file. Assumes nothing.
-use mathlib.Core.Path.{◌≡◌, refl, ap, ◌∙◌}
-use mathlib.Core.Bool.{Bool, true, false, cond}
-use mathlib.Core.List.{List, [], ◌∷◌, ◌++◌}
-use Prim.Native.Nat.sub
-use Prim.Native.Nat.{ℕ, zero, suc, ◌+◌, ◌-◌, ◌≤◌, ◌<◌}
-use native.Mathlib.Omega.{arith}
-use lib.ListN.{length, take, drop, set, get_or}
-use lib.Seq.{sets, sets-eq, take-suc, length-take-le}
+use Rattle.std.specs.Prelude.{◌≡◌, refl, List, [], ◌∷◌, ◌++◌, ℕ, zero, suc, ◌+◌, ◌-◌, ◌≤◌, ◌<◌, length, take, drop, set}
+use Rattle.std.proofs.Common.{ap, ◌∙◌, arith, take-suc, length-take-le}
+use Rattle.std.proofs.lemmas.List.Edits.{sets, sets-eq}
 use Rattle.day.specs.Sums.{at}
 use Rattle.day.specs.Day.{Day, tables_of, periods}
 use Rattle.day.specs.declared.Stamp.{Stamp}
-use Rattle.day.specs.File.{end_kind, charge_kind, both_zero, bytes2, charges_of, head_of, limit_of, record_of, records_of, file_of}
+use Rattle.day.specs.File.{end_kind, bytes2, head_of, limit_of, record_of, records_of, file_of}
 use Rattle.dayfile.specs.Answers.{with_file}
 use Rattle.dayfile.specs.Theorems.{record_bytes}
 use Rattle.dayfile_writer.specs.RoundTrip.{long_record, record_front, records_length}
@@ -21,33 +16,19 @@ sets_then [] b l i j e = let z : j ≡ i = omega arith in rw z refl
 sets_then (x ∷ a) b l i j e = sets_then a b (set l i x) (suc i) j (omega arith)
 
 -- a turn of the loop that stores `vs`
-pub sets_more : (vs l : List ℕ) (i k : ℕ) → k < length vs → set (sets l i (take k vs)) (i + k) (get_or vs k 0) ≡ sets l i (take (suc k) vs)
+pub sets_more : (vs l : List ℕ) (i k : ℕ) → k < length vs → set (sets l i (take k vs)) (i + k) (at vs k) ≡ sets l i (take (suc k) vs)
 sets_more vs l i k h =
-    rw (take-suc vs k 0) (sets_then (take k vs) (get_or vs k 0 ∷ []) l i (i + k) (rw (length-take-le k vs (omega arith)) refl))
+    rw (take-suc vs k 0) (sets_then (take k vs) (at vs k ∷ []) l i (i + k) (rw (length-take-le k vs (omega arith)) refl))
 
 -- a run from the front
 sets_front : (vs l : List ℕ) → length vs ≤ length l → sets l 0 vs ≡ vs ++ drop (length vs) l
 sets_front vs l h = let e : 0 + length vs ≡ length vs = omega arith in rw e at (sets-eq vs l 0 (omega arith))
 
--- a run of no bytes changes none
-pub sets_none : (vs l : List ℕ) (i : ℕ) → length vs ≡ 0 → l ≡ sets l i vs
-sets_none [] l i e = refl
-sets_none (x ∷ vs) l i e = absurd (omega arith)
-
--- charges that are there are a record
-pub charges_record : (o c : ℕ) → (length (charges_of o c) ≡ 0 → ⊥) → charges_of o c ≡ charge_kind ∷ bytes2 o ++ bytes2 c
-charges_record o c = go (both_zero o c)
-  where
-    go : (b : Bool) → (length (cond b [] (charge_kind ∷ bytes2 o ++ bytes2 c)) ≡ 0 → ⊥)
-        → cond b [] (charge_kind ∷ bytes2 o ++ bytes2 c) ≡ charge_kind ∷ bytes2 o ++ bytes2 c
-    go true h = absurd (h refl)
-    go false h = refl
-
 -- the part of a long record that is the record
 pub record_part : (d : Day) (k : ℕ) {size : ℕ} {bytes : List ℕ}
     → size ≡ 17 + length (limit_of (at d.store k)) → bytes ≡ long_record d k
     → take (size - 0) (drop 0 bytes) ≡ record_of d k
-record_part d k e r = rw (e, r, sub.zero) (record_front d k)
+record_part d k {size} e r = let all : size - 0 ≡ size = omega arith in rw (all, e, r) (record_front d k)
 
 -- a turn of the loop that stores the records
 pub record_stored : (d : Day) (l : List ℕ) (first k : ℕ) {out part after : List ℕ} {place : ℕ}

@@ -1,6 +1,7 @@
 //! The writer (document 01, "Day file"; document 02, 2.1, 2.5, 2.12): the file of a stamp and a day at the front of a lent slice.
 //! What it does is `Writing` of the crate dayfile.
 #![tactic(auto)]
+
 ghost use Rattle.std.specs.Prelude.{◌≡◌, ◌∷◌, ◌++◌, ◌+◌, ◌*◌, ◌≤◌, length};
 ghost use Rattle.std.proofs.lemmas.List.Edits.{sets};
 ghost use Rattle.day.specs.Sums.{Term, at};
