@@ -1,6 +1,7 @@
 //! For the trials of the paths: a plain search over all plans of a tiny day, and the comparison of a path's answer with the search's.
 //! A tiny day has one to four periods, in which it makes at most 10 in all.
 #![tactic(auto)]
+
 ghost use Rattle.std.specs.Prelude.{◌≡◌, [], ◌≤◌, length};
 ghost use Rattle.day.specs.Day.{day_of};
 ghost use Rattle.day.specs.Lent.{day_before};

@@ -1,5 +1,6 @@
 //! A day played through (document 02, 2.11): a plan that holds, against a table of actual needs. What the answers mean is in specs/.
 #![tactic(auto)]
+
 ghost use Rattle.std.specs.Prelude.{◌≡◌, length};
 ghost use Rattle.day.specs.Sums.{at};
 ghost use Rattle.day.specs.Lent.{day_before};

@@ -1,6 +1,7 @@
 //! The tests of a call on needs known as ranges (document 02, 2.9), by the documents' numbers: 1; 2 and 3 on both tables of needs; 4, 14, 5; 17, 18; 7.
 //! 1, 4, 14, 5 and 7 read the highest.
 #![tactic(auto)]
+
 ghost use Rattle.std.specs.Prelude.{◌≡◌, [], ◌∷◌, ◌++◌, ◌≤◌, length};
 ghost use Rattle.day.specs.Day.{day_of, tables_of, required, max_periods};
 ghost use Rattle.day.specs.Lent.{day_before, tables_before};
