@@ -1,6 +1,6 @@
 -- Laws of the call: what passed tests leave for the trials, and what the trials leave is what an accepted call leaves.
 -- Main statements: `prepared`; `preparable`, `startable`, `runnable`, `narrow`, `answerable`; `best_so_far`; `given_plan`. Assumes nothing.
-use Rattle.std.proofs.Common.{◌≡◌, refl, sym, ap, ap₂, ◌∙◌, subst, false, List, [], ◌∷◌, ◌++◌, ℕ, zero, ◌+◌, ◌-◌, ◌*◌, ◌^◌, ◌≤◌, ◌<◌, arith, length, take, drop, replicate, length-append, length-drop, ext_get_or, get_or-drop, drop_at}
+use Rattle.std.proofs.Common.{◌≡◌, refl, sym, ap, ap₂, ◌∙◌, subst, false, List, [], ◌∷◌, ◌++◌, ℕ, ◌+◌, ◌-◌, ◌*◌, ◌^◌, ◌≤◌, ◌<◌, arith, length, take, drop, replicate, length-append, length-drop, ext_get_or, get_or-drop, drop_at}
 use Rattle.std.proofs.Math.Option.{none, some}
 use Rattle.std.proofs.Math.ListN.{length-replicate, get_or-replicate}
 use borrow.Author.Tests.{ne_eqb}

@@ -2,6 +2,7 @@
 //! It tests, takes the net needs, writes the keys of the periods into its cost area, where marks and the best plan follow them, makes the trials, hands
 //! out the best plan, and clears the area.
 #![tactic(auto)]
+
 ghost use Rattle.std.specs.Prelude.{◌≡◌, []};
 ghost use Rattle.std.proofs.Math.Option.{none};
 ghost use Rattle.day.specs.Day.{day_of};
