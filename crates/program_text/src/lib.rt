@@ -1,5 +1,6 @@
 //! The text that a program prints for a day file: the line of its refusal, or what the program says of its day.
 #![tactic(auto)]
+
 ghost use Rattle.std.specs.Prelude.{◌≡◌, ◌≤◌, length};
 ghost use Rattle.day.specs.Day.{day_of};
 ghost use Rattle.day.specs.Lent.{day_before, tables_lent, tables_after};
