@@ -14,8 +14,8 @@ use Rattle.checks.specs.Passed.{DayLimits, Passes, Admitted}
 use Rattle.range_checks.specs.Passed.{Ranged}
 use Rattle.theory.specs.Compare.{sum_le}
 use Rattle.theory.specs.Net.{limits_fit}
-use Rattle.theory.specs.Demands.{feasible_iff}
-use Rattle.theory.specs.Easier.{easier_plan}
+use Rattle.theory.proofs.Demands.{feasible_iff}
+use Rattle.theory.proofs.Easier.{easier_plan}
 
 -- a day with no higher needs is easier
 pub lower_easier : (needs : List ℕ) (d : Day) → length needs ≡ periods d → ((k : ℕ) → k < periods d → at needs k ≤ at d.demand k)

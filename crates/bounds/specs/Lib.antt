@@ -1,3 +1,2 @@
--- The full path's work on both days; what the call's answer says of every table of needs between the two.
+-- The full path's work on both days.
 pub mod Both
-pub mod Theorems

@@ -1,6 +1,6 @@
 -- What the answer on needs known as ranges says of every table between the two (document 02, 2.9), over the call's contract.
 -- Main statements: `between_least`; `bounded_iff`, `refused_short` (demand 2). Assumes nothing.
-use Rattle.std.specs.Prelude.{◌≡◌, List, [], ◌∷◌, ◌↔◌, ℕ, ◌≤◌}
+use Rattle.std.proofs.Common.{◌≡◌, List, [], ◌∷◌, ◌↔◌, ℕ, ◌≤◌}
 use Rattle.std.proofs.Common.{sym, ◌∙◌, arith}
 use Rattle.std.proofs.Math.Option.{none, none-ne-some}
 use Rattle.day.specs.declared.Refusal.{Refusal}
@@ -16,8 +16,8 @@ use Rattle.day.specs.Outcome.{Memory, sizes_of}
 use Rattle.day.specs.Ranges.{LeastCost, Between, range_tests, range_refusal, Bounding}
 use Rattle.range_checks.specs.Passed.{range_passed, all_passed}
 use Rattle.theory.specs.Net.{Fits, limits_fit}
-use Rattle.theory.specs.Demands.{shortage_iff, shortage_names}
-use Rattle.theory.specs.Easier.{easier_least, least_one}
+use Rattle.theory.proofs.Demands.{shortage_iff, shortage_names}
+use Rattle.theory.proofs.Easier.{easier_least, least_one}
 use Rattle.bounds.specs.Both.{lower_easier}
 
 -- Every table of needs between the two, period by period, has a plan, and its least cost lies between the two that are given.
