@@ -1,5 +1,6 @@
 //! What a C program sees of an answer: one code, and its numbers in the call's out-array; the stamp that it expects (include/yakkurem.h).
 #![tactic(auto)]
+
 ghost use Rattle.std.specs.Prelude.{◌≡◌};
 ghost use Rattle.day.specs.Refusals.{number_of, period_of};
 ghost use Rattle.day.specs.Figures.{answer_figures, equal_figures, bounds_figures, big_figures};
