@@ -1,13 +1,11 @@
 -- Laws of the call: what passed tests leave for the trials, and what the trials leave is what an accepted call leaves.
--- Main statements: `prepared`; `preparable`, `startable`, `runnable`, `narrow`, `answerable`; `best_so_far`; `given_plan`. Assumes nothing.
-use Rattle.std.proofs.Common.{◌≡◌, refl, sym, ap, ap₂, ◌∙◌, subst, false, List, [], ◌∷◌, ◌++◌, ℕ, ◌+◌, ◌-◌, ◌*◌, ◌^◌, ◌≤◌, ◌<◌, arith, length, take, drop, replicate, length-append, length-drop, ext_get_or, get_or-drop, drop_at}
+-- Main statements: `prepared`; `preparable`, `startable`, `narrow`, `answerable`; `best_so_far`; `path_refused`. Assumes nothing.
+use Rattle.std.proofs.Common.{◌≡◌, refl, sym, ap, ap₂, ◌∙◌, subst, false, List, [], ◌∷◌, ◌++◌, ℕ, ◌+◌, ◌-◌, ◌*◌, ◌^◌, ◌≤◌, ◌<◌, arith}
+use Rattle.std.proofs.Common.{length, take, drop, replicate, length-append, length-drop, ext_get_or, get_or-drop, drop_at}
 use Rattle.std.proofs.Math.Option.{none, some}
 use Rattle.std.proofs.Math.ListN.{length-replicate, get_or-replicate}
-use borrow.Author.Tests.{ne_eqb}
 use Rattle.day.specs.declared.Refusal.{Refusal}
-use Rattle.day.specs.declared.Refusal.TheVariants.{NoTrials}
 use Rattle.day.specs.declared.BigAnswer.{BigAnswer}
-use Rattle.day.specs.declared.BigAnswer.TheVariants.{Refused, Planned}
 use Rattle.day.specs.Sums.{at, sum_ext, at-list_of, length-list_of, drop_later}
 use Rattle.day.specs.Day.{Day, day_of, ends_of, periods, max_periods}
 use Rattle.day.specs.Search.{kept_alike, cost_alike}
@@ -15,7 +13,7 @@ use Rattle.day.specs.Plan.{setup_at, Optimal, cost}
 use Rattle.day.specs.Figures.{accepted_with}
 use Rattle.day.specs.Outcome.{Memory, memory_of, Sizes, sizes_of, refusal, Cleared}
 use Rattle.day.specs.Paths.{big}
-use Rattle.day.specs.Drops.{starts_free, big_refusal, Dropping}
+use Rattle.day.specs.Drops.{starts_free, big_refusal}
 use Rattle.checks.specs.Passed.{Admitted}
 use Rattle.weigher.specs.Walk.{FeasiblePlan, path_plan}
 use Rattle.theory.specs.Net.{rates_of, NetTables, limits_fill}
@@ -26,8 +24,7 @@ use Rattle.theory.proofs.Demands.{feasible_iff}
 use Rattle.theory.proofs.Drops.{Stands, tried_stands, first_optimal, free_least}
 use Rattle.greedy.specs.Keys.{Keyed}
 use Rattle.rounds.specs.Cells.{mark_at, amount_at, marks_in, plan_in, state_in}
-use Rattle.drops.specs.Trial.{retriable}
-use Rattle.drops.specs.Standing.{Held, Startable, Begun, Finished}
+use Rattle.drops.specs.Standing.{Startable, Begun, Finished}
 use Rattle.big.specs.Passed.{big_admitted, big_loose}
 use Rattle.big.specs.Work.{Preparable, Prepared, Answerable, answer_of, begins_with, Planning}
 
@@ -69,18 +66,6 @@ module _ (d : Day) (net₀ cells : List ℕ) (ok : Preparable d net₀ cells) (n
 module _ (trials : ℕ) (d : Day) (s : Sizes) where
   pub path_refused : (r : Refusal) → refusal big d s ≡ some r → big_refusal trials d s ≡ some r
   path_refused r e = rw e refl
-
-  pub none_allowed : refusal big d s ≡ none → trials ≡ 0 → big_refusal trials d s ≡ some NoTrials
-  none_allowed e z = rw (e, z) refl
-
-  pub all_passed : refusal big d s ≡ none → (trials ≡ 0 → ⊥) → big_refusal trials d s ≡ none
-  all_passed e h = rw (e, ne_eqb trials 0 h) refl
-
--- what the work gives is what the call gives
-pub given_plan : (trials : ℕ) (d : Day) (before : Memory) (r : BigAnswer) (after : Memory) → big_refusal trials d (sizes_of before) ≡ none
-    → Planning trials d before r after → Dropping trials d before r after
-given_plan trials d before (Refused r) after ok p = absurd p
-given_plan trials d before (Planned a b) after ok p = (ok, p)
 
 -- What the tests leave.
 module _ (trials : ℕ) (d : Day) (m : Memory) (ok : big_refusal trials d (sizes_of m) ≡ none) where
@@ -134,18 +119,6 @@ module _ (trials : ℕ) (d : Day) (m : Memory) (ok : big_refusal trials d (sizes
       free_plan =
           subst (λ (p : List ℕ). Optimal (starts_free d.capacity d) (at p)) b.is
           (first_optimal d loose passed.day.limits.lengths.capacity (state_in (periods d) begins (periods d) false) b.trial)
-
-      -- the further trials have slots of their own
-      pub runnable : (other : List ℕ) → length other ≡ periods d → Held d net allowances begins other first
-      runnable other size =
-          let h = b.held in
-          let t = h.triable in
-          record {
-            triable = retriable t allowances begins other t.each t.low refl (λ k l. refl) size;
-            room = h.room;
-            allowed = h.allowed;
-            costs = h.costs;
-          }
 
       freely : FeasiblePlan (starts_free d.capacity (day_of d.demand [] [] d.unit d.holding d.store (ends_of d))) plan
       freely =

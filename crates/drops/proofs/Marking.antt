@@ -1,5 +1,6 @@
 -- Laws of the cells: what a mark and a kept plan change in the state that they hold. Main statements: `same_marks`, `marked`. Assumes nothing.
-use Rattle.std.proofs.Common.{◌≡◌, sym, ◌∙◌, List, ℕ, ◌+◌, ◌*◌, ◌≤◌, ◌<◌, arith, length, set, length-set, ext_get_or, get_or-set_same, get_or-set_other}
+use Rattle.std.proofs.Common.{◌≡◌, sym, ◌∙◌, List, ℕ, ◌+◌, ◌*◌, ◌≤◌, ◌<◌, arith, length, set, length-set, ext_get_or, get_or-set_same}
+use Rattle.std.proofs.Common.{get_or-set_other}
 use Rattle.std.proofs.Math.Decide.{ℕ_discrete}
 use Rattle.day.specs.Sums.{at, at-list_of, length-list_of}
 use Rattle.rounds.specs.Cells.{mark_at, marks_in}

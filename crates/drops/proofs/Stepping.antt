@@ -1,6 +1,7 @@
 -- Laws of the trials in turn. Main statements: `begun`, what trial 1 leaves; `step_none`, `step_dearer`, `step_cheaper`, what a further one leaves.
 -- Assumes nothing.
-use Rattle.std.proofs.Common.{◌≡◌, refl, sym, ap, ◌∙◌, subst, Bool, true, List, ℕ, ◌+◌, ◌*◌, ◌≤◌, ◌<◌, arith, ltb, length, drop, set, replicate, length-set, get_or-set_same, get_or-set_other, drop-set-lt}
+use Rattle.std.proofs.Common.{◌≡◌, refl, sym, ap, ◌∙◌, subst, Bool, true, List, ℕ, ◌+◌, ◌*◌, ◌≤◌, ◌<◌, arith, ltb, length, drop, set}
+use Rattle.std.proofs.Common.{replicate, length-set, get_or-set_same, get_or-set_other, drop-set-lt}
 use Rattle.std.proofs.Math.Option.{Option, none, some}
 use Rattle.std.proofs.Math.Decide.{ℕ_discrete}
 use borrow.Author.Tests.{lt-ltb, le-ltb}
@@ -9,11 +10,12 @@ use Rattle.day.specs.Day.{Day, periods}
 use Rattle.day.specs.Plan.{cost}
 use Rattle.day.specs.Drops.{starts_free, allowed, trial_day, Ruled, Tried, Turn, forbidding, undone, done, judged, settled}
 use Rattle.rounds.specs.Cells.{mark_at, marks_in, plan_in, Kept}
-use Rattle.theory.proofs.Drops.{ruled_plans, trial_loose, trial_free, feasible_free, allowed_all, allowed_less, allowed_again, next_allowed, same_state}
+use Rattle.theory.proofs.Drops.{ruled_plans, trial_loose, trial_free, feasible_free, allowed_all, allowed_less, allowed_again, next_allowed}
+use Rattle.theory.proofs.Drops.{same_state}
 use Rattle.drops.specs.declared.Standing.{Standing}
 use Rattle.drops.specs.declared.Outcome.{Outcome}
 use Rattle.drops.specs.declared.Outcome.TheVariants.{NoPlan, Plan}
-use Rattle.drops.specs.Trial.{Triable, retriable, Comes}
+use Rattle.drops.specs.Trial.{retriable, Comes}
 use Rattle.drops.specs.Standing.{state_of, Held, NextIs, Stepped, Startable, Begun}
 use Rattle.drops.proofs.Marking.{same_marks, marked}
 
@@ -118,9 +120,6 @@ module _ (d : Day) (net allowances cells plan : List ℕ) (s : Standing) (k : �
 
   less_size : length (set allowances k 0) ≡ periods d
   less_size = length-set allowances k 0 ∙ held.triable.each
-
-  pub step_triable : Triable d net (set allowances k 0) cells plan
-  step_triable = retriable held.triable (set allowances k 0) cells plan less_size lower refl (λ j l. refl) held.triable.size
 
   forbids : (o : Option (List ℕ)) → Ruled (starts_free (set allowances k 0) d) o → Ruled (trial_day (forbidding state turn) d) o
   forbids o = subst (λ (c : List ℕ). Ruled (starts_free c d) o) less

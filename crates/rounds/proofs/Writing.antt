@@ -1,8 +1,9 @@
 -- What a loop keeps that writes amounts one after the other, into wide cells or narrow ones.
--- Main statements: `writing_none`, where it begins; `writing_more`, one amount more; `writing_kept`, `writing_handed`, where it ends.
+-- Main statements: `writing_kept`, `writing_handed`, where it ends.
 -- Assumes nothing.
-use Rattle.std.proofs.Common.{◌≡◌, refl, sym, ap, ap₂, ◌∙◌, List, ◌++◌, ℕ, ◌+◌, ◌*◌, ◌≤◌, ◌<◌, add-one, arith, length, take, drop, set, length-set, take-append-drop, length-take-le, get_or-take, get_or-set_same, get_or-set_other, drop-set-lt}
-use Rattle.day.specs.Sums.{at, below, list_of-at}
+use Rattle.std.proofs.Common.{◌≡◌, refl, sym, ap, ap₂, ◌∙◌, List, ◌++◌, ℕ, ◌+◌, ◌*◌, ◌≤◌, ◌<◌, arith, length, take, drop, take-append-drop}
+use Rattle.std.proofs.Common.{length-take-le, get_or-take}
+use Rattle.day.specs.Sums.{at, list_of-at}
 use Rattle.rounds.specs.Cells.{amount_at, plan_in, Kept}
 
 -- k of n amounts are written, the first in cell p
@@ -12,22 +13,6 @@ pub record Writing (amount : ℕ → ℕ) (p n k : ℕ) (before after : List ℕ
   pub earlier : (j : ℕ) → j < p → at after j ≡ at before j
   pub written : (j : ℕ) → j < k → at after (p + j) ≡ amount j
   pub rest : drop (p + n) after ≡ drop (p + n) before
-
-module _ (amount : ℕ → ℕ) (p n : ℕ) (before : List ℕ) where
-  pub writing_none : Writing amount p n 0 before before
-  writing_none = record { inside = omega arith; size = refl; earlier = λ j l. refl; written = λ j l. absurd (omega arith); rest = refl }
-
-  pub writing_more : (k i : ℕ) (after : List ℕ) → i ≡ p + k → p + n ≤ length before → k < n → Writing amount p n k before after
-      → Writing amount p n (k + 1) before (set after i (amount k))
-  writing_more k i after e fits l w = rw e (record {
-    inside = omega arith;
-    size = length-set after (p + k) (amount k) ∙ w.size;
-    earlier = λ j g. get_or-set_other after (p + k) j (amount k) 0 (omega arith) ∙ w.earlier j g;
-    written = rw (add-one k) (below (λ j. at (set after (p + k) (amount k)) (p + j) ≡ amount j) k
-        (λ j g. get_or-set_other after (p + k) (p + j) (amount k) 0 (omega arith) ∙ w.written j g)
-        (get_or-set_same after (p + k) (amount k) 0 (omega (arith, w.size))));
-    rest = drop-set-lt (p + n) after (p + k) (amount k) (omega arith) ∙ w.rest;
-  })
 
 -- the plan is kept in the cells,
 pub writing_kept : (plan before after : List ℕ) (k : ℕ) → length plan ≤ k

@@ -1,6 +1,7 @@
 -- Laws of the call: what passed tests leave for the loops, and what the loops leave is what an accepted call leaves.
 -- Assumes nothing.
-use Rattle.std.proofs.Common.{◌≡◌, refl, sym, ap, ap₂, ◌∙◌, subst, List, ◌++◌, ℕ, ◌+◌, ◌<◌, arith, length, drop, replicate, length-append, length-drop, drop_at}
+use Rattle.std.proofs.Common.{◌≡◌, refl, sym, ap, ap₂, ◌∙◌, subst, List, ◌++◌, ℕ, ◌+◌, ◌<◌, arith, length, drop, replicate, length-append}
+use Rattle.std.proofs.Common.{length-drop, drop_at}
 use Rattle.std.proofs.Math.ListN.{length-replicate, get_or-replicate, get_or-append}
 use Rattle.day.specs.declared.Totals.{Totals}
 use Rattle.day.specs.Sums.{at}

@@ -1,6 +1,7 @@
 -- Laws of the read-back: a lot is put from its end to its beginning, and each lot gives the plan's end from where it begins.
 -- Assumes nothing.
-use Rattle.std.proofs.Common.{◌≡◌, refl, ap, ◌∙◌, List, ◌∷◌, ◌++◌, append_assoc, ℕ, suc, ◌+◌, ◌-◌, ◌≤◌, ◌<◌, arith, length, drop, set, replicate, length-set, drop-cons, drop-set-lt, get_or-set_same}
+use Rattle.std.proofs.Common.{◌≡◌, refl, ap, ◌∙◌, List, ◌∷◌, ◌++◌, append_assoc, ℕ, suc, ◌+◌, ◌-◌, ◌≤◌, ◌<◌, arith, length, drop, set}
+use Rattle.std.proofs.Common.{replicate, length-set, drop-cons, drop-set-lt, get_or-set_same}
 use Rattle.day.specs.Sums.{at, sum_to, sum_grows}
 use Rattle.day.specs.Day.{max_total}
 use Rattle.uncapped_rows.specs.Lots.{Begins, LastLots}
@@ -79,7 +80,3 @@ module _ (demand choices slots₀ : List ℕ) (m k : ℕ) (e : m ≡ suc k) (le 
       go : LotPut demand (froms (suc k)) k slots slots' → rows (suc k) ++ drop (suc k) slots ≡ rows (length demand) ++ drop (length demand) slots₀
           → rows (froms m) ++ drop (froms m) slots' ≡ rows (length demand) ++ drop (length demand) slots₀
       go put p = rw (e, put, ← append_assoc, ← (lots.more k (omega arith))) p
-
-pub ends_all : (demand choices slots₀ slots : List ℕ) (m : ℕ) → m ≡ 0 → PlanEnds demand choices slots₀ m slots
-    → (rows : ℕ → List ℕ) → LastLots demand rows (at choices) (length demand) → slots ≡ rows (length demand) ++ drop (length demand) slots₀
-ends_all demand choices slots₀ slots m e ends rows lots = let q = lots.none in rw q at (rw e at (ends rows lots))

@@ -145,15 +145,6 @@ module _ {p : Problem} {carried costs : List ℕ} {m : ℕ} (ready : NextRowRead
     price_all : j ≡ i → paid + s.held ≡ price M (at costs) (suc m) j
     price_all e = omega (arith, whole, rw (← e) at summed.kept)
 
-  pub searched_none : {last : LastLot} → CheapestOf p (at costs) m m last → SearchedTo p (at costs) m m (r m) m (record { left = r m; held = 0 }) last
-  searched_none c =
-      record {
-        order = omega arith;
-        lot = omega arith;
-        holding = record { inside = omega arith; lot = omega arith; kept = omega (arith, unheld); low = omega arith };
-        cheapest = c;
-      }
-
   module _ {l made i₀ : ℕ} {s₀ : Holding} {best : LastLot} (t : SearchedTo p (at costs) m l made i₀ s₀ best) where
     pub searched_inside : l ≤ m
     searched_inside = omega (arith, t.order, t.holding.inside)
@@ -225,16 +216,6 @@ module _ {p : Problem} {carried costs : List ℕ} {m : ℕ} (ready : NextRowRead
       where
         amount : M.floor (suc m) - M.floor m ≡ r m
         amount = omega arith
-
-    pub last_tried : CheapestOf p (at costs) m m last
-    last_tried =
-        record {
-          after = omega arith;
-          before = omega arith;
-          tells = tells;
-          least = λ j a b. let e : m ≡ j = omega arith in rw (← e) (omega (arith, tells));
-          first = λ j a b. absurd (omega arith);
-        }
 
     -- where nothing is demanded, it is the row's
     pub last_chosen : r m ≡ 0 → LastLotOf p (at costs) m last

@@ -1,26 +1,18 @@
 -- Laws of the loop over the rows: no row but the first is there at the start, and each last lot adds one.
 -- Assumes nothing.
-use Rattle.std.proofs.Common.{◌≡◌, refl, sym, ap, ◌∙◌, List, [], ◌++◌, ℕ, suc, ◌+◌, ◌*◌, ◌≤◌, ◌<◌, le_of_suc-le-suc, arith, length, set, drop, length-set, get_or-set_same, get_or-set_other, drop-set-lt}
+use Rattle.std.proofs.Common.{◌≡◌, refl, sym, ap, ◌∙◌, List, [], ◌++◌, ℕ, suc, ◌+◌, ◌*◌, ◌≤◌, ◌<◌, le_of_suc-le-suc, arith, length, set}
+use Rattle.std.proofs.Common.{drop, length-set, get_or-set_same, get_or-set_other, drop-set-lt}
 use Rattle.day.specs.Sums.{at, below}
 use Rattle.theory.specs.Basics.{up_to, up_to-zero}
 use Rattle.theory.specs.Model.{Model}
-use Rattle.theory.specs.Problem.{Problem, model_of, model_rising, periods, Bounded}
+use Rattle.theory.specs.Problem.{Problem, model_of, model_rising, periods}
 use Rattle.theory.specs.Stages.{Solution}
 use Rattle.theory.specs.Uncapped.{price}
 use Rattle.theory.specs.WagnerWhitin.{wagner_whitin, wagner_whitin_zero, lot, chosen_cost, chosen_plan}
 use Rattle.uncapped_rows.specs.declared.LastLot.{LastLot}
-use Rattle.uncapped_rows.specs.Bounds.{LowCosts, Rates, max_making}
+use Rattle.uncapped_rows.specs.Bounds.{LowCosts, max_making}
 use Rattle.uncapped_rows.specs.Lots.{Begins, LastLots}
-use Rattle.uncapped_rows.specs.Rows.{LeastCosts, LastLotOf, RowsWritten}
-
--- what the table of carried costs is made from
-pub bounded_rates : (p : Problem) → Bounded p → Rates p.unit p.holding
-bounded_rates p b =
-    record {
-      size = omega (arith, b.holdings, b.units);
-      units = λ k h. b.unit k (omega (arith, b.units));
-      rates = λ k h. b.holding k (omega (arith, b.units));
-    }
+use Rattle.uncapped_rows.specs.Rows.{LeastCosts, LastLotOf}
 
 -- the areas hold the rows up to m; their cells past n are as they were
 pub record LotRowsTo (p : Problem) (m : ℕ) (costs₀ choices₀ costs choices : List ℕ) : Type 0 where
@@ -100,14 +92,3 @@ module _ (p : Problem) (costs₀ choices₀ : List ℕ) where
 
       old' : (k : ℕ) → k < m → at choices' (suc k) ≡ at choices (suc k)
       old' k h = get_or-set_other choices (suc m) (suc k) r.from 0 (λ q. omega arith)
-
--- the loop starts with the first cost set to 0, which is not past n
-pub rows_written : (p : Problem) (costs₀ choices₀ costs choices : List ℕ)
-    → LotRowsTo p (periods p) (set costs₀ 0 0) choices₀ costs choices → RowsWritten p costs₀ choices₀ costs choices
-rows_written p costs₀ choices₀ costs choices f =
-    record {
-      begins = f.begins;
-      lots = f.lots;
-      costs_rest = f.costs_rest ∙ drop-set-lt (periods p + 1) costs₀ 0 0 (omega arith);
-      choices_rest = f.choices_rest;
-    }

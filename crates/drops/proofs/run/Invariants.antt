@@ -6,7 +6,7 @@ use Rattle.drops.proofs.run.Given as goal
 
 abbrev pub invariant-loop-used : goal.invariant-loop-used
 invariant-loop-used l =
-    Running (day_of l.demand l.capacity l.setup l.unit l.holding l.store l.ends) l.net l.fn.allowed l.fn.cells l.fn.plan l.trials
+    Running (day_of l.demand l.capacity l.setup l.unit l.holding l.store l.ends) l.net l.fn.cells l.trials
     l.allowed l.cells l.plan l.s l.used
 
 abbrev pub decreases-loop-used : goal.decreases-loop-used
