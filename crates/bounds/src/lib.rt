@@ -1,5 +1,6 @@
 //! Needs known as ranges (document 02, 2.9): the least cost of a day with its lowest needs and with its highest, by the full path.
 #![tactic(auto)]
+
 ghost use Rattle.std.specs.Prelude.{◌≡◌, []};
 ghost use Rattle.std.proofs.Math.Option.{none};
 ghost use Rattle.day.specs.Day.{day_of};

@@ -1,11 +1,11 @@
--- The walk over a day's periods while it runs: what its sums are then, where it goes on, where a broken rule stops it, where it ends.
+-- The walk over a day's periods while it runs: what its sums are then, where it goes on, where a broken rule stops it.
 -- Assumes nothing.
-use Rattle.std.proofs.Common.{◌≡◌, refl, sym, ap, ◌∙◌, ⊎_elim, ℕ, zero, suc, ◌+◌, ◌≤◌, ◌<◌, eq-or-lt_of_le, le_of_suc-le-suc, arith}
+use Rattle.std.proofs.Common.{◌≡◌, refl, sym, ap, ◌∙◌, ⊎_elim, ℕ, zero, suc, ◌+◌, ◌≤◌, ◌<◌, eq-or-lt_of_le, le_of_suc-le-suc}
 use Rattle.std.proofs.Math.Arith.{le-zero}
 use Rattle.day.specs.Sums.{sum_to}
 use Rattle.day.specs.Day.{Day, periods, demand_to}
 use Rattle.weigher.specs.declared.Rule.{Rule}
-use Rattle.weigher.specs.declared.Verdict.TheVariants.{Holds, Broken}
+use Rattle.weigher.specs.declared.Verdict.TheVariants.{Broken}
 use Rattle.weigher.specs.declared.Sums.{Sums}
 use Rattle.weigher.specs.declared.Ruling.{Ruling}
 use Rattle.weigher.specs.declared.Ruling.TheVariants.{Kept, Broke}
@@ -43,6 +43,3 @@ module _ {d : Day} {x : ℕ → ℕ} {i : ℕ} {s : Sums} (w : Walking d x i s) 
 
   pub walking_broken : {o : Ruling} {r : Rule} → i < periods d → o ≡ ruling_at d x i → o ≡ Broke r → Broken r (suc i) ≡ walk_of d x
   walking_broken l e f = sym (ap end_of (stopped_stays d x (suc i) (periods d) (walking_turn e ∙ ap (ruled_in (suc i)) f) l))
-
-  pub walking_through : periods d ≤ i → Holds (record { cost = s.cost; setups = s.setups }) ≡ walk_of d x
-  walking_through l = let e : i ≡ periods d = omega (arith, w.inside) in rw (rw e at w.runs) refl
