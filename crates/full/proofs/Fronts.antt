@@ -1,11 +1,6 @@
 -- The work of the full path, in plain variables: the table in the front parts of both areas, the plan in the slots, the areas cleared.
 -- Assumes nothing.
-use mathlib.Core.Path.{◌≡◌, refl, sym, ◌∙◌}
-use mathlib.Core.List.{List, ◌++◌}
-use Prim.Native.Nat.{ℕ, ◌-◌}
-use native.Mathlib.Omega.{arith}
-use lib.ListN.{length, take, drop, length-append}
-use lib.Seq.{length-take-le, drop_at}
+use Rattle.std.proofs.Common.{◌≡◌, refl, sym, ◌∙◌, List, ◌++◌, ℕ, ◌-◌, arith, length, take, drop, length-append, length-take-le, drop_at}
 use Rattle.day.specs.declared.Totals.{Totals}
 use Rattle.day.specs.Sums.{at, length-list_of}
 use Rattle.day.specs.Day as Day
@@ -23,7 +18,7 @@ use Rattle.theory.specs.Net.{NetTables, problem_by, limits_fit, periods_is, tota
 use Rattle.theory.specs.Store.{ceiling_at, ceilings_of}
 use Rattle.theory.proofs.Store.{ceiling_is, passes_covered}
 use Rattle.theory.proofs.Base.{store_optimal}
-use Rattle.full_table.specs.Table.{cell_at, Fillable, TableFilled, Traceable, plan_read}
+use Rattle.full_table.specs.Table.{cell_at, TableFilled, Traceable, plan_read}
 use Rattle.full_table.specs.Right.{back_length, filled_longer, filled_traced, filled_optimal}
 use Rattle.full.specs.Work.{Workable, PlanLeft}
 
@@ -44,19 +39,6 @@ module _ {p : Problem} {U : List ℕ} {T : ℕ} {c : Needed} {m : Memory} (w : W
 
   lent' : length (take k' m.choices) ≡ k'
   lent' = length-take-le k' m.choices (omega (arith, w.needed.choices, w.fillable.choice_cells))
-
-  pub front_fillable : Fillable p U (take k m.costs) (take k' m.choices) T
-  front_fillable =
-      let f = w.fillable in
-      record {
-        bounded = f.bounded;
-        ceiling_cells = f.ceiling_cells;
-        covered = f.covered;
-        is = f.is;
-        under = f.under;
-        cost_cells = omega (arith, lent, w.needed.costs);
-        choice_cells = omega (arith, lent', w.needed.choices);
-      }
 
   module _ {front' : List ℕ} (filled : TableFilled p U T front') (size' : length front' ≡ length (take k' m.choices)) where
     abbrev cells : List ℕ

@@ -1,18 +1,13 @@
 -- What the row step's functions compute, in plain variables.
 -- Assumes nothing.
-use mathlib.Core.Path.{◌≡◌, refl, ap, ◌∙◌}
-use mathlib.Core.List.{List}
-use Prim.Native.Nat.{ℕ, suc, ◌+◌, ◌-◌, ◌≤◌, ◌<◌}
-use native.Mathlib.Decide.{dec_lt}
-use native.Mathlib.Numerals.{add-one}
-use native.Mathlib.Omega.{arith}
-use lib.ListN.{length, set, length-set}
-use lib.Seq.{get_or-set_same, get_or-set_other}
+use Rattle.std.proofs.Common.{◌≡◌, refl, ap, ◌∙◌, List, ℕ, suc, ◌+◌, ◌-◌, ◌≤◌, ◌<◌, add-one, arith, length, set, length-set, get_or-set_same}
+use Rattle.std.proofs.Common.{get_or-set_other}
+use Rattle.std.proofs.Math.Decide.{dec_lt}
 use Rattle.day.specs.Sums.{at, below}
 use Rattle.theory.specs.Basics.{pick}
 use Rattle.theory.specs.Cheapest.{cheapest}
 use Rattle.theory.specs.Full.{lowest, highest, row_price, row_amount, row_cost}
-use Rattle.full_rows.specs.Row.{max_cost, stage_in, row_at, choice_of, best_of, cell_of, Small, Open, After, RowReady, Stepped}
+use Rattle.full_rows.specs.Row.{max_cost, stage_in, row_at, choice_of, best_of, cell_of, Small, Open, After, RowReady}
 use Rattle.full_rows.specs.Laws.{InReach, Limited, amount_between, amount_ext, cost_ext, price_small}
 use Rattle.full_rows.specs.declared.Stage.{Stage}
 use Rattle.full_rows.specs.declared.Choice.{Choice}
@@ -24,9 +19,6 @@ pub record Scanned (s : Stage) (row : ℕ → ℕ) (X lo more j : ℕ) (best : C
   pub is : best ≡ choice_of s row X (lo + cheapest (λ k. row_price (stage_in s) row X (lo + k)) j)
 
 module _ {s : Stage} {row : ℕ → ℕ} {X lo : ℕ} where
-  pub scanned_none : (more : ℕ) (best : Choice) → best ≡ choice_of s row X lo → Scanned s row X lo more 0 best
-  scanned_none more best e = record { inside = omega arith; is = e ∙ ap (choice_of s row X) (omega arith) }
-
   pub scanned_more : {more j : ℕ} {best : Choice} (next r : Choice) → Scanned s row X lo more j best → j < more
       → next ≡ choice_of s row X (lo + (j + 1)) → r ≡ pick (dec_lt next.price best.price) next best → Scanned s row X lo more (j + 1) r
   scanned_more {more} {j} next r c l f g =
@@ -79,29 +71,7 @@ pub record Stepping (s : Stage) (costs : List ℕ) (from to : ℕ) (costs' choic
   pub amount : (Y : ℕ) → Y < X → After s Y → at choices' (base + Y) ≡ row_amount (stage_in s) (row_at costs from) Y
   pub kept : (k : ℕ) → k < base → at choices' k ≡ at choices k
 
-pub stepping_none : {s : Stage} {costs : List ℕ} {from to : ℕ} {choices : List ℕ} {base X : ℕ} → X ≡ s.floor
-    → Stepping s costs from to costs choices base choices X
-stepping_none e =
-    record {
-      begun = omega arith;
-      cost_cells = refl;
-      choice_cells = refl;
-      row = λ Y h. refl;
-      cost = λ Y l a. absurd (omega (arith, a.0));
-      amount = λ Y l a. absurd (omega (arith, a.0));
-      kept = λ k l. refl;
-    }
-
 module _ {s : Stage} {costs : List ℕ} {from to : ℕ} {choices : List ℕ} {base : ℕ} (r : RowReady s costs from to choices base) where
-  pub stepping_open : {costs' choices' : List ℕ} {X : ℕ} → Stepping s costs from to costs' choices base choices' X → Open s costs' from
-  stepping_open c =
-      let o = r.opened in
-      record {
-        bounded = o.bounded;
-        inside = omega (arith, o.inside, c.cost_cells);
-        cheap = λ Y l h. omega (arith, o.cheap Y l h, c.row Y h);
-      }
-
   -- cells past the row of choices are free
   pub stepping_free : {costs' choices' choices'' : List ℕ} {X : ℕ} → Stepping s costs from to costs' choices base choices' X
       → length choices'' ≡ length choices' → ((k : ℕ) → k ≤ base + s.top → at choices'' k ≡ at choices' k)
@@ -152,12 +122,3 @@ module _ {s : Stage} {costs : List ℕ} {from to : ℕ} {choices : List ℕ} {ba
 
       same : (Y : ℕ) → (s.low ≤ Y) × (Y ≤ s.high) → row_at costs' from Y ≡ row_at costs from Y
       same Y h = c.row Y h.1
-
-pub stepping_all : {s : Stage} {costs : List ℕ} {from to : ℕ} {costs' choices : List ℕ} {base : ℕ} {choices' : List ℕ} {X : ℕ}
-    → Stepping s costs from to costs' choices base choices' X → s.top < X → Stepped s costs from to costs' choices base choices'
-stepping_all c l =
-    record {
-      cost = λ Y a. c.cost Y (omega (arith, a.1)) a;
-      amount = λ Y a. c.amount Y (omega (arith, a.1)) a;
-      kept = c.kept;
-    }

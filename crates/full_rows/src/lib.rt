@@ -57,7 +57,7 @@ pub fn smaller(a: usize, b: usize) -> usize
 
 // What an amount comes to for a total.
 fn choice_for(s: Stage, costs: &[u64], from: usize, total: usize, amount: usize) -> Choice
-    requires fact { Open s costs.now from }
+    requires opened { Open s costs.now from }
     requires leads_to { LeadsTo s total amount }
     ensures { result ≡ choice_of s (row_at costs.now from) total amount }
 {
@@ -77,7 +77,7 @@ fn cheaper(a: Choice, b: Choice) -> Choice
 
 // Of the amounts that lead to a total, the smallest of the cheapest.
 fn best_for(s: Stage, costs: &[u64], from: usize, total: usize) -> Choice
-    requires fact { Open s costs.now from }
+    requires opened { Open s costs.now from }
     requires after { After s total }
     ensures { result ≡ best_of s (row_at costs.now from) total }
 {
@@ -105,7 +105,7 @@ fn cell_for(s: Stage, best: Choice, total: usize) -> Cell
 
 // What a total before the stage is compared by; without the setup, so that the queue's loop has one branch less.
 fn key(s: Stage, costs: &[u64], from: usize, before: usize) -> u64
-    requires fact { Open s costs.now from }
+    requires opened { Open s costs.now from }
     requires entry { Entry s (s.top + 1) before }
     ensures { result ≡ key_of s (row_at costs.now from) before }
 {
@@ -122,7 +122,7 @@ fn drop_back(
     tail: usize,
     newcomer: usize,
 ) -> usize
-    requires fact { Open s costs.now from }
+    requires opened { Open s costs.now from }
     requires queue { Queue s (row_at costs.now from) choices.now newcomer head tail }
     requires entry { Entry s (s.top + 1) newcomer × (tail ≤ length choices.now) }
     ensures { Outdone s (row_at costs.now from) choices.now newcomer head tail result }
@@ -149,7 +149,7 @@ fn enter(
     tail: usize,
     newcomer: usize,
 ) -> usize
-    requires fact { Open s costs.now from }
+    requires opened { Open s costs.now from }
     requires queue { Queue s (row_at costs.now from) choices.old newcomer head tail }
     requires queue_room { QueueRoom s choices.old tail newcomer }
     ensures { Entered s (row_at costs.now from) choices.old newcomer head tail choices.new result }
@@ -164,7 +164,7 @@ fn enter(
 
 // The end of the queue that begins at `start` and that the totals below the floor have entered.
 fn enter_below(s: Stage, costs: &[u64], from: usize, choices: &mut [u16], start: usize) -> usize
-    requires fact { Open s costs.now from }
+    requires opened { Open s costs.now from }
     requires scratch { Scratch s choices.old start }
     ensures { Queued s (row_at costs.now from) choices.old start s.floor choices.new result }
 {
@@ -200,7 +200,7 @@ fn best_queued(
     tail: usize,
     total: usize,
 ) -> Choice
-    requires fact { Open s costs.now from }
+    requires opened { Open s costs.now from }
     requires window { Window s (row_at costs.now from) choices.now total head tail }
     requires after { After s total × (tail ≤ length choices.now) }
     ensures { result ≡ best_of s (row_at costs.now from) total }
@@ -226,7 +226,7 @@ fn next_cell(
     tail: usize,
     total: usize,
 ) -> Next
-    requires fact { Open s costs.now from }
+    requires opened { Open s costs.now from }
     requires queue { Queue s (row_at costs.now from) choices.now total head tail }
     requires after { After s total × (tail ≤ length choices.now) }
     ensures { CellFound s (row_at costs.now from) choices.now total head tail result }

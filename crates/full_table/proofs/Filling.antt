@@ -1,14 +1,7 @@
 -- What the loop that fills the table's rows keeps.
 -- Assumes nothing.
-use mathlib.Core.Path.{◌≡◌, refl, sym, ap, ◌∙◌}
-use mathlib.Core.List.{List}
-use mathlib.Core.Logic.{⊎_elim}
-use Prim.Native.Nat.{ℕ, zero, suc, ◌+◌, ◌*◌, ◌≤◌, ◌<◌}
-use native.Mathlib.Nat.{eq-or-lt_of_le, suc-mul, mul-le-mul_right}
-use native.Mathlib.Numerals.{add-one}
-use native.Mathlib.Omega.{arith}
-use lib.ListN.{length, set, length-set}
-use lib.Seq.{get_or-set_same}
+use Rattle.std.proofs.Common.{◌≡◌, refl, sym, ap, ◌∙◌, List, ⊎_elim, ℕ, zero, suc, ◌+◌, ◌*◌, ◌≤◌, ◌<◌, eq-or-lt_of_le, suc-mul, mul-le-mul_right}
+use Rattle.std.proofs.Common.{add-one, arith, length, set, length-set, get_or-set_same}
 use Rattle.day.specs.Sums.{at, below}
 use Rattle.theory.specs.Reachable.{high}
 use Rattle.theory.specs.Full.{stage_of, cost_row, cost_row-zero, cost_row_next, amount}
@@ -17,7 +10,7 @@ use Rattle.full_rows.specs.declared.Stage.{Stage}
 use Rattle.full_rows.specs.Row.{row_at, max_making, max_product, RowReady, Stepped}
 use Rattle.full_rows.specs.Laws.{Limited, amount_ext, cost_ext, cost_small}
 use Rattle.full_table.specs.Right.{under, reached}
-use Rattle.full_table.specs.Table.{stage_at, Staged, Reachable, cell_at, Fillable, TableFilled}
+use Rattle.full_table.specs.Table.{stage_at, Staged, Reachable, cell_at, Fillable}
 
 -- i rows are filled; the last of them begins at `from`
 pub record TableFilling (p : Problem) (U : List ℕ) (T : ℕ) (costs choices : List ℕ) (from to base low most i : ℕ) : Type 0 where
@@ -70,13 +63,6 @@ module _ {p : Problem} {U costs choices : List ℕ} {T : ℕ} (f : Fillable p U 
       }
 
   module _ {costs' choices' : List ℕ} {from to base low most i : ℕ} (c : TableFilling p U T costs' choices' from to base low most i) where
-    -- the choices that are filled lie in their area
-    pub filling_cells : base ≤ length choices'
-    filling_cells = omega (arith, c.is_base, c.choice_cells, mul-le-mul_right (T + 1) c.inside)
-
-    pub filling_all : periods p ≤ i → TableFilled p U T choices'
-    filling_all l = record { amounts = λ k X h. c.amounts k (omega arith) X }
-
     module _ (l : i < periods p) where
       small : (low ≤ T) × (most ≤ T)
       small =

@@ -1,12 +1,7 @@
 -- What the loop that reads the plan back keeps.
 -- Assumes nothing.
-use mathlib.Core.Path.{◌≡◌, refl, ap, ◌∙◌}
-use mathlib.Core.List.{List, ◌∷◌, ◌++◌, append_assoc}
-use Prim.Native.Nat.{ℕ, suc, ◌+◌, ◌-◌, ◌*◌, ◌≤◌, ◌<◌}
-use native.Mathlib.Nat.{suc-mul, mul-le-mul_right}
-use native.Mathlib.Omega.{arith}
-use lib.ListN.{length, drop, set, length-set}
-use lib.Seq.{drop-cons, drop-set-lt, get_or-set_same}
+use Rattle.std.proofs.Common.{◌≡◌, ap, ◌∙◌, List, ◌∷◌, ◌++◌, append_assoc, ℕ, suc, ◌+◌, ◌-◌, ◌*◌, ◌≤◌, ◌<◌, suc-mul, mul-le-mul_right, arith, length}
+use Rattle.std.proofs.Common.{drop, set, length-set, drop-cons, drop-set-lt, get_or-set_same}
 use Rattle.day.specs.Sums.{at}
 use Rattle.theory.specs.Full.{back}
 use Rattle.full_table.specs.Table.{cell_at, Traced, Traceable, plan_read}
@@ -34,17 +29,6 @@ pub record Turn (choices : List ℕ) (T base left k : ℕ) : Type 0 where
   pub fits : at choices (base - (T + 1) + left) ≤ left
 
 module _ {choices slots : List ℕ} {n T : ℕ} (r : Traceable choices slots n T) where
-  pub reading_none : BackRead choices slots n T slots (n * (T + 1)) T n
-  reading_none =
-      record {
-        inside = omega arith;
-        row = refl;
-        under = omega arith;
-        traced = r.traced;
-        plan = refl;
-        size = refl;
-      }
-
   module _ {slots' : List ℕ} {base left k : ℕ} (c : BackRead choices slots n T slots' base left k) where
     step_down : (j : ℕ) → k ≡ suc j → (base - (T + 1) ≡ j * (T + 1)) × (T + 1 ≤ base) × (base ≤ n * (T + 1))
     step_down j e =
@@ -82,7 +66,3 @@ module _ {choices slots : List ℕ} {n T : ℕ} (r : Traceable choices slots n T
               plan = rw (drop_set slots' j (cell_at choices T j left) (omega (arith, c.inside, c.size, r.slot_cells))) (rw append_assoc at p);
               size = length-set slots' j (cell_at choices T j left) ∙ c.size;
             })
-
-  pub reading_all : {slots' : List ℕ} {base left k : ℕ} → BackRead choices slots n T slots' base left k → k ≤ 0
-      → slots' ≡ plan_read choices n T ++ drop n slots
-  reading_all {slots'} {base} {left} {k} c l = let e : k ≡ 0 = omega arith in rw e at c.plan

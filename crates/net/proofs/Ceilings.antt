@@ -1,7 +1,6 @@
--- What the loop over the ceilings keeps: R of the periods passed, whose ceilings are filled in.
--- Main statement: `filling_more`, a turn. Assumes nothing.
-use Rattle.std.proofs.Common.{◌≡◌, ◌∙◌, List, ℕ, suc, ◌+◌, ◌*◌, ◌-◌, ◌≤◌, ◌<◌, min, length, set, add-one, arith, length-set, get_or-set_same, get_or-set_other}
-use Rattle.day.specs.Sums.{Term, at, sum_to, term_more, below}
+-- What the loop over the ceilings keeps: R of the periods passed, whose ceilings are filled in. Assumes nothing.
+use Rattle.std.proofs.Common.{◌≡◌, List, ℕ, suc, ◌+◌, ◌*◌, ◌-◌, ◌≤◌, ◌<◌, min, length}
+use Rattle.day.specs.Sums.{Term, at, sum_to}
 use Rattle.day.specs.Day.{max_capacity}
 
 -- the ceiling of a period, by T and A
@@ -14,20 +13,3 @@ pub record Filling (demand store : List ℕ) (total opening : ℕ) (ceilings : L
   pub sum : Term (sum_to (at demand) i) (max_capacity * i) demanded
   pub size : length ceilings ≡ length demand
   pub each : (k : ℕ) → k < i → at ceilings k ≡ under demand store total opening k
-
--- a turn
-pub filling_more :
-    {demand store ceilings : List ℕ} {total opening demanded i v : ℕ}
-    → Filling demand store total opening ceilings demanded i
-    → i < length demand
-    → at demand i ≤ max_capacity
-    → v ≡ under demand store total opening i
-    → Filling demand store total opening (set ceilings i v) (demanded + at demand i) (i + 1)
-filling_more {demand} {store} {ceilings} {total} {opening} {demanded} {i} {v} w l low is = rw (add-one i) (record {
-  inside = l;
-  sum = rw (add-one i) at (term_more (at demand) max_capacity i w.sum low);
-  size = length-set ceilings i v ∙ w.size;
-  each = below (λ (k : ℕ). at (set ceilings i v) k ≡ under demand store total opening k) i
-      (λ k h. get_or-set_other ceilings i k v 0 (λ e. omega arith) ∙ w.each k h)
-      (get_or-set_same ceilings i v 0 (omega (arith, w.size)) ∙ is);
-})

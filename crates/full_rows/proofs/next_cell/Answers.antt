@@ -8,7 +8,7 @@ pub best_queued-best-requires-clause-window : goal.best_queued-best-requires-cla
 best_queued-best-requires-clause-window c = queue_trim c.requires.queue c.less.ensures c.drop_head-first.ensures
 
 pub cell_for-cell-requires : goal.cell_for-cell-requires
-cell_for-cell-requires c = best_small c.requires.fact c.requires.after.0 c.best_queued-best.ensures
+cell_for-cell-requires c = best_small c.requires.opened c.requires.after.0 c.best_queued-best.ensures
 
 pub returns : goal.returns
 returns c = found c.requires.queue c.less.ensures c.drop_head-first.ensures c.best_queued-best.ensures c.cell_for-cell.ensures
