@@ -1,4 +1,4 @@
--- A refusal of the tests of a path; the refusal after them and the work are found.
+-- What the tests of a path refuse, the call refuses; what comes after them needs no answer.
 use Rattle.std.proofs.Common.{[], refl}
 use Rattle.day.specs.Day.{day_of}
 use Rattle.day.specs.Tests.{is_gives, refused}
