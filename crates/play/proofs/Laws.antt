@@ -19,7 +19,9 @@ rest_tests d plan = total_tests max_total d ++ (bad_slots (length plan) (periods
 module _ (actual : List ℕ) (d : Day) (plan : List ℕ) (pair : first (pair_tests actual d) ≡ none) where
   -- then both calls have the same tests left
   same : weigh_refusal d plan ≡ play_refusal actual d plan
-  same = first_passed (table_tests d) (rest_tests d plan) (pair_passed actual d pair).tables ∙ sym (first_passed (pair_tests actual d) (rest_tests d plan) pair)
+  same =
+      first_passed (table_tests d) (rest_tests d plan) (pair_passed actual d pair).tables
+      ∙ sym (first_passed (pair_tests actual d) (rest_tests d plan) pair)
 
   pub refused_play : {w : Weighed} {r : Refusal} → Weighs d plan w → w ≡ weighed.Refused r → Plays actual d plan (Refused r)
   refused_play h e = rw same at (subst (Weighs d plan) e h)
