@@ -2,28 +2,30 @@
 //! same (document 02, 2.2), one with charge at both ends (2.1), one with a low store (2.5), and a day of 96 periods; and `station.id`, which says
 //! whose they are (2.12).
 #![tactic(auto)]
+
 use day::{Ends, Stamp};
 use dayfile::WriteAnswer;
 use dayfile::layout::NO_LIMIT;
-use std::fs;
-use std::io;
 use std::rt::Files;
+use std::{fs, io};
 
 // Whose files they are: station 17's, for 16 November 2026.
 const STATION: u16 = 17;
 
 const DATE: u16 = 9816;
 
-// Bytes under a name in the current folder; its name and their count go to standard output.
-fn put(rt: &(impl Files + Print), name: &str, bytes: &[u8]) -> io::Result<()> {
-    fs::write(rt, name, bytes)?;
+// Bytes under a name in the current folder; its name and their count go to standard output. Where they can't be written, standard error says so.
+fn put(rt: &(impl Files + Print + Eprint), name: &str, bytes: &[u8]) -> io::Result<()> {
+    if let Err(e) = fs::write(rt, name, bytes) {
+        return eprintln!(rt; "{name}: {e}");
+    }
     let n = bytes.len();
     println!(rt; "{name} {n}")
 }
 
 // The file of a day.
 fn save(
-    rt: &(impl Files + Print),
+    rt: &(impl Files + Print + Eprint),
     name: &str,
     demand: &[u16],
     capacity: &[u16],
@@ -49,7 +51,7 @@ fn save(
 
 // A day of one to three periods, with one start cost, unit cost and upkeep throughout, whose store limits nothing.
 fn save_row(
-    rt: &(impl Files + Print),
+    rt: &(impl Files + Print + Eprint),
     name: &str,
     demand: &[u16],
     capacity: &[u16],
@@ -87,7 +89,7 @@ fn no_ends() -> Ends {
     }
 }
 
-fn save_marked(rt: &(impl Files + Print)) -> io::Result<()> {
+fn save_marked(rt: &(impl Files + Print + Eprint)) -> io::Result<()> {
     let none = no_ends();
     save_row(rt, "m1.day", &[0], &[0], 5, 1, 1, none)?;
     save_row(rt, "m2.day", &[1], &[1], 5, 2, 9, none)?;
@@ -105,7 +107,7 @@ fn save_marked(rt: &(impl Files + Print)) -> io::Result<()> {
 }
 
 // M11's tables, with charge at both ends: the first period makes nothing, and the last one more than it needs.
-fn save_ends(rt: &(impl Files + Print)) -> io::Result<()> {
+fn save_ends(rt: &(impl Files + Print + Eprint)) -> io::Result<()> {
     let ends = Ends {
         opening: 3,
         closing: 2,
@@ -114,7 +116,7 @@ fn save_ends(rt: &(impl Files + Print)) -> io::Result<()> {
 }
 
 // M11's tables, with a store that takes little before the last period: what the second needs, the first can't make.
-fn save_store(rt: &(impl Files + Print)) -> io::Result<()> {
+fn save_store(rt: &(impl Files + Print + Eprint)) -> io::Result<()> {
     save(
         rt,
         "store.day",
@@ -151,7 +153,7 @@ fn fuel() -> [u32; 96] {
     unit
 }
 
-fn save_passes(rt: &(impl Files + Print)) -> io::Result<()> {
+fn save_passes(rt: &(impl Files + Print + Eprint)) -> io::Result<()> {
     let demand = passes();
     let capacity = [12u16; 96];
     let setup = [4000u32; 96];
@@ -171,7 +173,7 @@ fn save_passes(rt: &(impl Files + Print)) -> io::Result<()> {
     )
 }
 
-fn save_id(rt: &(impl Files + Print)) -> io::Result<()> {
+fn save_id(rt: &(impl Files + Print + Eprint)) -> io::Result<()> {
     put(
         rt,
         "station.id",
