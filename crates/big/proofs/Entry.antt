@@ -21,7 +21,8 @@ use Rattle.theory.specs.Store.{Loose}
 use Rattle.theory.specs.Greedy.{key_of}
 use Rattle.theory.proofs.Batches.{cleared_length, cleared_fresh}
 use Rattle.theory.proofs.Demands.{feasible_iff}
-use Rattle.theory.proofs.Drops.{Stands, tried_stands, first_optimal, free_least}
+use Rattle.theory.specs.Drops.{Stands}
+use Rattle.theory.proofs.Drops.{tried_stands, first_optimal, free_least}
 use Rattle.greedy.specs.Keys.{Keyed}
 use Rattle.rounds.specs.Cells.{mark_at, amount_at, marks_in, plan_in, state_in}
 use Rattle.drops.specs.Standing.{Startable, Begun, Finished}

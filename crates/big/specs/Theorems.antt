@@ -30,7 +30,8 @@ use Rattle.theory.proofs.Easier.{least_one}
 use Rattle.theory.proofs.Calls.{only_shortage}
 use Rattle.big.specs.Passed.{big_loose, big_trials}
 use Rattle.big.specs.Work.{begins_with}
-use Rattle.theory.proofs.Drops.{Stands, tried_stands, free_least, ended_cheaper, ended_one}
+use Rattle.theory.specs.Drops.{Stands}
+use Rattle.theory.proofs.Drops.{tried_stands, free_least, ended_cheaper, ended_one}
 
 -- An accepted call.
 module _ (trials : ℕ) (d : Day) (before after : Memory) (a : Totals) (b : Trials) (runs : Dropping trials d before (Planned a b) after) where

@@ -138,7 +138,7 @@ abbrev pub bad_slots : (slots needed : ℕ) → Option Refusal
 bad_slots slots needed = refuse (ltb slots needed) FewSlots
 
 -- 7: no amounts for periods 1 to k + 1 keep the conditions through k + 1. The test is on sums; that it says just this of a day that 14 lets pass is
--- `shortage_names` (theory/specs/Demands).
+-- `shortage_names` (theory/proofs/Demands).
 -- The most that can have been made after i periods: no more than c in each, and with A no more than R + s after each; 0 where A alone is more
 abbrev pub most_to : Day → ℕ → ℕ
 most_to d i = capped_to (at d.capacity) (λ k. demand_to d (suc k) + at d.store k - d.opening) i

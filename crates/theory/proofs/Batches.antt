@@ -1,5 +1,5 @@
 -- The greedy rule as a loop computes it gives the optimal plan where all setups are free, and nothing only where no amounts keep the rules.
--- Main definition: `greedy`. Main statements: `greedy_right`, `greedy_covered`. Assumes nothing.
+-- The rule is `greedy` of specs/Batches. Main statements: `greedy_right`, `greedy_covered`. Assumes nothing.
 use Rattle.std.specs.Prelude.{◌≡◌, refl, List, ℕ, zero, suc, ◌+◌, ◌-◌, ◌≤◌, ◌<◌, length, drop, set, replicate}
 use Rattle.std.proofs.Common.{◌∙◌, le_of_suc-le-suc, arith, length-set, length-append, length-drop, get_or-set_same, get_or-set_other, drop-set-lt}
 use Rattle.std.proofs.Math.Option.{Option, none, some}

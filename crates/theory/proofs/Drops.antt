@@ -22,7 +22,7 @@ use Rattle.theory.specs.FreeSetups.{Free}
 use Rattle.theory.specs.Store.{Loose}
 use Rattle.theory.proofs.InTurn.{in_turn_optimal, in_turn_serves}
 use Rattle.theory.proofs.Demands.{plan_unique}
-use Rattle.theory.specs.Drops.{Plans}
+use Rattle.theory.specs.Drops.{Plans, Stands}
 
 -- the rule makes nothing past the day
 served_idle : (d : Day) (t : ℕ) (x : ℕ → ℕ) → ServedTo d t x → (k : ℕ) → periods d ≤ k → x k ≡ 0
@@ -218,18 +218,11 @@ module _ (d : Day) (loose : Loose d) where
   trial_one : (marks : List ℕ) (o p : Option (List ℕ)) → Ruled (trial_day marks d) o → Ruled (trial_day marks d) p → o ≡ p
   trial_one marks = ruled_one (trial_day marks d) (trial_loose d loose (allowed marks d)) (trial_free d (allowed marks d))
 
-  -- a mark and an amount for every period, amounts that keep the conditions, and a round within the day
-  pub record Stands (s : Tried) : Type 0 where
-    pub marks : length s.marks ≡ periods d
-    pub size : length s.plan ≡ periods d
-    pub feasible : Feasible d (at s.plan)
-    pub ahead : s.ahead ≤ periods d
-
   -- and, of a state after another, a best plan that costs no more
   abbrev Onward : Tried → Tried → Type 0
-  Onward s r = Stands r × (cost d (at r.plan) ≤ cost d (at s.plan))
+  Onward s r = Stands d loose r × (cost d (at r.plan) ≤ cost d (at s.plan))
 
-  first_stands : (s : Tried) → FirstTrial d s → Stands s
+  first_stands : (s : Tried) → FirstTrial d s → Stands d loose s
   first_stands s f =
       let p = trial_plans s.marks (some s.plan) f.ruled in
       record {
@@ -239,12 +232,12 @@ module _ (d : Day) (loose : Loose d) where
         ahead = omega (arith, f.ahead);
       }
 
-  undone_stands : (s : Tried) (t : Turn) → t.period < periods d → Stands s → Onward s (undone s t)
+  undone_stands : (s : Tried) (t : Turn) → t.period < periods d → Stands d loose s → Onward s (undone s t)
   undone_stands s t inside w =
       (record { marks = w.marks; size = w.size; feasible = w.feasible; ahead = omega arith }, omega arith)
 
   judged_stands : (s : Tried) (t : Turn) (plan : List ℕ) (less : Bool) → ltb (cost d (at plan)) (cost d (at s.plan)) ≡ less
-      → t.period < periods d → Stands s → length plan ≡ periods d → Feasible d (at plan) → Onward s (judged s t plan less)
+      → t.period < periods d → Stands d loose s → length plan ≡ periods d → Feasible d (at plan) → Onward s (judged s t plan less)
   judged_stands s t plan true e inside w size f =
       let cheaper = ltb-true (cost d (at plan)) (cost d (at s.plan)) e in (
         record { marks = length-set s.marks t.period 1 ∙ w.marks; size = size; feasible = f; ahead = omega arith },
@@ -252,21 +245,21 @@ module _ (d : Day) (loose : Loose d) where
       )
   judged_stands s t plan false e inside w size f = undone_stands s t inside w
 
-  settled_stands : (s : Tried) (t : Turn) (o : Option (List ℕ)) → t.period < periods d → Stands s → Plans (trial_day (forbidding s t) d) o
+  settled_stands : (s : Tried) (t : Turn) (o : Option (List ℕ)) → t.period < periods d → Stands d loose s → Plans (trial_day (forbidding s t) d) o
       → Onward s (settled d s t o)
   settled_stands s t none inside w p = undone_stands s t inside w
   settled_stands s t (some plan) inside w p =
       judged_stands s t plan (ltb (cost d (at plan)) (cost d (at s.plan))) refl inside w p.0
       (trial_feasible d (forbidding s t) (at plan) p.1.feasible)
 
-  next_stands : (s r : Tried) → Stands s → NextTrial d s r → Onward s r
+  next_stands : (s r : Tried) → Stands d loose s → NextTrial d s r → Onward s r
   next_stands s r w step =
       subst (Onward s) (sym step.is)
       (settled_stands s step.turn step.outcome (next_allowed (periods d) s step.turn w.ahead step.comes).0 w
       (trial_plans (forbidding s step.turn) step.outcome step.ruled))
 
   -- After any number of trials the best plan keeps the conditions of the day.
-  pub tried_stands : (t : ℕ) (s : Tried) → TriedIn d t s → Stands s
+  pub tried_stands : (t : ℕ) (s : Tried) → TriedIn d t s → Stands d loose s
   tried_stands zero s tried = absurd tried
   tried_stands (suc zero) s tried = first_stands s tried
   tried_stands (suc (suc t)) s (q, tried, step) = (next_stands q s (tried_stands (suc t) q tried) step).0

@@ -28,14 +28,14 @@ least_one d c c' a b =
 module _ (e d : Day) (easy : Easier e d) (empty : d.opening ≡ 0) (empty' : e.opening ≡ 0) where
   -- the easier has one that costs no more,
   pub easier_plan : (x : ℕ → ℕ) → Feasible d x → (y : ℕ → ℕ) × Feasible e y × (cost e y ≤ cost d x)
-  easier_plan = thinned e d easy empty empty'
+  easier_plan = thinned e d easy (omega (arith, empty)) (omega (arith, empty'))
 
   -- and its least cost is no higher.
   pub easier_least : 0 < periods d → (x : ℕ → ℕ) → Feasible d x → (c c' : ℕ) × LeastCost d c × LeastCost e c' × (c' ≤ c)
   easier_least some x f =
       let hard = least_exists d (record { nonempty = some; used = omega arith }) x f in
       let best = hard.1 in
-      let r = thinned e d easy empty empty' best.plan best.optimal.feasible in
+      let r = thinned e d easy (omega (arith, empty)) (omega (arith, empty')) best.plan best.optimal.feasible in
       let easy-one = least_exists e (record { nonempty = omega (arith, easy.size); used = omega arith }) r.0 r.1 in
       (hard.0, easy-one.0, best, easy-one.1, omega (arith, least_below easy-one.1 r.0 r.1, r.2, best.is))
 

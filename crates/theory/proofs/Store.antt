@@ -1,5 +1,5 @@
--- The store limit of a day (document 02, 2.5): a ceiling on what may have been made, the test 7 on sums, and days whose stores can't bind.
--- Main definitions: `ceilings_of`, `store_model`, `Loose`. Main statements: `keeps_iff`, on a day that 14 lets pass the test decides whether some amounts
+-- The store limit of a day (document 02, 2.5), over specs/Store: the test 7 on sums, and days whose stores can't bind.
+-- Main statements: `keeps_iff`, on a day that 14 lets pass the test decides whether some amounts
 -- keep the conditions through a period; `passes_loose`, on a day whose stores can't bind it compares with C alone. Assumes nothing.
 use Rattle.std.specs.Prelude.{◌≡◌, ◌↔◌, ℕ, zero, suc, ◌+◌, ◌-◌, ◌≤◌, ◌<◌, min}
 use Rattle.std.proofs.Common.{ap, arith}

@@ -1,2 +1,2 @@
-//! The theory behind the planner, over one model; all of it is in specs/.
+//! The theory behind the planner, over one model, in specs/; the theorems of days are in proofs/.
 #![tactic(auto)]
