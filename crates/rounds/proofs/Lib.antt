@@ -1,1 +1,2 @@
+-- Laws of the writing loops.
 pub mod Writing
