@@ -1,9 +1,9 @@
 -- Laws of the layout.
---     whole-record, whole-period, whole-charges   what the tests of a record say of it
---     period-at                                   the records that `periods_in` counts are whole periods
---     walked_none, -more, -end; walk-stops        a walk over the period records, record by record; where it stops
---     day-in-front, with-day                      the tables that a reading filled begin with the file's day
---     laid_out; counted, walk-clean               the walk meets no fault exactly if the file is laid out as `Layout` says
+--     whole_record, whole_period, whole_charges               what the tests of a record say of it
+--     period_at                                               the records that `periods_in` counts are whole periods
+--     walked_none, walked_more, walked_end; walk_stops        a walk over the period records, record by record; where it stops
+--     day_in_front, with_day_lem                              the tables that a reading filled begin with the file's day
+--     laid_out; counted, walk_clean                           the walk meets no fault exactly if the file is laid out as `Layout` says
 -- Assumes nothing.
 use Rattle.std.specs.Prelude.{◌≡◌, refl, Bool, true, false, not, ◌&&◌, ◌||◌, cond, List, [], ◌∷◌, ℕ, zero, suc, ◌+◌, ◌-◌, ◌≤◌, ◌<◌, eqb, leb, ltb, length, take, drop}
 use Rattle.std.proofs.Common.{ap, ◌∙◌, arith, eq-or-lt_of_le, le_of_suc-le-suc, inl, inr, ⊎_elim, length-take, length-drop, eqb-true, leb-true, ltb-true, lt-ltb, le-ltb, le-leb, eq-eqb}

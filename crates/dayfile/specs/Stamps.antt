@@ -1,10 +1,10 @@
 -- What document 02, 2.12, says of a record of kind 5 that is not as it must be. Of the walk, and so of every call on a file:
---     late-stamp          one that doesn't stand first is refused 12 at its kind byte, also where the file ends inside it
---     cut-stamp           one that stands first and is cut short is refused 11
+--     late_stamp          one that doesn't stand first is refused 12 at its kind byte, also where the file ends inside it
+--     cut_stamp           one that stands first and is cut short is refused 11
 -- Of the reader, from its contract (`Answers`):
---     stamp-refused       a file whose walk meets no fault, and which has not the expected stamp, is refused 20, whatever else it holds: one without
+--     stamp_refused       a file whose walk meets no fault, and which has not the expected stamp, is refused 20, whatever else it holds: one without
 --                         a stamp (`no_stamp`), or with another (`other_stamp`)
---     nothing-accepted    where nothing is expected, no file is accepted
+--     nothing_accepted    where nothing is expected, no file is accepted
 -- Assumes nothing.
 use Rattle.std.specs.Prelude.{◌≡◌, refl, Bool, true, false, List, [], ◌∷◌, ◌++◌, ℕ, ◌<◌, length}
 use Rattle.std.proofs.Common.{sym, ap, subst, ◌∙◌, arith, lt-ltb, eq-eqb, ne_eqb}

@@ -1,6 +1,6 @@
 -- What document 02, 2.5, says of a record of kind 4 that is not as it must be, of the walk and so of every call on a file:
---     cut-limit       one that is cut short is refused 11
---     no-limit        one that holds 65,535 is refused 12 after its body, whatever follows
+--     cut_limit       one that is cut short is refused 11
+--     no_limit        one that holds 65,535 is refused 12 after its body, whatever follows
 -- Assumes nothing.
 use Rattle.std.specs.Prelude.{◌≡◌, refl, false, List, ℕ, ◌+◌, ◌≤◌, ◌<◌, length}
 use Rattle.std.proofs.Common.{◌∙◌, arith, lt-ltb, le-ltb, le-leb}

@@ -1,9 +1,9 @@
 -- What demand 2 asks of the lookup, from its contract (`Answers`) and the layout (the crate day's `File`):
---     lookup-hands-out        the part that a lookup hands out is where the layout has that period
---     place-holds             the figures of a lookup point there, and there the record's body stands
---     file-size               a file of n periods has 17 × n + 3 bytes, 5 more where there is a stamp, 5 more where there are charges, and 2 more for
+--     lookup_hands_out        the part that a lookup hands out is where the layout has that period
+--     place_holds             the figures of a lookup point there, and there the record's body stands
+--     file_size               a file of n periods has 17 × n + 3 bytes, 5 more where there is a stamp, 5 more where there are charges, and 2 more for
 --                             each store limit below 65,535
---     longest-file            with at most 96 periods it has at most 1,837 bytes
+--     longest_file            with at most 96 periods it has at most 1,837 bytes
 -- Assumes nothing.
 use Rattle.std.specs.Prelude.{◌≡◌, refl, Bool, true, false, cond, List, [], ◌∷◌, ℕ, zero, suc, ◌+◌, ◌-◌, ◌*◌, ◌≤◌, ◌<◌, ltb, length, take, drop}
 use Rattle.std.proofs.Common.{ap₂, ◌∙◌, ⊎_elim, arith, get_or-take, get_or-drop, lt-ltb}

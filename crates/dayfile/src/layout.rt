@@ -86,8 +86,8 @@ pub fn next(file: &[u8], at: usize) -> usize
 
 // The body of the record at `at`: that very part of the file's bytes.
 pub fn body(file: &[u8], at: usize) -> &[u8]
-    requires at_in_bounds { at < length file.now }
-    requires at_in_bounds_2 { next file.now at ≤ length file.now }
+    requires inside { at < length file.now }
+    requires whole { next file.now at ≤ length file.now }
     ensures { BodyAt file.entry at result }
 {
     let start = at + 1;

@@ -28,8 +28,8 @@ fn store_limit(kind: u8, body: &[u8]) -> u16
 
 // The field decoder: the numbers that the body of a period record of this kind holds.
 fn decode(kind: u8, body: &[u8]) -> Numbers
-    requires in_bounds { 16 ≤ length body.now }
-    requires body_len { length body.now ≡ body_length kind }
+    requires long { 16 ≤ length body.now }
+    requires length_by_kind { length body.now ≡ body_length kind }
     ensures { result ≡ numbers_in kind body.now }
 {
     Numbers {
@@ -71,7 +71,7 @@ fn fill(
     holding: &mut [u32],
     store: &mut [u16],
 )
-    requires n_value { n ≡ periods_in file.now }
+    requires periods { n ≡ periods_in file.now }
     requires cells { Cells n (tables_of demand.old capacity.old setup.old unit.old holding.old store.old) }
     ensures { tables_after demand capacity setup unit holding store
         ≡ with_day file.now (tables_lent demand capacity setup unit holding store) }
@@ -98,8 +98,8 @@ fn fill(
 
 // 3. The numbers are taken into tables of its own, so that the test speaks before a lent cell changes.
 fn values(file: &[u8], n: usize) -> Check
-    requires n_value { n ≡ periods_in file.now }
-    requires n_le_max_periods { n ≤ max_periods }
+    requires periods { n ≡ periods_in file.now }
+    requires few { n ≤ max_periods }
     ensures { result ≡ checked (bad_value (day_in file.now)) }
 {
     let mut demand = [0u16; 96];

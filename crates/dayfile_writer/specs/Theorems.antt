@@ -1,10 +1,10 @@
 -- What demand 2 asks of reader and writer, of their contracts `Reading` and `Writing`:
---     written-is-read     what the writer wrote with a stamp, the reader that expects it accepts: it fills the tables with the very day, and gives its
+--     written_is_read     what the writer wrote with a stamp, the reader that expects it accepts: it fills the tables with the very day, and gives its
 --                         ends
---     written-for-others  a reader that expects another stamp, or none, refuses it 20, and changes no cell
---     read-is-written     a file that the reader accepted is, byte for byte, what the writer makes of the tables that it filled, with the
+--     written_for_others  a reader that expects another stamp, or none, refuses it 20, and changes no cell
+--     read_is_written     a file that the reader accepted is, byte for byte, what the writer makes of the tables that it filled, with the
 --                         ends that it gave and the stamp that it expected
---     room-suffices       with room the writer refuses no day within the limits
+--     room_suffices       with room the writer refuses no day within the limits
 -- Assumes nothing.
 use Rattle.std.specs.Prelude.{◌≡◌, refl, true, List, [], ◌∷◌, ◌++◌, ℕ, ◌≤◌, length, take, drop}
 use Rattle.std.proofs.Common.{sym, ap, ap₂, subst, ◌∙◌, le-ltb, eq-eqb, take_at}

@@ -189,7 +189,7 @@ fn put_periods(
     first: usize,
 ) -> usize
     requires same_lengths { SameLengths (tables_of demand.now capacity.now setup.now unit.now holding.now store.now) }
-    requires demand_in_bounds { first + record_bytes (at store.now) (length demand.now) ≤ length out.old }
+    requires room { first + record_bytes (at store.now) (length demand.now) ≤ length out.old }
     ensures { (result ≡ first + record_bytes (at store.now) (length demand.now))
         × (out.new
         ≡ sets out.old first (records_of (tables_before demand capacity setup unit holding store) (length demand.now))) }
@@ -219,7 +219,7 @@ fn put_file(
     stamp: Stamp,
 )
     requires readable { Readable (day_of demand.now capacity.now setup.now unit.now holding.now store.now ends) }
-    requires ends_in_bounds { length (file_of stamp (day_of demand.now capacity.now setup.now unit.now holding.now store.now ends)) ≤ length out.old }
+    requires room { length (file_of stamp (day_of demand.now capacity.now setup.now unit.now holding.now store.now ends)) ≤ length out.old }
     ensures { out.new ≡ with_file stamp (day_before demand capacity setup unit holding store ends) out.old }
 {
     put_head(out, ends, stamp);

@@ -23,8 +23,8 @@ returns-then-cells-n c =
     let sound : first tests ≡ none = passed (first tests) c.tests.ensures c.in_default.is in
     rw (first_passed tests (room ∷ bad_value (day_in s) ∷ []) sound, lt-ltb _ _ (rw c.requires at c.if-cells-n.true)) refl
 
-pub values-requires-clause-n_le_max_periods : goal.values-requires-clause-n_le_max_periods
-values-requires-clause-n_le_max_periods c =
+pub values-requires-clause-few : goal.values-requires-clause-few
+values-requires-clause-few c =
     let s = c.args.file.now in
     let sound = passed (first (file_tests c.args.expected s)) c.tests.ensures c.in_default.is in
     rw c.requires (file_passed c.args.expected s sound)

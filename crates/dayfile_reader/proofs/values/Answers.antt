@@ -16,5 +16,5 @@ returns c =
     let t = c.fill.new in
     let after = tables_of t.demand t.capacity t.setup t.unit t.holding t.store in
     let front : first_of (c.args.n - 0) after (ends_of (day_in s)) ≡ day_in s =
-    day_in_front s (c.args.n - 0) _ before after (omega (arith, c.requires.n_value)) refl c.fill.ensures in
+    day_in_front s (c.args.n - 0) _ before after (omega (arith, c.requires.periods)) refl c.fill.ensures in
     c.values.ensures ∙ ap (λ (d : Day). checked (bad_value d)) front

@@ -12,13 +12,13 @@ copy-requires c =
     let d = tables_of a.demand.now a.capacity.now a.setup.now a.unit.now a.holding.now a.store.now in
     let k = c.loop-k.k in
     let grows = sum_grows (λ j. 17 + length (limit_of (at a.store.now j))) (suc k) (length a.demand.now) c.loop-k-test.true in
-    rw (record_part d k c.record_size-size.ensures.is c.record_of-record.ensures) (omega (arith, grows, c.loop-k.invariant, c.requires.demand_in_bounds))
+    rw (record_part d k c.record_size-size.ensures.is c.record_of-record.ensures) (omega (arith, grows, c.loop-k.invariant, c.requires.room))
 
 pub overflow_add-at : goal.overflow_add-at
 overflow_add-at c =
     let a = c.args in
     let grows = sum_grows (λ j. 17 + length (limit_of (at a.store.now j))) (suc c.loop-k.k) (length a.demand.now) c.loop-k-test.true in
-    omega (arith, grows, c.loop-k.invariant, c.requires.demand_in_bounds, c.record_size-size.ensures.is)
+    omega (arith, grows, c.loop-k.invariant, c.requires.room, c.record_size-size.ensures.is)
 
 pub loop-k-preserved : goal.loop-k-preserved
 loop-k-preserved c =

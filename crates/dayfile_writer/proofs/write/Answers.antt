@@ -29,8 +29,8 @@ returns-then-out-size c =
     let last = bad_slots (length a.out.now) (length (file_of a.stamp d)) in
     (is_gives (rw (first_passed (table_tests d) (last ∷ []) admitted, ← is, lt-ltb _ _ c.if-out-size.true) refl), refl)
 
-pub put_file-requires-clause-ends_in_bounds : goal.put_file-requires-clause-ends_in_bounds
-put_file-requires-clause-ends_in_bounds c =
+pub put_file-requires-clause-room : goal.put_file-requires-clause-room
+put_file-requires-clause-room c =
     let a = c.args in
     let d = day_of a.demand.now a.capacity.now a.setup.now a.unit.now a.holding.now a.store.now a.ends in
     let admitted : first (table_tests d) ≡ none = passed _ c.tables.ensures c.in_default.is in

@@ -17,14 +17,14 @@ overflow_add-part c =
     let w = period_at c.args.file.now (c.args.period - 1) (omega (arith, asked)) in
     rw c.record_at-at.ensures (omega (arith, w.whole))
 
-pub body-requires-clause-at_in_bounds : goal.body-requires-clause-at_in_bounds
-body-requires-clause-at_in_bounds c =
+pub body-requires-clause-inside : goal.body-requires-clause-inside
+body-requires-clause-inside c =
     let asked = lookup_passed c.args.file.now c.args.period c.in_default.ensures in
     let w = period_at c.args.file.now (c.args.period - 1) (omega (arith, asked)) in
     rw c.record_at-at.ensures (omega (arith, w.whole))
 
-pub body-requires-clause-at_in_bounds_2 : goal.body-requires-clause-at_in_bounds_2
-body-requires-clause-at_in_bounds_2 c =
+pub body-requires-clause-whole : goal.body-requires-clause-whole
+body-requires-clause-whole c =
     let asked = lookup_passed c.args.file.now c.args.period c.in_default.ensures in
     let w = period_at c.args.file.now (c.args.period - 1) (omega (arith, asked)) in
     rw c.record_at-at.ensures w.whole
