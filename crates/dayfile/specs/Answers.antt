@@ -7,7 +7,8 @@ use Rattle.day.specs.Sums.{at}
 use Rattle.day.specs.Day.{Day, tables_of, periods}
 use Rattle.day.specs.declared.Stamp.{Stamp}
 use Rattle.day.specs.declared.Expected.{Expected}
-use Rattle.day.specs.File.{body_length, body, record_at, number2, number4, periods_in, walk, wrong_stamp, no_such_period, charge_in, field, store_in, day_in, file_of}
+use Rattle.day.specs.File.{body_length, body, record_at, number2, number4, periods_in, walk, wrong_stamp, no_such_period, charge_in, field, store_in}
+use Rattle.day.specs.File.{day_in, file_of}
 use Rattle.day.specs.Refusals.{Gives, first, bad_count, bad_slots, bad_value, table_tests}
 use Rattle.day.specs.declared.Refusal.{Refusal}
 use Rattle.day.specs.Figures.{Figures, accepted_with, refused_with}

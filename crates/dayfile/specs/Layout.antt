@@ -5,8 +5,10 @@
 --     day_in_front, with_day_lem                              the tables that a reading filled begin with the file's day
 --     laid_out; counted, walk_clean                           the walk meets no fault exactly if the file is laid out as `Layout` says
 -- Assumes nothing.
-use Rattle.std.specs.Prelude.{◌≡◌, refl, Bool, true, false, not, ◌&&◌, ◌||◌, cond, List, [], ◌∷◌, ℕ, zero, suc, ◌+◌, ◌-◌, ◌≤◌, ◌<◌, eqb, leb, ltb, length, take, drop}
-use Rattle.std.proofs.Common.{ap, ◌∙◌, arith, eq-or-lt_of_le, le_of_suc-le-suc, inl, inr, ⊎_elim, length-take, length-drop, eqb-true, leb-true, ltb-true, lt-ltb, le-ltb, le-leb, eq-eqb}
+use Rattle.std.specs.Prelude.{◌≡◌, refl, Bool, true, false, not, ◌&&◌, ◌||◌, cond, List, [], ◌∷◌, ℕ, zero, suc, ◌+◌, ◌-◌, ◌≤◌, ◌<◌, eqb, leb, ltb}
+use Rattle.std.specs.Prelude.{length, take, drop}
+use Rattle.std.proofs.Common.{ap, ◌∙◌, arith, eq-or-lt_of_le, le_of_suc-le-suc, inl, inr, ⊎_elim, length-take, length-drop, eqb-true, leb-true}
+use Rattle.std.proofs.Common.{ltb-true, lt-ltb, le-ltb, le-leb, eq-eqb}
 use Rattle.std.proofs.Math.Bool.{or-true}
 use Rattle.std.proofs.Math.Option.{Option, none, some}
 use Rattle.std.proofs.Math.Nat.{add-sub_cancel_left}
@@ -19,9 +21,11 @@ use Rattle.day.specs.declared.Refusal.TheVariants.{UnknownKind}
 use Rattle.day.specs.Refusals.{refuse}
 use Rattle.day.specs.Find.{find, find_none, find_here, some_found}
 use Rattle.day.specs.Tests.{not_refused, neither}
-use Rattle.day.specs.File.{period_kind, charge_kind, store_kind, stamp_kind, is_kind, body_length, body, next, number2, is_record, is_period, both_zero, is_charges}
+use Rattle.day.specs.File.{period_kind, charge_kind, store_kind, stamp_kind, is_kind, body_length, body, next, number2, is_record, is_period}
+use Rattle.day.specs.File.{both_zero, is_charges}
 use Rattle.day.specs.File.{is_stamped, charges_at, has_charges, head_end}
-use Rattle.day.specs.File.{record_at, PeriodAt, Layout, or_zero, periods_in, unknown_kind, misplaced, truncated, wrong_end, bad_end, walk, field, store_in, day_in}
+use Rattle.day.specs.File.{record_at, PeriodAt, Layout, or_zero, periods_in, unknown_kind, misplaced, truncated, wrong_end, bad_end, walk, field}
+use Rattle.day.specs.File.{store_in, day_in}
 use Rattle.checks.specs.Passed.{SameLengths, Readable}
 use Rattle.tables.specs.Filled.{first_of, with_front}
 use Rattle.dayfile.specs.Answers.{with_day, with_tables}

@@ -1,7 +1,10 @@
 -- The layout both ways: the file of a stamp and a day is laid out as the documents say and holds these (`file_layout`, `file_stamp`, `reads_back`),
 -- and a file of bytes with a stamp that is laid out so is the file of the stamp and the day that it holds (`only_file`). Assumes nothing.
-use Rattle.std.specs.Prelude.{◌≡◌, refl, Bool, true, false, ◌&&◌, cond, List, [], ◌∷◌, ◌++◌, ℕ, zero, suc, ◌+◌, ◌/◌, ◌%◌, ◌≤◌, ◌<◌, eqb, ltb, length, take, drop}
-use Rattle.std.proofs.Common.{sym, ap, ap₂, ◌∙◌, append_assoc, append-nil, div-add-mod', eq-or-lt_of_le, le_of_suc-le-suc, add-one, arith, inl, inr, ⊎_elim, eqb-true, ne_eqb, ltb-true, ltb-false, lt-ltb, length-append, length-take, length-drop, take-add, take_all, take_at, drop-cons, get_or-take, get_or-drop}
+use Rattle.std.specs.Prelude.{◌≡◌, refl, Bool, true, false, ◌&&◌, cond, List, [], ◌∷◌, ◌++◌, ℕ, zero, suc, ◌+◌, ◌/◌, ◌%◌, ◌≤◌, ◌<◌, eqb, ltb, length}
+use Rattle.std.specs.Prelude.{take, drop}
+use Rattle.std.proofs.Common.{sym, ap, ap₂, ◌∙◌, append_assoc, append-nil, div-add-mod', eq-or-lt_of_le, le_of_suc-le-suc, add-one, arith, inl, inr}
+use Rattle.std.proofs.Common.{⊎_elim, eqb-true, ne_eqb, ltb-true, ltb-false, lt-ltb, length-append, length-take, length-drop, take-add, take_all}
+use Rattle.std.proofs.Common.{take_at, drop-cons, get_or-take, get_or-drop}
 use Rattle.std.proofs.Math.Seq.{drop-append-add, get_or-append_seam}
 use Rattle.day.specs.declared.Stamp.{Stamp}
 use Rattle.day.specs.Sums.{at, list_of, at-list_of, length-list_of, list_of-at}
@@ -9,7 +12,8 @@ use Rattle.day.specs.Day.{Day, periods, max_store}
 use Rattle.checks.specs.Passed.{SameLengths}
 use Rattle.dayfile.specs.Layout.{WholePeriod, whole_record, record_whole, whole_charges, body_whole, whole_body, period_at, store_none, store_there, counted}
 use Rattle.dayfile.specs.Theorems.{record_bytes}
-use Rattle.day.specs.File.{period_kind, end_kind, charge_kind, store_kind, stamp_kind, body_length, body, next, number2, number4, is_record, both_zero, is_stamped}
+use Rattle.day.specs.File.{period_kind, end_kind, charge_kind, store_kind, stamp_kind, body_length, body, next, number2, number4, is_record}
+use Rattle.day.specs.File.{both_zero, is_stamped}
 use Rattle.day.specs.File.{charges_at, has_charges, head_end, record_at, PeriodAt, Layout, periods_in, stamp_in, charge_in, field, store_in, day_in}
 use Rattle.day.specs.File.{bytes2, bytes4, stamp_record, charges_of, head_of, fields_of, kind_of, limit_of, record_of, records_of, file_of}
 
