@@ -2,8 +2,7 @@
 -- `played_keeps`, `keeps_played`, which plans are played; `plays_is`, one answer keeps the promise; `as_planned`. Assumes nothing.
 use Rattle.std.proofs.Common.{◌≡◌, refl, List, [], ◌∷◌, ◌++◌, ℕ, zero, suc, ◌+◌, ◌-◌, ◌≤◌, length}
 use Rattle.std.proofs.Common.{ap, ◌∙◌, arith}
-use Rattle.std.proofs.Math.Option.{Option, none, some, none-ne-some, some-ne-none}
-use Rattle.day.specs.declared.Refusal.{Refusal}
+use Rattle.std.proofs.Math.Option.{none, none-ne-some, some-ne-none}
 use Rattle.day.specs.declared.Totals.{Totals}
 use Rattle.day.specs.Sums.{at, sum_to}
 use Rattle.day.specs.Day.{Day, periods, demand_to, max_total}
@@ -22,8 +21,8 @@ use Rattle.weigher.specs.Theorems.{holds_feasible, feasible_holds}
 use Rattle.play.specs.declared.Flows.{Flows}
 use Rattle.play.specs.declared.PlayAnswer.{PlayAnswer}
 use Rattle.play.specs.declared.PlayAnswer.TheVariants.{Refused, Broken, Played}
-use Rattle.play.specs.Play.{lost_of, disposed_of, left_of, inventory_to, flows_to, flows_of}
-use Rattle.play.specs.Answers.{play_refusal, played_on, play_figures, Plays}
+use Rattle.play.specs.Play.{AsPlanned, lost_of, disposed_of, left_of, inventory_to, flows_to, flows_of}
+use Rattle.play.specs.Answers.{play_refusal, played_on, play_figures, play_answer, Plays}
 use Rattle.play.proofs.Running.{inventory_balance, demand_balance}
 
 -- the figures fix the flows
@@ -40,11 +39,6 @@ plays_broken : (v : Verdict) (r : Rule) (i : ℕ) (q : Flows) → play_figures (
     → verdict_figures (verdict.Broken r i) ≡ verdict_figures v
 plays_broken (verdict.Holds t) r i q e = absurd (none-ne-some _ (ap (λ (f : Figures ℕ). f.values) e))
 plays_broken (verdict.Broken s k) r i q e = e
-
--- the first refusal in order, else this answer
-abbrev pub or_refused : Option Refusal → PlayAnswer → PlayAnswer
-or_refused (some r) a = Refused r
-or_refused none a = a
 
 module _ (actual : List ℕ) (d : Day) (plan : List ℕ) where
   -- a day that 1 lets pass has a period
@@ -71,12 +65,8 @@ module _ (actual : List ℕ) (d : Day) (plan : List ℕ) where
         let held = (plays_held (verdict_of d (at plan)) p (flows_of d (at plan) (at actual)) h.1).0 in
         (holds_feasible d (at plan) (nonempty h.0) held.0 held.1).0
 
-  -- the answer that keeps the promise: the first refusal, else the weigher's verdict on a broken plan, or the play
-  abbrev pub play_answer : PlayAnswer
-  play_answer = or_refused (play_refusal actual d plan) (played_on (verdict_of d (at plan)) (flows_of d (at plan) (at actual)))
-
   -- it is the only one
-  pub plays_is : (answer : PlayAnswer) → Plays actual d plan answer → answer ≡ play_answer
+  pub plays_is : (answer : PlayAnswer) → Plays actual d plan answer → answer ≡ play_answer actual d plan
   plays_is (Refused r) g = rw (gives_is g) refl
   plays_is (Broken r i) e =
       let v = verdict_of d (at plan) in
@@ -90,13 +80,6 @@ module _ (actual : List ℕ) (d : Day) (plan : List ℕ) where
   pub keeps_played : play_refusal actual d plan ≡ none → Feasible d (at plan) → (answer : PlayAnswer) → Plays actual d plan answer
       → answer ≡ Played (flows_of d (at plan) (at actual))
   keeps_played passed f answer h = plays_is answer h ∙ rw (passed, feasible_holds d (at plan) f) refl
-
--- Against the planned needs a plan that keeps the conditions plays as planned: through every period nothing is missed or spilled, and what is left is
--- the inventory of the plan.
-pub record AsPlanned (d : Day) (x : ℕ → ℕ) (i : ℕ) (p : Flows) : Type 0 where
-  pub left : p.left ≡ inventory d x i
-  pub lost : p.lost ≡ 0
-  pub disposed : p.disposed ≡ 0
 
 module _ (d : Day) (x : ℕ → ℕ) (f : Feasible d x) where
   abbrev flows : ℕ → Flows

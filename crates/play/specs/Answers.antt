@@ -1,7 +1,7 @@
 -- What the call on a played day answers (document 02, 2.11). Main definitions: `play_refusal`, `play_figures`; `Plays`, the contract of the call.
 -- Assumes nothing.
 use Rattle.std.specs.Prelude.{◌≡◌, List, [], ◌∷◌, ◌++◌, ℕ, length}
-use Rattle.std.proofs.Math.Option.{Option, none}
+use Rattle.std.proofs.Math.Option.{Option, none, some}
 use Rattle.day.specs.declared.Refusal.{Refusal}
 use Rattle.day.specs.Sums.{at}
 use Rattle.day.specs.Day.{Day, periods, max_total}
@@ -39,3 +39,12 @@ PlaysAs o judged (Played p) = (o ≡ none) × (play_figures (Played p) ≡ play_
 
 abbrev pub Plays : (actual : List ℕ) → Day → (plan : List ℕ) → PlayAnswer → Type 0
 Plays actual d plan = PlaysAs (play_refusal actual d plan) (played_on (verdict_of d (at plan)) (flows_of d (at plan) (at actual)))
+
+-- the first refusal in order, else this answer
+abbrev pub or_refused : Option Refusal → PlayAnswer → PlayAnswer
+or_refused (some r) a = Refused r
+or_refused none a = a
+
+-- the answer that keeps the promise: the first refusal, else the weigher's verdict on a broken plan, or the play
+abbrev pub play_answer : (actual : List ℕ) → Day → (plan : List ℕ) → PlayAnswer
+play_answer actual d plan = or_refused (play_refusal actual d plan) (played_on (verdict_of d (at plan)) (flows_of d (at plan) (at actual)))

@@ -2,9 +2,10 @@
 -- A plan and a table of needs are functions from periods to amounts, as in the crate day's Plan. Index k is period k + 1.
 -- Main definitions: `delivered_of` to `left_of`, one period; `inventory_to`, the charge left after so many; `flows_of`, the sums over the day.
 -- Assumes nothing.
-use Rattle.std.specs.Prelude.{ℕ, zero, suc, ◌+◌, ◌-◌, min}
+use Rattle.std.specs.Prelude.{◌≡◌, ℕ, zero, suc, ◌+◌, ◌-◌, min}
 use Rattle.day.specs.Sums.{at, sum_to}
 use Rattle.day.specs.Day.{Day, periods}
+use Rattle.day.specs.Plan.{inventory}
 use Rattle.play.specs.declared.Flows.{Flows}
 
 -- One period. There is so much charge once the cell has made its amount; the need is delivered as far as that reaches
@@ -46,3 +47,10 @@ flows_to opening store x needs i = record {
 -- over the day
 abbrev pub flows_of : Day → (x needs : ℕ → ℕ) → Flows
 flows_of d x needs = flows_to d.opening (at d.store) x needs (periods d)
+
+-- Against the planned needs a plan that keeps the conditions plays as planned: through every period nothing is missed or spilled, and what is left is
+-- the inventory of the plan.
+pub record AsPlanned (d : Day) (x : ℕ → ℕ) (i : ℕ) (p : Flows) : Type 0 where
+  pub left : p.left ≡ inventory d x i
+  pub lost : p.lost ≡ 0
+  pub disposed : p.disposed ≡ 0

@@ -1,2 +1,0 @@
--- What the call's answer says of every table of needs between the two.
-pub mod Theorems
