@@ -19,7 +19,7 @@ fn main(rt: HostRuntime) -> ExitCode {
         }
     };
     let mut id = [0u8; 5];
-    let k = input::read_named(&rt, "station.id", &mut id);
+    let k = input::read_named(&rt, b"station.id", &mut id);
     let mut text = [0u8; 9312];
     let end = program_text::text_of(Program::Dayplan, &file[0..n], b"", &id[0..k], &mut text);
     if let Err(e) = rt.stdout().write_all(&text[0..end]) {

@@ -37,14 +37,19 @@ fn read_file<R: Files>(rt: &R, name: &str, room: &mut [u8]) -> io::Result<usize>
     }
 }
 
-// How many bytes of a file were read. One that can't be read counts as one that is not there, and standard error says so.
-pub fn read_named<R: Files + Eprint>(rt: &R, name: &str, room: &mut [u8]) -> usize
+// How many bytes of a file were read. One that can't be read counts as one that is not there, and standard error says so: also one whose name is no
+// text, which std opens no file by.
+pub fn read_named<R: Files + Eprint>(rt: &R, name: &[u8], room: &mut [u8]) -> usize
     ensures { result ≤ length room.old }
 {
-    match read_file(rt, name, room) {
+    let Ok(text) = str::from_utf8(name) else {
+        let _ = eprintln!(rt; "a file's name is not text");
+        return 0;
+    };
+    match read_file(rt, text, room) {
         Ok(n) => n,
         Err(e) => {
-            let _ = eprintln!(rt; "{name}: {e}");
+            let _ = eprintln!(rt; "{text}: {e}");
             0
         }
     }

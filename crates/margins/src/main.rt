@@ -19,9 +19,9 @@ fn main(rt: HostRuntime) -> ExitCode {
         }
     };
     let mut needs = [0u8; 193];
-    let m = input::read_named(&rt, "needs.act", &mut needs);
+    let m = input::read_named(&rt, b"needs.act", &mut needs);
     let mut id = [0u8; 5];
-    let k = input::read_named(&rt, "station.id", &mut id);
+    let k = input::read_named(&rt, b"station.id", &mut id);
     let mut text = [0u8; 9312];
     let end = program_text::text_of(
         Program::Margins,

@@ -1,5 +1,5 @@
 //! Fields, words and numbers of a line.
-ghost use Rattle.std.specs.Prelude.{◌≡◌, ◌≤◌, ◌<◌, length};
+ghost use Rattle.std.specs.Prelude.{◌≡◌, ◌↔◌, ◌≤◌, ◌<◌, IsTrue, length};
 
 use day::Ends;
 
@@ -27,7 +27,9 @@ pub fn product(a: usize, b: usize) -> usize
 }
 
 // Whether two words are the same.
-pub fn same(a: &[u8], b: &[u8]) -> bool {
+pub fn same(a: &[u8], b: &[u8]) -> bool
+    ensures { IsTrue result ↔ (a.now ≡ b.now) }
+{
     a == b
 }
 
