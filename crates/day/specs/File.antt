@@ -8,7 +8,8 @@
 --     kind 5  the stamp: station, and date in days since 1 January 2000 (4 bytes)
 -- The head is kind 5 and then kind 3, each where it is there; the periods follow, then the end.
 -- Main definitions: `Layout`, what a file is; `stamp_in` and `day_in`, the stamp and the day that it holds; `file_of`, the file of these. Assumes nothing.
-use Rattle.std.specs.Prelude.{◌≡◌, ◌⊎◌, Bool, false, not, ◌&&◌, ◌||◌, cond, List, [], ◌∷◌, ◌++◌, ℕ, zero, suc, ◌+◌, ◌*◌, ◌/◌, ◌%◌, ◌<◌, eqb, leb, ltb, length, take, drop}
+use Rattle.std.specs.Prelude.{◌≡◌, ◌⊎◌, Bool, false, not, ◌&&◌, ◌||◌, cond, List, [], ◌∷◌, ◌++◌, ℕ, zero, suc}
+use Rattle.std.specs.Prelude.{◌+◌, ◌*◌, ◌/◌, ◌%◌, ◌<◌, eqb, leb, ltb, length, take, drop}
 use Rattle.std.proofs.Math.Option.{Option, none, some}
 use Rattle.day.specs.declared.Refusal.{Refusal}
 use Rattle.day.specs.declared.Refusal.TheVariants.{UnknownKind, TruncatedFile, WrongEnd, NoSuchPeriod, WrongStamp}

@@ -1,2 +1,3 @@
+-- Laws of the row step; the queue of candidates.
 pub mod Laws
 pub mod Queueing

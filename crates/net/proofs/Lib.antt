@@ -1,3 +1,4 @@
+-- What the loops keep: net needs, rates, ceilings.
 pub mod Needs
 pub mod Rates
 pub mod Ceilings

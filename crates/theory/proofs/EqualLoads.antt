@@ -14,7 +14,8 @@ use Rattle.day.specs.Tests.{first_two}
 use Rattle.day.specs.Figures.{same_values}
 use Rattle.day.specs.Outcome.{Memory, sizes_of}
 use Rattle.day.specs.Paths.{equal}
-use Rattle.day.specs.Loads.{Run, RunLoads, Divided, begin, then, loads_of, loads_through, full_at, part_at, full_to, part_to, one_if, made_in, idle_none, EqualRuns}
+use Rattle.day.specs.Loads.{Run, RunLoads, Divided, begin, then, loads_of, loads_through}
+use Rattle.day.specs.Loads.{full_at, part_at, full_to, part_to, one_if, made_in, idle_none, EqualRuns}
 use Rattle.checks.specs.Passed.{equal_passed, Admitted, admitted}
 use Rattle.theory.specs.Model.{Model, OptimalTo}
 use Rattle.theory.specs.FullLoads.{few_loads}
