@@ -14,7 +14,7 @@ MOVED = {
     "InTurn": set(),
     "Demands": {"FirstAbove"},
     "Easier": set(),
-    "Drops": {"Plans"},
+    "Drops": {"Plans", "Stands"},
     "Agreement": {"Agree"},
     "Calls": {"IsPlan", "CheapestFirst"},
     "EqualLoads": set(),
