@@ -8,6 +8,7 @@ use Rattle.dayfile.specs.declared.ReadAnswer.TheVariants as Read
 use Rattle.program_text.specs.Laws.{blank_day, Taken, input_taken, taken_limits, file_taken}
 use Rattle.program_text.specs.Text.{expected_in, Inputs}
 use Rattle.program_text.proofs.text_of.Goals as goal
+use Rattle.program_text.proofs.text_of.Goals.{In-Periods}
 
 -- what was read for the stamp in `id` was taken for it
 taken : {expected : Expected} (id s : List ℕ) (after : Day) {answer : ReadAnswer} {n : ℕ} {ends : Ends} → expected ≡ expected_in id
@@ -16,57 +17,38 @@ taken : {expected : Expected} (id s : List ℕ) (after : Day) {answer : ReadAnsw
 taken id s after {answer} {n} {ends} for_id is said =
     input_taken (expected_in id) s after answer n ends is (subst (λ (e : Expected). Inputs e s blank_day answer after) for_id said)
 
-few : {expected : Expected} (id s : List ℕ) (after : Day) {answer : ReadAnswer} {n : ℕ} {ends : Ends} → expected ≡ expected_in id
-    → answer ≡ Read.Periods n ends → Inputs expected s blank_day answer after
-    → n ≤ max_periods
-few id s after for_id is said = (taken id s after for_id is said).few
+-- the day that was read
+abbrev after : In-Periods → Day
+after c = let l = c.read-answer.new in tables_of l.demand l.capacity l.setup l.unit l.holding l.store
+
+read_taken : (c : In-Periods) → Taken (expected_in c.args.id.now) c.args.file.now (after c) c.in-Periods.n c.in-Periods.ends
+read_taken c = taken c.args.id.now c.args.file.now (after c) c.expected.ensures c.in-Periods.is c.read-answer.ensures
+
+few : (c : In-Periods) → c.in-Periods.n ≤ max_periods
+few c = (read_taken c).few
 
 pub slice_bounds-day_text-end : goal.slice_bounds-day_text-end
-slice_bounds-day_text-end c =
-    let l = c.read-answer.new in
-    let after = tables_of l.demand l.capacity l.setup l.unit l.holding l.store in
-    omega (arith, few c.args.id.now c.args.file.now after c.expected.ensures c.in-Periods.is c.read-answer.ensures)
+slice_bounds-day_text-end c = omega (arith, few (goal.at.slice_bounds-day_text-end c).In-Periods)
 
 pub slice_bounds-day_text-end-2 : goal.slice_bounds-day_text-end-2
-slice_bounds-day_text-end-2 c =
-    let l = c.read-answer.new in
-    let after = tables_of l.demand l.capacity l.setup l.unit l.holding l.store in
-    omega (arith, few c.args.id.now c.args.file.now after c.expected.ensures c.in-Periods.is c.read-answer.ensures)
+slice_bounds-day_text-end-2 c = omega (arith, few (goal.at.slice_bounds-day_text-end-2 c).In-Periods)
 
 pub slice_bounds-day_text-end-3 : goal.slice_bounds-day_text-end-3
-slice_bounds-day_text-end-3 c =
-    let l = c.read-answer.new in
-    let after = tables_of l.demand l.capacity l.setup l.unit l.holding l.store in
-    omega (arith, few c.args.id.now c.args.file.now after c.expected.ensures c.in-Periods.is c.read-answer.ensures)
+slice_bounds-day_text-end-3 c = omega (arith, few (goal.at.slice_bounds-day_text-end-3 c).In-Periods)
 
 pub slice_bounds-day_text-end-4 : goal.slice_bounds-day_text-end-4
-slice_bounds-day_text-end-4 c =
-    let l = c.read-answer.new in
-    let after = tables_of l.demand l.capacity l.setup l.unit l.holding l.store in
-    omega (arith, few c.args.id.now c.args.file.now after c.expected.ensures c.in-Periods.is c.read-answer.ensures)
+slice_bounds-day_text-end-4 c = omega (arith, few (goal.at.slice_bounds-day_text-end-4 c).In-Periods)
 
 pub slice_bounds-day_text-end-5 : goal.slice_bounds-day_text-end-5
-slice_bounds-day_text-end-5 c =
-    let l = c.read-answer.new in
-    let after = tables_of l.demand l.capacity l.setup l.unit l.holding l.store in
-    omega (arith, few c.args.id.now c.args.file.now after c.expected.ensures c.in-Periods.is c.read-answer.ensures)
+slice_bounds-day_text-end-5 c = omega (arith, few (goal.at.slice_bounds-day_text-end-5 c).In-Periods)
 
 pub slice_bounds-day_text-end-6 : goal.slice_bounds-day_text-end-6
-slice_bounds-day_text-end-6 c =
-    let l = c.read-answer.new in
-    let after = tables_of l.demand l.capacity l.setup l.unit l.holding l.store in
-    omega (arith, few c.args.id.now c.args.file.now after c.expected.ensures c.in-Periods.is c.read-answer.ensures)
+slice_bounds-day_text-end-6 c = omega (arith, few (goal.at.slice_bounds-day_text-end-6 c).In-Periods)
 
 pub day_text-requires-clause-limits : goal.day_text-requires-clause-limits
-day_text-requires-clause-limits c =
-    let l = c.read-answer.new in
-    let after = tables_of l.demand l.capacity l.setup l.unit l.holding l.store in
-    taken_limits (taken c.args.id.now c.args.file.now after c.expected.ensures c.in-Periods.is c.read-answer.ensures)
+day_text-requires-clause-limits c = taken_limits (read_taken (goal.at.day_text-requires-clause-limits c).In-Periods)
 
 pub returns : goal.returns
 returns c =
     let a = c.args in
-    let l = c.read-answer.new in
-    let after = tables_of l.demand l.capacity l.setup l.unit l.holding l.store in
-    let t = taken a.id.now a.file.now after c.expected.ensures c.in-Periods.is c.read-answer.ensures in
-    file_taken a.program a.file.now a.needs.now a.id.now t c.day_text.ensures
+    file_taken a.program a.file.now a.needs.now a.id.now (read_taken (goal.at.returns c).In-Periods) c.day_text.ensures
