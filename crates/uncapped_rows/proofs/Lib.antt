@@ -1,4 +1,3 @@
 -- Laws of the loops, in the order in which they are used.
 pub mod Candidates
-pub mod Carrying
 pub mod Filling

@@ -28,12 +28,13 @@ fn cheaper(best: LastLot, l: usize, price: u64) -> LastLot
     ensures { result ≡ better best l price }
 {
     if price <= best.cost {
-        return LastLot {
+        LastLot {
             cost: price,
             from: l,
-        };
+        }
+    } else {
+        best
     }
-    best
 }
 
 // What it costs to come to l and to make the lot of candidate l.
@@ -81,27 +82,25 @@ fn cheapest(
         (at costs.now) m 0 result }
 {
     let mut best = last;
-    let mut l = m;
     let mut made = demand[m] as u64;
     let mut i = m;
     let mut s = Holding {
         left: made,
         held: 0,
     };
-    'candidates: while 0 < l {
-        if best.cost < carried_cost(carried, costs, l, made) + s.held {
+    'candidates: for l in (0..m).rev() {
+        if best.cost < carried_cost(carried, costs, l + 1, made) + s.held {
             return best;
         }
-        l -= 1;
         made += demand[l] as u64;
         let paid = lot_cost(setup, unit, costs, l, made);
         // its upkeep: strictly above the best it is dropped, and one that only equals the best is carried on
-        while l < i {
+        for k in (l..i).rev() {
             if best.cost < paid + s.held {
                 continue 'candidates;
             }
-            i -= 1;
-            s = hold(s, demand[i], holding[i]);
+            s = hold(s, demand[k], holding[k]);
+            i = k;
         }
         best = cheaper(best, l, paid + s.held);
     }
@@ -133,17 +132,6 @@ fn row(
     cheapest(demand, setup, unit, holding, carried, costs, m, last)
 }
 
-// What a unit costs at least that is carried on through a period: as it came, or made there.
-fn carry(carried: u32, unit: u32, holding: u32) -> u32
-    requires { (unit ≤ max_rate) × (holding ≤ max_rate) }
-    ensures { result ≡ min carried unit + holding }
-{
-    if carried <= unit {
-        return carried + holding;
-    }
-    unit + holding
-}
-
 // For every period what a unit costs at least that is carried into it. Into the first none is: the limit of a unit cost stands there, so that
 // its own is the least.
 fn fill_carried(unit: &[u32], holding: &[u32], carried: &mut [u32])
@@ -152,11 +140,9 @@ fn fill_carried(unit: &[u32], holding: &[u32], carried: &mut [u32])
     ensures { carried.new ≡ carried_of unit.now holding.now }
 {
     let mut least: u32 = 1000000;
-    let mut l = 0;
-    while l < unit.len() {
-        carried[l] = least;
-        least = carry(least, unit[l], holding[l]);
-        l += 1;
+    for (l, cell) in carried.iter_mut().enumerate() {
+        *cell = least;
+        least = least.min(unit[l]) + holding[l];
     }
 }
 
@@ -175,12 +161,10 @@ fn fill_rows(
         costs.old choices.old costs.new choices.new }
 {
     costs[0] = 0;
-    let mut m = 0;
-    while m < demand.len() {
+    for m in 0..demand.len() {
         let next = row(demand, setup, unit, holding, carried, costs, m);
-        m += 1;
-        costs[m] = next.cost;
-        choices[m] = next.from as u16;
+        costs[m + 1] = next.cost;
+        choices[m + 1] = next.from as u16;
     }
 }
 
@@ -198,7 +182,7 @@ pub fn fill(
         costs.old choices.old costs.new choices.new }
 {
     let mut carried_table = [0u32; 96];
-    let carried = &mut carried_table[0..unit.len()];
+    let carried = &mut carried_table[..unit.len()];
     fill_carried(unit, holding, carried);
     fill_rows(demand, setup, unit, holding, carried, costs, choices);
 }

@@ -9,6 +9,6 @@ pub returns-then-price-best : goal.returns-then-price-best
 unfolding better
 returns-then-price-best c = sym (pick_yes (dec_le _ _) _ _ c.if-price-best.true)
 
-pub returns : goal.returns
+pub returns-else-price-best : goal.returns-else-price-best
 unfolding better
-returns c = let h = c.if-price-best.false in sym (pick_no (dec_le _ _) _ _ (λ l. omega arith))
+returns-else-price-best c = let h = c.if-price-best.false in sym (pick_no (dec_le _ _) _ _ (λ l. omega arith))

@@ -1,6 +1,6 @@
 -- The search goes on by the laws of `Candidates`: it is left where no earlier candidate can be cheaper, a candidate is dropped once it passes the
 -- best, and one that is summed to its end is compared with it.
-use Rattle.std.proofs.Common.{◌≡◌, ℕ, suc, ◌+◌, ◌-◌, ◌≤◌, ◌<◌, List, arith}
+use Rattle.std.proofs.Common.{◌≡◌, refl, ℕ, suc, ◌+◌, ◌-◌, ◌<◌, List, arith}
 use Rattle.day.specs.Sums.{at}
 use Rattle.theory.specs.Problem.{Problem}
 use Rattle.uncapped_rows.specs.declared.LastLot.{LastLot}
@@ -14,8 +14,8 @@ use Rattle.uncapped_rows.proofs.cheapest.Goals as goal
 pred_is : {a b : ℕ} → a < b → b ≡ suc (b - 1)
 pred_is lt = omega arith
 
-pred_above : {a b : ℕ} → a < b → a ≤ b - 1
-pred_above lt = omega arith
+back : (l : ℕ) → 0 < l → l - 1 + 1 ≡ l
+back l pos = omega arith
 
 -- the lot of the next candidate
 next_fits : {p : Problem} {carried costs : List ℕ} {m : ℕ} (ready : NextRowReady p carried costs m)
@@ -26,17 +26,18 @@ next_fits ready t pos = lot_fits ready _ _ (omega (arith, searched_inside ready 
 pub carried_cost-requires-clause-l_in_bounds : goal.carried_cost-requires-clause-l_in_bounds
 carried_cost-requires-clause-l_in_bounds c =
     let ready = c.requires.ready in
-    carried_cell ready _ (searched_inside ready c.candidates.invariant)
+    carried_cell ready _ (omega (arith, searched_inside ready c.candidates.invariant))
 
 pub carried_cost-requires-clause-lot_fits : goal.carried_cost-requires-clause-lot_fits
 carried_cost-requires-clause-lot_fits c =
     let ready = c.requires.ready in
     let t = c.candidates.invariant in
-    lot_fits ready _ _ (searched_inside ready t) t.lot
+    rw (back c.candidates.l c.candidates-test.true) (lot_fits ready _ _ (searched_inside ready t) t.lot)
 
 pub returns-then-best-carried_cost : goal.returns-then-best-carried_cost
 returns-then-best-carried_cost c =
-    searched_left c.requires.ready c.candidates.invariant (omega (arith, c.carried_cost.ensures.is, c.if-best-carried_cost.true))
+    searched_left c.requires.ready c.candidates.invariant
+    (omega (arith, rw (back c.candidates.l c.candidates-test.true) at c.carried_cost.ensures.is, c.if-best-carried_cost.true))
 
 pub overflow_add-made : goal.overflow_add-made
 overflow_add-made c = let fits = next_fits c.requires.ready c.candidates.invariant c.candidates-test.true in omega (arith, fits.few)
@@ -47,18 +48,21 @@ lot_cost-paid-requires-clause-lot_fits c = next_fits c.requires.ready c.candidat
 pub candidates-preserved-then-best-paid : goal.candidates-preserved-then-best-paid
 candidates-preserved-then-best-paid c =
     searched_dropped c.requires.ready c.candidates.invariant _ (pred_is c.candidates-test.true) c.lot_cost-paid.ensures.is
-    c.loop-i.invariant.1 c.loop-i.invariant.0 c.if-best-paid.true
+    c.loop-k.invariant.2 c.loop-k.invariant.1 c.if-best-paid.true
 
 pub hold-s-requires : goal.hold-s-requires
-hold-s-requires c = sum_fits c.requires.ready _ _ (pred_is c.loop-i-test.true) c.loop-i.invariant.1
+hold-s-requires c =
+    let i = c.loop-k.invariant in
+    sum_fits c.requires.ready _ _ (pred_is c.loop-k-test.true) (rw i.0 at i.2)
 
-pub loop-i-preserved : goal.loop-i-preserved
-loop-i-preserved c =
-    let lt = c.loop-i-test.true in
-    (pred_above lt, rw c.hold-s.ensures (summed_more c.requires.ready _ _ (pred_is lt) c.loop-i.invariant.1))
+pub loop-k-preserved : goal.loop-k-preserved
+loop-k-preserved c =
+    let i = c.loop-k.invariant in
+    (refl, omega arith, rw c.hold-s.ensures (summed_more c.requires.ready _ _ (pred_is c.loop-k-test.true) (rw i.0 at i.2)))
 
 pub candidates-preserved : goal.candidates-preserved
 candidates-preserved c =
+    let i = c.loop-k.invariant in
     rw c.cheaper-best.ensures
-    (searched_more c.requires.ready c.candidates.invariant _ (pred_is c.candidates-test.true) c.lot_cost-paid.ensures.is
-    c.loop-i.invariant.1 c.loop-i.invariant.0 c.loop-i-test.false)
+    (searched_more c.requires.ready c.candidates.invariant _ (pred_is c.candidates-test.true) c.lot_cost-paid.ensures.is i.2
+    (omega arith) (omega arith))

@@ -6,5 +6,5 @@ use Rattle.uncapped_rows.proofs.fill_carried.Goals as goal
 
 pub returns : goal.returns
 returns c =
-    let w = c.loop-l.invariant in
-    sym (list_of-at _ c.loop-l.carried (carried_to (at c.args.unit.now) (at c.args.holding.now)) w.size (λ k h. sym (w.each k (omega arith))))
+    let into = carried_to (at c.args.unit.now) (at c.args.holding.now) in
+    sym (list_of-at _ c.loop-l.carried into (omega arith) (λ k h. sym (c.loop-l.invariant.1 k (omega arith))))
