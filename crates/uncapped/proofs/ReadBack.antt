@@ -1,62 +1,57 @@
--- Laws of the read-back: a lot is put from its end to its beginning, and each lot gives the plan's end from where it begins.
+-- Laws of the read-back: a lot put is the sum of what its periods demand and then zeros, and each lot gives the plan's end from where it begins.
 -- Assumes nothing.
-use Rattle.std.proofs.Common.{◌≡◌, refl, ap, ◌∙◌, List, ◌∷◌, ◌++◌, append_assoc, ℕ, suc, ◌+◌, ◌-◌, ◌≤◌, ◌<◌, arith, length, drop, set}
-use Rattle.std.proofs.Common.{replicate, length-set, drop-cons, drop-set-lt, get_or-set_same}
+use Rattle.std.proofs.Common.{◌≡◌, refl, ap, ◌∙◌, List, ◌++◌, append_assoc, ℕ, zero, suc, ◌+◌, ◌-◌, ◌≤◌, ◌<◌, add-one, arith}
+use Rattle.std.proofs.Common.{length, take, drop, set, replicate, drop-set-lt, sum}
+use Rattle.std.proofs.lemmas.List.{take_more_set, drop_at, length-take, drop-drop}
+use Rattle.std.proofs.lemmas.List.Folds.{drop_split}
+use Rattle.std.proofs.lemmas.List.Sums.{sum_by_more, sum_by-take-drop, sum_by-append}
+use borrow.Rule.Slice.PartMut.{put_mid}
 use Rattle.day.specs.Sums.{at, sum_to, sum_grows}
-use Rattle.day.specs.Day.{max_total}
 use Rattle.uncapped_rows.specs.Lots.{Begins, LastLots}
 use Rattle.uncapped.specs.Slots.{LotReady, LotPut}
 
--- from the cell that was set on
-drop_set_here : (l : List ℕ) (i v : ℕ) → i < length l → drop i (set l i v) ≡ v ∷ drop (suc i) l
-drop_set_here l i v h =
-    drop-cons (set l i v) i 0 (omega (arith, length-set l i v))
-    ∙ ap (λ (w : ℕ). w ∷ drop (suc i) (set l i v)) (get_or-set_same l i v 0 h)
-    ∙ ap (λ (t : List ℕ). v ∷ t) (drop-set-lt (suc i) l i v (omega arith))
+-- the first i elements, and those of a part, summed
+front_sum : (l : List ℕ) (i : ℕ) → i ≤ length l → sum (take i l) ≡ sum_to (at l) i
+front_sum l zero h = refl
+front_sum l (suc i) h =
+    let e = sum_by_more (λ (v : ℕ). v) l i 0 h in
+    rw (← (add-one i)) (e ∙ ap (λ (s : ℕ). s + at l i) (front_sum l i (omega arith)))
 
--- the slots from k to `last` are zero, and their demand is summed
-pub record Putting (demand slots₀ : List ℕ) (from last : ℕ) (slots : List ℕ) (made k : ℕ) : Type 0 where
-  pub low : from ≤ k
-  pub high : k ≤ suc last
-  pub size : length slots ≡ length slots₀
-  pub sum : made + sum_to (at demand) k ≡ sum_to (at demand) (suc last)
-  pub zeros : drop k slots ≡ replicate (suc last - k) 0 ++ drop (suc last) slots₀
+part_sum : (l : List ℕ) (i j : ℕ) → i ≤ j → j ≤ length l → sum (take (j - i) (drop i l)) + sum_to (at l) i ≡ sum_to (at l) j
+part_sum l i j h inside =
+    let part = take (j - i) (drop i l) in
+    let split : sum (drop i l) ≡ sum part + sum (drop j l) = ap sum (drop_split l i j h) ∙ sum_by-append (λ (v : ℕ). v) part (drop j l) in
+    let low = sum_by-take-drop (λ (v : ℕ). v) l i in
+    let high = sum_by-take-drop (λ (v : ℕ). v) l j in
+    omega (arith, front_sum l i (omega arith), front_sum l j inside)
 
-module _ (demand slots₀ : List ℕ) (from last : ℕ) (ready : LotReady demand slots₀ from last) where
-  pub putting_none : (k : ℕ) → k ≡ suc last → Putting demand slots₀ from last slots₀ 0 k
-  putting_none k e =
-      let q : suc last - k ≡ 0 = omega arith in
-      record { low = omega (arith, ready.order); high = omega arith; size = refl; sum = rw e (omega arith); zeros = rw (q, e) refl }
+module _ (demand slots : List ℕ) (from last : ℕ) (ready : LotReady demand slots from last) where
+  -- what the lot makes
+  abbrev amount : ℕ
+  amount = sum (take (last + 1 - from) (drop from demand))
 
-  module _ (slots : List ℕ) (made k : ℕ) (p : Putting demand slots₀ from last slots made k) where
-    module _ (j : ℕ) (e : k ≡ suc j) where
-      pub putting_more : from < k → Putting demand slots₀ from last (set slots j 0) (made + at demand j) j
-      putting_more h =
-          let q : suc last - j ≡ suc (suc last - suc j) = omega (arith, p.high) in
-          record {
-            low = omega arith;
-            high = omega (arith, p.high);
-            size = length-set slots j 0 ∙ p.size;
-            sum = let s = rw e at p.sum in omega arith;
-            zeros = rw q
-                (drop_set_here slots j 0 (omega (arith, p.size, p.high, ready.room)) ∙ ap (λ (t : List ℕ). 0 ∷ t) (rw e at p.zeros));
-          }
+  amount_is : amount + sum_to (at demand) from ≡ sum_to (at demand) (suc last)
+  amount_is =
+      omega (arith, part_sum demand from (last + 1) (omega (arith, ready.order)) (omega (arith, ready.inside)), ap (sum_to (at demand)) (add-one last))
 
-      pub putting_few : made + at demand j ≤ max_total
-      putting_few = omega (arith, rw e at p.sum, sum_grows (at demand) (suc last) (length demand) ready.inside, ready.small)
+  pub part_small : amount < 65536
+  part_small = omega (arith, amount_is, sum_grows (at demand) (suc last) (length demand) ready.inside, ready.small)
 
-    -- the first slot then takes the sum
-    pub putting_all : k ≤ from → LotPut demand from last slots₀ (set slots from made)
-    putting_all l =
-        let o = ready.order in
-        let e : k ≡ from = omega (arith, p.low) in
-        let q : suc last - from ≡ suc (last - from) = omega arith in
-        let all = rw (e, q) at p.zeros in
-        let here : from < length slots = omega (arith, p.size, ready.room) in
-        let cons = drop-cons slots from 0 here in
-        let amount : made ≡ sum_to (at demand) (suc last) - sum_to (at demand) from = omega (arith, rw e at p.sum) in
-        let tail : drop (suc from) slots ≡ replicate (last - from) 0 ++ drop (suc last) slots₀ = cc in
-        drop_set_here slots from made here ∙ rw (tail, amount) refl
+  -- its first slot takes that, and the others nothing
+  pub lot_put : (made : ℕ) (zeros : List ℕ) → made ≡ amount → zeros ≡ replicate (last - from) 0
+      → LotPut demand from last slots (put_mid (from + 1) (last + 1 - (from + 1)) (set slots from made) zeros)
+  lot_put made zeros e none =
+      let here : from < length slots = omega (arith, ready.order, ready.room) in
+      let width : last + 1 - (from + 1) ≡ last - from = omega arith in
+      let is : made ≡ sum_to (at demand) (suc last) - sum_to (at demand) from = omega (arith, amount_is) in
+      rw (width, none, take_more_set slots from made here, rest, append_assoc, is)
+      (drop_at (take from slots) _ from (omega (arith, length-take from slots)))
+    where
+      past : from + 1 + (last - from) ≡ suc last
+      past = omega (arith, ready.order)
+
+      rest : drop (last - from) (drop (from + 1) (set slots from made)) ≡ drop (suc last) slots
+      rest = rw (drop-drop, past) (drop-set-lt (suc last) slots from made (omega (arith, ready.order)))
 
 -- the slots from m on hold the end of the plan, whatever rows the choices tell
 abbrev pub PlanEnds : (demand choices slots₀ : List ℕ) (m : ℕ) (slots : List ℕ) → Type 0

@@ -62,8 +62,8 @@ fn work(
     let n = demand.len();
     let mut need_table = [0u16; 96];
     let mut rate_table = [0u32; 96];
-    let net = &mut need_table[0..n];
-    let rates = &mut rate_table[0..n];
+    let net = &mut need_table[..n];
+    let rates = &mut rate_table[..n];
     net::fill(demand, holding, net, rates, ends);
     solve(net, setup, unit, rates, costs, choices, slots);
     areas::clear_wide(costs, n + 1);

@@ -6,14 +6,8 @@ fn put_lot(demand: &[u16], slots: &mut [u16], from: usize, last: usize)
     requires { LotReady demand.now slots.old from last }
     ensures { LotPut demand.now from last slots.old slots.new }
 {
-    let mut made: u16 = 0;
-    let mut k = last + 1;
-    while from < k {
-        k -= 1;
-        made += demand[k];
-        slots[k] = 0;
-    }
-    slots[from] = made;
+    slots[from] = demand[from..=last].iter().sum();
+    slots[from + 1..=last].fill(0);
 }
 
 // The plan of all periods, from the choices of its rows.
@@ -22,6 +16,7 @@ pub fn read_back(demand: &[u16], choices: &[u16], slots: &mut [u16])
     ensures { ReadBack demand.now choices.now slots.old slots.new }
 {
     let mut m = demand.len();
+    // Not over a range: each row's choice says where the next one ends.
     while 0 < m {
         let from = choices[m] as usize;
         put_lot(demand, slots, from, m - 1);
