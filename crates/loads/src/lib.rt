@@ -11,7 +11,7 @@ use day::Loads;
 fn load(made: u16, fits: bool) -> u64
     ensures { Term (one_if (ltb 0 made && fits)) 1 result }
 {
-    if 0 < made && fits { 1 } else { 0 }
+    u64::from(0 < made && fits)
 }
 
 // How many periods of a plan make their capacity, and how many something less; amounts past the capacities are not read.
@@ -21,9 +21,7 @@ pub fn count(capacity: &[u16], plan: &[u16]) -> Loads
 {
     let mut full = 0;
     let mut part = 0;
-    for k in 0..capacity.len() {
-        let made = plan[k];
-        let most = capacity[k];
+    for (&most, &made) in capacity.iter().zip(plan) {
         full += load(made, made == most);
         part += load(made, made < most);
     }
