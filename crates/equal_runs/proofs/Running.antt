@@ -10,28 +10,25 @@ use Rattle.equal_runs.specs.Fill.{Advanced}
 use Rattle.equal_runs.specs.Run.{Ran, constant_with, ran_more}
 
 -- after k periods
-pub record Running (demand setup unit holding : List ℕ) (l count : ℕ) (w : LoadSizes) (top width : ℕ) (row picks : List ℕ)
-    (k base due : ℕ) : Type 0 where
-  pub inside : k ≤ count
-  pub from : base ≡ k * width
+pub record Running (demand setup unit holding : List ℕ) (l : ℕ) (w : LoadSizes) (top width : ℕ) (row picks : List ℕ)
+    (k due : ℕ) : Type 0 where
   pub sums : sum_to (at demand) l + due ≡ sum_to (at demand) (l + k)
   pub low : due ≤ k * 65536
   pub ran : Ran (model_of (constant_with demand w.full setup unit holding)) l w k top width row picks
 
 -- one period more, as the code has it
-pub turn : (demand setup unit holding : List ℕ) (l k : ℕ) (w : LoadSizes) (top width base due : ℕ) (row picks row' picks' : List ℕ) (p : RunPeriod)
+pub turn : (demand setup unit holding : List ℕ) (l k : ℕ) (w : LoadSizes) (top width due : ℕ) (row picks row' picks' : List ℕ) (p : RunPeriod)
     → k < 96 → top ≤ 193 → top < width → Narrow p w
     → sum_to (at demand) l + due ≡ sum_to (at demand) (l + k)
     → p ≡ period_of setup unit holding (l + k) (due + at demand (l + k))
-    → base ≡ k * width
     → Ran (model_of (constant_with demand w.full setup unit holding)) l w k top width row picks
-    → Advanced p w 0 top row row' base picks picks'
+    → Advanced p w 0 top row row' (k * width) picks picks'
     → Ran (model_of (constant_with demand w.full setup unit holding)) l w (k + 1) top width row' picks'
-turn demand setup unit holding l k w top width base due row picks row' picks' p few low wide narrow sums e from ran next =
+turn demand setup unit holding l k w top width due row picks row' picks' p few low wide narrow sums e ran next =
     let a = ap (λ (q : RunPeriod). q.setup) e in
     let b = ap (λ (q : RunPeriod). q.unit) e in
     let f = ap (λ (q : RunPeriod). q.holding) e in
     let g = ap (λ (q : RunPeriod). q.due) e in
     rw (add-one k)
     (ran_more (model_of (constant_with demand w.full setup unit holding)) l w k top width row picks row' picks' p few low wide
-    (record { setup = a; unit = b; holding = f; due = omega arith }) narrow ran (rw from at next))
+    (record { setup = a; unit = b; holding = f; due = omega arith }) narrow ran next)

@@ -12,7 +12,7 @@ ghost use Rattle.equal_runs.specs.States.{offer_of, cheaper_of, load_of, state_b
 ghost use Rattle.equal_runs.specs.Fill.{RowFilled, RowLow, Advanced};
 ghost use Rattle.equal_runs.specs.Run.{Runnable, Ran, constant_with, start_of, step_of, back_of};
 
-// A number above every cost: what can't be reached costs this or more.
+// A number above every cost: what can't be reached costs this or more. It is no Option, since it stands in a lent cell of 64 bits.
 pub const NONE: u64 = 7000000000000000000;
 
 // What an interval's periods make: nothing, a full load, or the fractional load, which is less.
@@ -79,9 +79,10 @@ fn with_load(
     ensures { result ≡ load_of p (at row.now) s step n load hold best }
 {
     if 0 < n {
-        return cheaper(best, offer(p, row[s - step], load, hold));
+        cheaper(best, offer(p, row[s - step], load, hold))
+    } else {
+        best
     }
-    best
 }
 
 // State j and d after a period, from the row before it.
@@ -116,9 +117,7 @@ fn advance(
     ensures { Advanced p sizes 0 top row.old row.new base picks.old
         picks.new }
 {
-    let mut s = top + 1;
-    while 0 < s {
-        s -= 1;
+    for s in (0..top + 1).rev() {
         let state = state_after(p, sizes, row, s / 2, s % 2);
         row[s] = state.cost;
         picks[base + s] = state.amount;
@@ -130,12 +129,8 @@ fn start(top: usize, row: &mut [u64])
     requires { top < length row.old }
     ensures { RowFilled row.old row.new 0 start_of 0 top }
 {
-    let mut s = top + 1;
-    while 1 < s {
-        s -= 1;
-        row[s] = NONE;
-    }
     row[0] = 0;
+    row[1..=top].fill(NONE);
 }
 
 // Period i, in an interval that must have made `due` by its end.
@@ -174,24 +169,13 @@ pub fn run(
         l sizes count top width row.new picks.new }
 {
     start(top, row);
-    let mut k: usize = 0;
-    let mut base: usize = 0;
     let mut due: u64 = 0;
-    while k < count {
+    for k in 0..count {
         let i = l + k;
         due += demand[i] as u64;
         let p = period_at(setup, unit, holding, i, due);
-        advance(p, sizes, top, row, base, picks);
-        base += width;
-        k += 1;
+        advance(p, sizes, top, row, k * width, picks);
     }
-}
-
-// s less `step`, cut off at 0.
-fn less(s: usize, step: usize) -> usize
-    ensures { result ≡ s - step }
-{
-    if s < step { 0 } else { s - step }
 }
 
 // Where the state at s came from, if the period made x.
@@ -199,12 +183,12 @@ fn before(full: u16, x: u16, s: usize) -> usize
     ensures { result ≡ s - step_of full x }
 {
     if x == 0 {
-        return s;
+        s
+    } else if x == full {
+        s.saturating_sub(2)
+    } else {
+        s.saturating_sub(1)
     }
-    if x == full {
-        return less(s, 2);
-    }
-    less(s, 1)
 }
 
 // The interval that leads to the state at s, as many periods as there are slots.
@@ -212,13 +196,9 @@ pub fn read_back(full: u16, width: usize, picks: &[u16], s: usize, slots: &mut [
     requires { (s < width) × (length slots.old * width ≤ length picks.now) }
     ensures { slots.new ≡ back_of full width picks.now (length slots.old) s }
 {
-    let mut k = slots.len();
-    let mut base = k * width;
     let mut state = s;
-    while 0 < k {
-        k -= 1;
-        base -= width;
-        let x = picks[base + state];
+    for k in (0..slots.len()).rev() {
+        let x = picks[k * width + state];
         slots[k] = x;
         state = before(full, x, state);
     }

@@ -5,6 +5,3 @@ use Rattle.equal_runs.proofs.advance.Given as goal
 
 abbrev pub invariant-loop-s : goal.invariant-loop-s
 invariant-loop-s l = (l.s ≤ suc l.top) × Advanced l.p l.sizes l.s l.top l.initial.row l.row l.base l.initial.picks l.picks
-
-abbrev pub decreases-loop-s : goal.decreases-loop-s
-decreases-loop-s l = l.s

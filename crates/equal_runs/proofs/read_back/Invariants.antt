@@ -1,12 +1,9 @@
 -- What is still to be read, and then the slots written, are the interval.
-use Rattle.std.proofs.Common.{◌≡◌, ◌++◌, ◌*◌, ◌≤◌, ◌<◌, length, drop}
+use Rattle.std.proofs.Common.{◌≡◌, ◌++◌, ◌<◌, length, drop}
 use Rattle.equal_runs.specs.Run.{back_of}
 use Rattle.equal_runs.proofs.read_back.Given as goal
 
 abbrev pub invariant-loop-k : goal.invariant-loop-k
 invariant-loop-k l =
-    (l.k ≤ length l.initial.slots) × (l.base ≡ l.k * l.width) × (l.state < l.width) × (length l.slots ≡ length l.initial.slots)
+    (l.state < l.width)
     × (back_of l.full l.width l.picks l.k l.state ++ drop l.k l.slots ≡ back_of l.full l.width l.picks (length l.initial.slots) l.s)
-
-abbrev pub decreases-loop-k : goal.decreases-loop-k
-decreases-loop-k l = l.k

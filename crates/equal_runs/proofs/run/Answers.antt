@@ -13,8 +13,6 @@ loop-k-init c =
     let a = c.args in
     let z : a.l + 0 ≡ a.l = omega arith in
     record {
-      inside = omega arith;
-      from = omega arith;
       sums = omega (arith, ap (sum_to (at a.demand.now)) z);
       low = omega arith;
       ran = ran_none _ _ _ _ _ a.row.now _ _ c.start.ensures;
@@ -45,11 +43,9 @@ loop-k-preserved c =
       part = omega arith;
     } in
     record {
-      inside = omega arith;
-      from = omega arith;
       sums = omega (arith, inv.sums, ap (sum_to (at a.demand.now)) next);
       low = omega (arith, inv.low, c.type_inv.demand (a.l + k));
-      ran = turn a.demand.now a.setup.now a.unit.now a.holding.now a.l k a.sizes a.top a.width c.loop-k.base c.loop-k.due
+      ran = turn a.demand.now a.setup.now a.unit.now a.holding.now a.l k a.sizes a.top a.width c.loop-k.due
           c.loop-k.row c.loop-k.picks _ _ p (omega arith) c.requires.low c.requires.wide narrow
-          inv.sums e inv.from inv.ran c.advance.ensures;
+          inv.sums e inv.ran c.advance.ensures;
     }

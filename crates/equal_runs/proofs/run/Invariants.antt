@@ -1,10 +1,6 @@
 -- After k periods the row and the amounts are those of k periods.
-use Rattle.std.proofs.Common.{◌-◌}
 use Rattle.equal_runs.proofs.Running.{Running}
 use Rattle.equal_runs.proofs.run.Given as goal
 
 abbrev pub invariant-loop-k : goal.invariant-loop-k
-invariant-loop-k l = Running l.demand l.setup l.unit l.holding l.l l.count l.sizes l.top l.width l.row l.picks l.k l.base l.due
-
-abbrev pub decreases-loop-k : goal.decreases-loop-k
-decreases-loop-k l = l.count - l.k
+invariant-loop-k l = Running l.demand l.setup l.unit l.holding l.l l.sizes l.top l.width l.row l.picks l.k l.due
