@@ -23,7 +23,6 @@ row_more p m a b h rows found k g =
 
 -- the rows up to m are found
 pub record RowsDone (p : Problem) (new : Areas) (need m : ℕ) : Type 0 where
-  pub inside : m ≤ periods p
   pub demanded : need ≡ demand_to p m
   pub low : need ≤ m * 65536
   pub rows : (k : ℕ) → k < m + 1 → PlanRow p k new

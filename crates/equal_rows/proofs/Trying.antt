@@ -46,6 +46,5 @@ module _ (p : Problem) (c m : ℕ) where
 
 -- the candidates before l are tried
 pub record Trying (p : Problem) (c m : ℕ) (old new : Areas) (left l : ℕ) : Type 0 where
-  pub inside : l ≤ m
   pub rest : left ≡ demand_to p m - demand_to p l
   pub tried : Considered p c m l old new

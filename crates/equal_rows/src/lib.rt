@@ -14,23 +14,14 @@ ghost use Rattle.equal_rows.specs.Consider.{Keepable, RowStored, RowSettled, Con
 ghost use Rattle.equal_rows.specs.Consider.{RowsBefore, RowFound, RowsWanted};
 
 use equal_runs::{LoadSizes, NONE, read_back, run};
+use std::cmp::Ordering;
 
 // Whether x has the smaller amount in the last period in which the two differ.
 fn smaller(x: &[u16], y: &[u16]) -> bool
     requires { length y.now ≡ length x.now }
     ensures { Ordered (length x.now) (at x.now) (at y.now) result }
 {
-    let mut i = x.len();
-    while 0 < i {
-        i -= 1;
-        if x[i] < y[i] {
-            return true;
-        }
-        if y[i] < x[i] {
-            return false;
-        }
-    }
-    false
+    x.iter().rev().lt(y.iter().rev())
 }
 
 // Whether x at cost v goes before y at cost w.
@@ -38,13 +29,11 @@ fn goes_first(v: u64, x: &[u16], w: u64, y: &[u16]) -> bool
     requires { length y.now ≡ length x.now }
     ensures { Decided (length x.now) v (at x.now) w (at y.now) result }
 {
-    if v < w {
-        return true;
+    match v.cmp(&w) {
+        Ordering::Less => true,
+        Ordering::Equal => smaller(x, y),
+        Ordering::Greater => false,
     }
-    if w < v {
-        return false;
-    }
-    smaller(x, y)
 }
 
 // The fractional load of an interval, and the state that it ends in.
@@ -59,10 +48,7 @@ fn state_of(j: u64, part: u64) -> usize
     requires { j ≤ 96 }
     ensures { result ≡ index_of j (min 1 part) }
 {
-    if part == 0 {
-        return (2 * j) as usize;
-    }
-    (2 * j + 1) as usize
+    (2 * j + part.min(1)) as usize
 }
 
 // The loads that make `left` in all: as many full ones as it holds, and a fractional load where they leave something.
@@ -183,7 +169,7 @@ fn candidate(
         result (areas costs.new choices.new) slots.new }
 {
     let from = l * demand.len();
-    areas::copy(&choices[from..from + l], &mut slots[0..l]);
+    slots[..l].copy_from_slice(&choices[from..from + l]);
     let before = costs[l];
     let run = trial(
         demand,
@@ -209,7 +195,7 @@ fn keep(v: u64, n: usize, slots: &[u16], costs: &mut [u64], choices: &mut [u16])
 {
     let m = slots.len();
     let from = m * n;
-    areas::copy(slots, &mut choices[from..from + m]);
+    choices[from..from + m].copy_from_slice(slots);
     costs[m] = v;
 }
 
@@ -275,13 +261,11 @@ fn row(
     let m = slots.len();
     costs[m] = NONE;
     let mut left = need;
-    let mut l = 0;
-    while l < m {
+    for l in 0..m {
         consider(
             demand, setup, unit, holding, full, l, left, costs, choices, slots,
         );
         left -= demand[l] as u64;
-        l += 1;
     }
 }
 
@@ -303,10 +287,8 @@ pub fn rows(
 {
     costs[0] = 0;
     let mut need: u64 = 0;
-    let mut m: usize = 0;
-    while m < demand.len() {
-        need += demand[m] as u64;
-        m += 1;
+    for (m, &demanded) in demand.iter().enumerate() {
+        need += demanded as u64;
         row(
             demand,
             setup,
@@ -316,7 +298,7 @@ pub fn rows(
             need,
             costs,
             choices,
-            &mut slots[0..m],
+            &mut slots[..m + 1],
         );
     }
 }

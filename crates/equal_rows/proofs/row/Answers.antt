@@ -45,7 +45,6 @@ loop-l-preserved c =
     let next : Areas = areas c.consider.new.costs c.consider.new.choices in
     let more : Considered p a.full m (l + 1) now next = rw c.loop-l.auto.slots at c.consider.ensures in
     record {
-      inside = omega arith;
       rest = (less_left p a.full m l _ c.loop-l-test.true inv.rest).1;
       tried = next_try p _ m l _ _ now next inv.tried more;
     }

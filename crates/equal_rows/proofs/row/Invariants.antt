@@ -1,5 +1,4 @@
 -- The first of the candidates before l is told in row m.
-use Rattle.std.proofs.Common.{◌-◌}
 use Rattle.equal_runs.specs.Run.{constant_with}
 use Rattle.equal_rows.specs.Rows.{areas}
 use Rattle.equal_rows.proofs.Trying.{Trying}
@@ -9,6 +8,3 @@ abbrev pub invariant-loop-l : goal.invariant-loop-l
 invariant-loop-l l =
     Trying (constant_with l.demand l.full l.setup l.unit l.holding) l.full l.m (areas l.initial.costs l.initial.choices) (areas l.costs l.choices)
     l.left l.l
-
-abbrev pub decreases-loop-l : goal.decreases-loop-l
-decreases-loop-l l = l.m - l.l
