@@ -1,3 +1,5 @@
+-- The kinds of record, by their bytes.
+pub mod Kinds
 -- The contracts of the calls.
 pub mod Answers
 -- Laws that their proofs cite: passed tests, the layout.

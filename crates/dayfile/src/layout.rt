@@ -1,87 +1,38 @@
 // Records by kind and length, the stamp, and the walk from the file's front to its end record, which opens every call on a file.
 ghost use Rattle.std.specs.Prelude.{◌≡◌, ◌+◌, ◌≤◌, ◌<◌, length};
-ghost use Rattle.day.specs.Sums.{Term};
 ghost use Rattle.day.specs.Refusals.{checked};
-ghost use Rattle.day.specs.File.{is_kind, body_length, next, number2, number4, is_record, is_period, is_charges, is_stamped, charges_at, head_end, record_at};
+ghost use Rattle.day.specs.File.{next, number2, number4, is_record, is_period, is_charges, is_stamped, charges_at, head_end, record_at};
 ghost use Rattle.day.specs.File.{periods_in, is_misplaced, bad_end, walk, stamp_of};
 ghost use Rattle.dayfile.specs.Answers.{BodyAt};
+ghost use Rattle.dayfile.specs.Kinds.{byte_of};
 
+use crate::kind::Kind;
 use day::{Check, Refusal, Stamp};
-
-pub const PERIOD: u8 = 1;
-
-pub const END: u8 = 2;
-
-pub const CHARGES: u8 = 3;
-
-pub const STORE: u8 = 4;
-
-pub const STAMP: u8 = 5;
 
 // A store limit that limits nothing: no record holds it.
 pub const NO_LIMIT: u16 = 65535;
 
-fn wide(x: u8) -> u32
-    ensures { Term x 255 result }
-{
-    x as u32
-}
-
 // Numbers stand most significant byte first.
-pub fn number2(body: &[u8], at: usize) -> u32
+pub fn number2(body: &[u8], at: usize) -> u16
     requires { at + 1 < length body.now }
-    ensures { Term (number2 body.now at) 65535 result }
+    ensures { result ≡ number2 body.now at }
 {
-    wide(body[at]) * 256 + wide(body[at + 1])
+    u16::from_be_bytes([body[at], body[at + 1]])
 }
 
 pub fn number4(body: &[u8], at: usize) -> u32
     requires { at + 3 < length body.now }
     ensures { result ≡ number4 body.now at }
 {
-    number2(body, at) * 65536 + number2(body, at + 2)
+    u32::from_be_bytes([body[at], body[at + 1], body[at + 2], body[at + 3]])
 }
 
-fn is_kind(kind: u8) -> bool
-    ensures { result ≡ is_kind kind }
-{
-    if kind == PERIOD || kind == END {
-        return true;
-    }
-    if kind == CHARGES || kind == STORE {
-        return true;
-    }
-    kind == STAMP
-}
-
-// How long a body the kind fixes.
-fn body_length(kind: u8) -> usize
-    ensures { Term (body_length kind) 18 result }
-{
-    if kind == PERIOD {
-        return 16;
-    }
-    if kind == END {
-        return 2;
-    }
-    if kind == CHARGES {
-        return 4;
-    }
-    if kind == STORE {
-        return 18;
-    }
-    if kind == STAMP {
-        return 4;
-    }
-    0
-}
-
-// Where the record after the one at `at` begins.
+// Where the record after the one at `at` begins; one of no known kind has no body.
 pub fn next(file: &[u8], at: usize) -> usize
     requires { at < length file.now }
     ensures { result ≡ next file.now at }
 {
-    at + 1 + body_length(file[at])
+    at + 1 + Kind::try_from(file[at]).map_or(0, Kind::body_length)
 }
 
 // The body of the record at `at`: that very part of the file's bytes.
@@ -96,51 +47,36 @@ pub fn body(file: &[u8], at: usize) -> &[u8]
 }
 
 // Whether a whole record of a kind begins at `at`.
-fn is_record(file: &[u8], at: usize, kind: u8) -> bool
-    requires { 0 < kind }
-    ensures { result ≡ is_record kind file.now at }
+fn is_record(file: &[u8], at: usize, kind: Kind) -> bool
+    ensures { result ≡ is_record (byte_of kind) file.now at }
 {
-    if file.len() <= at {
-        return false;
-    }
-    if file[at] != kind {
-        return false;
-    }
-    next(file, at) <= file.len()
+    at < file.len() && file[at] == u8::from(kind) && next(file, at) <= file.len()
 }
 
 // Whether a whole period record begins at `at`, with no store limit or with one that limits.
 fn is_period(file: &[u8], at: usize) -> bool
     ensures { result ≡ is_period file.now at }
 {
-    if is_record(file, at, PERIOD) {
-        return true;
-    }
-    if !is_record(file, at, STORE) {
-        return false;
-    }
-    number2(body(file, at), 16) < NO_LIMIT as u32
+    is_record(file, at, Kind::Period)
+        || is_record(file, at, Kind::Store) && number2(body(file, at), 16) < NO_LIMIT
 }
 
 // Whether a whole record of charges begins at `at`, not both of them 0.
 pub fn is_charges(file: &[u8], at: usize) -> bool
     ensures { result ≡ is_charges file.now at }
 {
-    if !is_record(file, at, CHARGES) {
+    if !is_record(file, at, Kind::Charges) {
         return false;
     }
     let charges = body(file, at);
-    if number2(charges, 0) != 0 {
-        return true;
-    }
-    number2(charges, 2) != 0
+    number2(charges, 0) != 0 || number2(charges, 2) != 0
 }
 
 // Whether a whole stamp stands first.
 pub fn is_stamped(file: &[u8]) -> bool
     ensures { result ≡ is_stamped file.now }
 {
-    is_record(file, 0, STAMP)
+    is_record(file, 0, Kind::Stamp)
 }
 
 // The stamp that a body of kind 5 holds.
@@ -149,8 +85,8 @@ pub fn stamp(body: &[u8]) -> Stamp
     ensures { result ≡ stamp_of body.now }
 {
     Stamp {
-        station: number2(body, 0) as u16,
-        date: number2(body, 2) as u16,
+        station: number2(body, 0),
+        date: number2(body, 2),
     }
 }
 
@@ -158,10 +94,7 @@ pub fn stamp(body: &[u8]) -> Stamp
 pub fn charges_at(file: &[u8]) -> usize
     ensures { result ≡ charges_at file.now }
 {
-    if is_stamped(file) {
-        return next(file, 0);
-    }
-    0
+    if is_stamped(file) { next(file, 0) } else { 0 }
 }
 
 // Where the head ends, and the period records begin.
@@ -170,12 +103,13 @@ pub fn head_end(file: &[u8]) -> usize
 {
     let at = charges_at(file);
     if is_charges(file, at) {
-        return next(file, at);
+        next(file, at)
+    } else {
+        at
     }
-    at
 }
 
-// How many period records follow the head.
+// How many period records follow the head. A walk with no index: only a record tells where the next one begins.
 pub fn periods(file: &[u8]) -> usize
     ensures { result ≡ periods_in file.now }
 {
@@ -194,22 +128,21 @@ pub fn record_at(file: &[u8], i: usize) -> usize
     ensures { result ≡ record_at file.now i }
 {
     let mut at = head_end(file);
-    let mut k = 0;
-    while k < i {
+    for _ in 0..i {
         at = next(file, at);
-        k += 1;
     }
     at
 }
 
 // Whether the record of `kind` at `at` is a stamp that doesn't stand first, or charges that don't stand at `charges`.
-fn is_misplaced(kind: u8, at: usize, charges: usize) -> bool
-    ensures { result ≡ is_misplaced kind at charges }
+fn is_misplaced(kind: Kind, at: usize, charges: usize) -> bool
+    ensures { result ≡ is_misplaced (byte_of kind) at charges }
 {
-    if kind == STAMP {
-        return at != 0;
+    match kind {
+        Kind::Stamp => at != 0,
+        Kind::Charges => at != charges,
+        _ => false,
     }
-    kind == CHARGES && at != charges
 }
 
 // 10, 11, 12, at the record after `n` period records, which is to be the end record.
@@ -219,23 +152,17 @@ fn end_record(file: &[u8], at: usize, n: usize) -> Check
     if file.len() <= at {
         return Check::Refused(Refusal::TruncatedFile);
     }
-    if !is_kind(file[at]) {
+    let Ok(kind) = Kind::try_from(file[at]) else {
         return Check::Refused(Refusal::UnknownKind);
-    }
-    if is_misplaced(file[at], at, charges_at(file)) {
+    };
+    if is_misplaced(kind, at, charges_at(file)) {
         return Check::Refused(Refusal::WrongEnd);
     }
     let end = next(file, at);
     if file.len() < end {
         return Check::Refused(Refusal::TruncatedFile);
     }
-    if file[at] != END {
-        return Check::Refused(Refusal::WrongEnd);
-    }
-    if file.len() != end {
-        return Check::Refused(Refusal::WrongEnd);
-    }
-    if number2(body(file, at), 0) as usize != n {
+    if kind != Kind::End || file.len() != end || usize::from(number2(body(file, at), 0)) != n {
         return Check::Refused(Refusal::WrongEnd);
     }
     Check::Passed

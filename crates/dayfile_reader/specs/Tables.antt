@@ -56,11 +56,11 @@ period_long s p w =
     rw (body_whole s p w.whole) (⊎_elim (λ e. rw e (omega arith)) (λ e. rw e.0 (omega arith)) w.kind)
 
 -- a turn of it: the next period's numbers go to cell k
-pub read_turn : (s : List ℕ) (n : ℕ) (before : Day) (k p : ℕ) (after later : Day) {end : ℕ} {numbers : Numbers} {part : List ℕ}
+pub read_turn : (s : List ℕ) (n : ℕ) (before : Day) (k p : ℕ) (after later : Day) {end : ℕ} {numbers : Numbers}
     → PeriodsRead s n before k p after → k < n → Cells n before
-    → end ≡ next s p → part ≡ body s p → numbers ≡ numbers_in (at s p) part → later ≡ stored k numbers after
+    → end ≡ next s p → numbers ≡ numbers_in (at s p) (body s p) → later ≡ stored k numbers after
     → PeriodsRead s n before (k + 1) end later
-read_turn s n before k p after later w l c to from decoded put = record {
+read_turn s n before k p after later w l c to decoded put = record {
   here = rw (add-one, to, w.here) refl;
-  filled = filled_more _ _ _ _ _ w.filled l c later (rw (decoded, from, w.here) at put);
+  filled = filled_more _ _ _ _ _ w.filled l c later (rw (decoded, w.here) at put);
 }

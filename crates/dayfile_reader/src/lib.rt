@@ -2,44 +2,57 @@
 //! crate dayfile.
 #![tactic(auto)]
 
-ghost use Rattle.std.specs.Prelude.{◌≡◌, ◌≤◌, length};
+ghost use Rattle.std.specs.Prelude.{◌≡◌, ◌≤◌, length, slice_index};
 ghost use Rattle.day.specs.Day.{tables_of, ends_of, max_periods};
 ghost use Rattle.day.specs.Refusals.{checked, bad_value};
-ghost use Rattle.day.specs.File.{body_length, limit_in, periods_in, day_in};
+ghost use Rattle.day.specs.File.{body_length, body, limit_in, periods_in, day_in};
 ghost use Rattle.day.specs.Lent.{tables_lent, tables_after};
 ghost use Rattle.tables.specs.Filled.{Cells};
+ghost use Rattle.dayfile.specs.Kinds.{byte_of};
+ghost use Rattle.dayfile.specs.Layout.{WholePeriod};
 ghost use Rattle.dayfile.specs.Answers.{with_day, bad_read, Reading};
 ghost use Rattle.dayfile_reader.specs.Numbers.{numbers_in};
 
 use day::{Check, Ends, Expected, Refusal};
+use dayfile::kind::Kind;
 use dayfile::{ReadAnswer, layout};
 use tables::Numbers;
 
 // The store limit of a period record: only kind 4 holds one.
-fn store_limit(kind: u8, body: &[u8]) -> u16
-    requires { length body.now ≡ body_length kind }
-    ensures { result ≡ limit_in kind body.now }
+fn store_limit(kind: Kind, body: &[u8]) -> u16
+    requires { length body.now ≡ body_length (byte_of kind) }
+    ensures { result ≡ limit_in (byte_of kind) body.now }
 {
-    if kind != layout::STORE {
-        return layout::NO_LIMIT;
+    match kind {
+        Kind::Store => layout::number2(body, 16),
+        _ => layout::NO_LIMIT,
     }
-    layout::number2(body, 16) as u16
 }
 
 // The field decoder: the numbers that the body of a period record of this kind holds.
-fn decode(kind: u8, body: &[u8]) -> Numbers
+fn decode(kind: Kind, body: &[u8]) -> Numbers
     requires long { 16 ≤ length body.now }
-    requires length_by_kind { length body.now ≡ body_length kind }
-    ensures { result ≡ numbers_in kind body.now }
+    requires length_by_kind { length body.now ≡ body_length (byte_of kind) }
+    ensures { result ≡ numbers_in (byte_of kind) body.now }
 {
     Numbers {
-        demand: layout::number2(body, 0) as u16,
-        capacity: layout::number2(body, 2) as u16,
+        demand: layout::number2(body, 0),
+        capacity: layout::number2(body, 2),
         setup: layout::number4(body, 4),
         unit: layout::number4(body, 8),
         holding: layout::number4(body, 12),
         store: store_limit(kind, body),
     }
+}
+
+// The numbers of the period record that begins at `at`.
+fn period(file: &[u8], at: usize) -> Numbers
+    requires { WholePeriod file.now at }
+    ensures { result ≡ numbers_in (slice_index file.now at) (body file.now at) }
+{
+    // A period's record is of a known kind.
+    let kind = Kind::try_from(file[at]).unwrap();
+    decode(kind, layout::body(file, at))
 }
 
 // A and Z, which the head holds; both 0 where it has no charges.
@@ -55,8 +68,8 @@ fn ends(file: &[u8]) -> Ends
     }
     let charges = layout::body(file, at);
     Ends {
-        opening: layout::number2(charges, 0) as u16,
-        closing: layout::number2(charges, 2) as u16,
+        opening: layout::number2(charges, 0),
+        closing: layout::number2(charges, 2),
     }
 }
 
@@ -77,22 +90,10 @@ fn fill(
         ≡ with_day file.now (tables_lent demand capacity setup unit holding store) }
 {
     let mut at = layout::head_end(file);
-    let mut k = 0;
-    while k < n {
-        let start = at + 1;
-        let end = layout::next(file, at);
-        tables::put(
-            k,
-            decode(file[at], &file[start..end]),
-            demand,
-            capacity,
-            setup,
-            unit,
-            holding,
-            store,
-        );
-        at = end;
-        k += 1;
+    for k in 0..n {
+        let numbers = period(file, at);
+        tables::put(k, numbers, demand, capacity, setup, unit, holding, store);
+        at = layout::next(file, at);
     }
 }
 

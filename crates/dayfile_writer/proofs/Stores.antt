@@ -1,6 +1,9 @@
 -- Laws of `sets l i vs`, the list l with vs stored from index i on, and of the stores that make a file. Assumes nothing.
-use Rattle.std.specs.Prelude.{◌≡◌, refl, List, [], ◌∷◌, ◌++◌, ℕ, zero, suc, ◌+◌, ◌-◌, ◌≤◌, ◌<◌, length, take, drop, set}
-use Rattle.std.proofs.Common.{ap, ◌∙◌, arith, take-suc, length-take-le}
+use Rattle.std.specs.Prelude.{◌≡◌, refl, List, [], ◌∷◌, ◌++◌, ℕ, zero, suc, ◌+◌, ◌-◌, ◌≤◌, length, take, drop, set}
+use borrow.Rule.Slice.PartMut.{put_mid}
+use Rattle.std.specs.List.{sum_by}
+use Rattle.std.proofs.Common.{ap, ◌∙◌, append_assoc, arith, add-one, drop-drop, take_all, sum, map}
+use Rattle.std.proofs.lemmas.List.Sums.{sum-map, sum_by_more}
 use Rattle.std.proofs.lemmas.List.Edits.{sets, sets-eq}
 use Rattle.day.specs.Sums.{at}
 use Rattle.day.specs.Day.{Day, tables_of, periods}
@@ -15,10 +18,27 @@ pub sets_then : (a b l : List ℕ) (i j : ℕ) → j ≡ i + length a → sets (
 sets_then [] b l i j e = let z : j ≡ i = omega arith in rw z refl
 sets_then (x ∷ a) b l i j e = sets_then a b (set l i x) (suc i) j (omega arith)
 
--- a turn of the loop that stores `vs`
-pub sets_more : (vs l : List ℕ) (i k : ℕ) → k < length vs → set (sets l i (take k vs)) (i + k) (at vs k) ≡ sets l i (take (suc k) vs)
-sets_more vs l i k h =
-    rw (take-suc vs k 0) (sets_then (take k vs) (at vs k ∷ []) l i (i + k) (rw (length-take-le k vs (omega arith)) refl))
+-- bytes that are copied to a part of a slice are stored there
+pub copied : (out bytes part : List ℕ) (i : ℕ) → i + length bytes ≤ length out → part ≡ bytes
+    → put_mid i (i + length bytes - i) out part ≡ sets out i bytes
+copied out bytes part i h e =
+    let k : i + length bytes - i ≡ length bytes = omega arith in
+    rw (k, e, sets-eq bytes out i h, append_assoc, drop-drop) refl
+
+-- the sum of the records' sizes, of the first k and of all
+abbrev size : ℕ → ℕ
+size store = 17 + length (limit_of store)
+
+sizes_to : (store : List ℕ) (k : ℕ) → k ≤ length store → sum_by size (take k store) ≡ record_bytes (at store) k
+sizes_to store zero l = refl
+sizes_to store (suc k) l =
+    rw (← add-one k, sum_by_more size store k 0 (omega arith), sizes_to store k (omega arith)) refl
+
+pub sizes_summed : (store : List ℕ) → sum (map (λ s. 17 + length (limit_of s)) store) ≡ record_bytes (at store) (length store)
+sizes_summed store =
+    let all : take (length store) store ≡ store = take_all (length store) store (omega arith) in
+    let summed = rw all at (sizes_to store (length store) (omega arith)) in
+    sum-map size store ∙ summed
 
 -- a run from the front
 sets_front : (vs l : List ℕ) → length vs ≤ length l → sets l 0 vs ≡ vs ++ drop (length vs) l
@@ -27,8 +47,8 @@ sets_front vs l h = let e : 0 + length vs ≡ length vs = omega arith in rw e at
 -- the part of a long record that is the record
 pub record_part : (d : Day) (k : ℕ) {size : ℕ} {bytes : List ℕ}
     → size ≡ 17 + length (limit_of (at d.store k)) → bytes ≡ long_record d k
-    → take (size - 0) (drop 0 bytes) ≡ record_of d k
-record_part d k {size} e r = let all : size - 0 ≡ size = omega arith in rw (all, e, r) (record_front d k)
+    → take size bytes ≡ record_of d k
+record_part d k e r = rw (e, r) (record_front d k)
 
 -- a turn of the loop that stores the records
 pub record_stored : (d : Day) (l : List ℕ) (first k : ℕ) {out part after : List ℕ} {place : ℕ}

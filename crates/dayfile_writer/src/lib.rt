@@ -10,37 +10,37 @@ ghost use Rattle.day.specs.File.{end_kind, bytes2, charges_of, head_of, fields_o
 ghost use Rattle.checks.specs.Passed.{SameLengths, Readable};
 ghost use Rattle.day.specs.Lent.{day_before, tables_before};
 ghost use Rattle.tables.specs.Filled.{Cells};
+ghost use Rattle.dayfile.specs.Kinds.{byte_of};
 ghost use Rattle.dayfile.specs.Answers.{with_file, Writing};
 ghost use Rattle.dayfile.specs.Theorems.{record_bytes};
 ghost use Rattle.dayfile_writer.specs.RoundTrip.{long_record};
 
 use day::{Check, Ends, Refusal, Stamp};
 use dayfile::WriteAnswer;
-use dayfile::layout::{CHARGES, END, NO_LIMIT, PERIOD, STAMP, STORE};
+use dayfile::kind::Kind;
+use dayfile::layout::NO_LIMIT;
 
-// The kind of a period's record, by its store limit.
-fn kind_of(store: u16) -> u8
-    ensures { result ≡ kind_of store }
+// The kind of a period's record, by its store limit: only one below 65,535 is written.
+fn kind_of(store: u16) -> Kind
+    ensures { byte_of result ≡ kind_of store }
 {
     if store < NO_LIMIT {
-        return STORE;
+        Kind::Store
+    } else {
+        Kind::Period
     }
-    PERIOD
 }
 
-// How long the record is: only a store limit below 65,535 is written.
+// How long the record is.
 fn record_size(store: u16) -> usize
     ensures { Term (17 + length (limit_of store)) 19 result }
 {
-    if store < NO_LIMIT {
-        return 19;
-    }
-    17
+    1 + kind_of(store).body_length()
 }
 
 // A period's record of this kind, with its store limit in any case. Numbers stand most significant byte first.
 fn period_record(
-    kind: u8,
+    kind: Kind,
     demand: u16,
     capacity: u16,
     setup: u32,
@@ -48,29 +48,17 @@ fn period_record(
     holding: u32,
     store: u16,
 ) -> [u8; 19]
-    ensures { result ≡ kind ∷ fields_of demand capacity setup unit holding ++ bytes2 store }
+    ensures { result ≡ byte_of kind ∷ fields_of demand capacity setup unit holding ++ bytes2 store }
 {
-    [
-        kind,
-        (demand / 256) as u8,
-        (demand % 256) as u8,
-        (capacity / 256) as u8,
-        (capacity % 256) as u8,
-        (setup / 65536 / 256) as u8,
-        (setup / 65536 % 256) as u8,
-        (setup % 65536 / 256) as u8,
-        (setup % 65536 % 256) as u8,
-        (unit / 65536 / 256) as u8,
-        (unit / 65536 % 256) as u8,
-        (unit % 65536 / 256) as u8,
-        (unit % 65536 % 256) as u8,
-        (holding / 65536 / 256) as u8,
-        (holding / 65536 % 256) as u8,
-        (holding % 65536 / 256) as u8,
-        (holding % 65536 % 256) as u8,
-        (store / 256) as u8,
-        (store % 256) as u8,
-    ]
+    let mut record = [0; 19];
+    record[0] = u8::from(kind);
+    record[1..3].copy_from_slice(&demand.to_be_bytes());
+    record[3..5].copy_from_slice(&capacity.to_be_bytes());
+    record[5..9].copy_from_slice(&setup.to_be_bytes());
+    record[9..13].copy_from_slice(&unit.to_be_bytes());
+    record[13..17].copy_from_slice(&holding.to_be_bytes());
+    record[17..19].copy_from_slice(&store.to_be_bytes());
+    record
 }
 
 fn record_of(
@@ -97,36 +85,35 @@ fn record_of(
 }
 
 // A record of the head: its kind and two numbers.
-fn head_record(kind: u8, first: u16, second: u16) -> [u8; 5]
-    ensures { result ≡ kind ∷ bytes2 first ++ bytes2 second }
+fn head_record(kind: Kind, first: u16, second: u16) -> [u8; 5]
+    ensures { result ≡ byte_of kind ∷ bytes2 first ++ bytes2 second }
 {
-    [
-        kind,
-        (first / 256) as u8,
-        (first % 256) as u8,
-        (second / 256) as u8,
-        (second % 256) as u8,
-    ]
+    let mut record = [0; 5];
+    record[0] = u8::from(kind);
+    record[1..3].copy_from_slice(&first.to_be_bytes());
+    record[3..5].copy_from_slice(&second.to_be_bytes());
+    record
 }
 
 // How long the head is: 5 bytes for the stamp, and 5 for charges, which are written exactly if A or Z is above 0.
 fn head_size(ends: Ends) -> usize
     ensures { Term (5 + length (charges_of ends.opening ends.closing)) 10 result }
 {
-    if ends.opening != 0 {
-        return 10;
+    if ends.opening != 0 || ends.closing != 0 {
+        10
+    } else {
+        5
     }
-    if ends.closing != 0 {
-        return 10;
-    }
-    5
 }
 
 // The end record.
 fn end_record(n: u16) -> [u8; 3]
     ensures { result ≡ end_kind ∷ bytes2 n }
 {
-    [END, (n / 256) as u8, (n % 256) as u8]
+    let mut record = [0; 3];
+    record[0] = u8::from(Kind::End);
+    record[1..3].copy_from_slice(&n.to_be_bytes());
+    record
 }
 
 // Copies bytes to where `at` says.
@@ -134,11 +121,7 @@ fn copy(bytes: &[u8], out: &mut [u8], at: usize)
     requires { at + length bytes.now ≤ length out.old }
     ensures { out.new ≡ sets out.old at bytes.now }
 {
-    let mut k = 0;
-    while k < bytes.len() {
-        out[at + k] = bytes[k];
-        k += 1;
-    }
+    out[at..at + bytes.len()].copy_from_slice(bytes);
 }
 
 // The charges, from byte `at` on.
@@ -149,7 +132,7 @@ fn put_charges(out: &mut [u8], at: usize, ends: Ends)
     if head_size(ends) == 5 {
         return;
     }
-    let record = head_record(CHARGES, ends.opening, ends.closing);
+    let record = head_record(Kind::Charges, ends.opening, ends.closing);
     copy(&record, out, at);
 }
 
@@ -158,7 +141,7 @@ fn put_head(out: &mut [u8], ends: Ends, stamp: Stamp)
     requires { length (head_of stamp ends.opening ends.closing) ≤ length out.old }
     ensures { out.new ≡ sets out.old 0 (head_of stamp ends.opening ends.closing) }
 {
-    let record = head_record(STAMP, stamp.station, stamp.date);
+    let record = head_record(Kind::Stamp, stamp.station, stamp.date);
     copy(&record, out, 0);
     put_charges(out, 5, ends);
 }
@@ -168,13 +151,7 @@ fn records_size(store: &[u16]) -> usize
     requires { length store.now ≤ max_periods }
     ensures { Term (record_bytes (at store.now) (length store.now)) (19 * max_periods) result }
 {
-    let mut size = 0;
-    let mut k = 0;
-    while k < store.len() {
-        size += record_size(store[k]);
-        k += 1;
-    }
-    size
+    store.iter().map(|s| record_size(*s)).sum()
 }
 
 // The records of all periods, from byte `first` on; where they end.
@@ -195,13 +172,11 @@ fn put_periods(
         ≡ sets out.old first (records_of (tables_before demand capacity setup unit holding store) (length demand.now))) }
 {
     let mut at = first;
-    let mut k = 0;
-    while k < demand.len() {
+    for k in 0..demand.len() {
         let record = record_of(k, demand, capacity, setup, unit, holding, store);
         let size = record_size(store[k]);
-        copy(&record[0..size], out, at);
+        copy(&record[..size], out, at);
         at += size;
-        k += 1;
     }
     at
 }

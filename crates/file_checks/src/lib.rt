@@ -18,10 +18,7 @@ fn same_stamp(a: Stamp, b: Stamp) -> bool
 fn has_stamp(file: &[u8], stamp: Stamp) -> bool
     ensures { result ≡ has_stamp stamp file.now }
 {
-    if !layout::is_stamped(file) {
-        return false;
-    }
-    same_stamp(layout::stamp(layout::body(file, 0)), stamp)
+    layout::is_stamped(file) && same_stamp(layout::stamp(layout::body(file, 0)), stamp)
 }
 
 // Whether the file has the expected stamp; none has where nothing is expected.

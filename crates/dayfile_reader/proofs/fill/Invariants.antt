@@ -1,6 +1,4 @@
--- The first k cells of each table hold the numbers of the file's first k periods, and record k begins at `at`. The measure is how
--- many periods are left.
-use Rattle.std.proofs.Common.{◌-◌}
+-- The first k cells of each table hold the numbers of the file's first k periods, and record k begins at `at`.
 use Rattle.day.specs.Day.{tables_of}
 use Rattle.dayfile_reader.specs.Tables.{PeriodsRead}
 use Rattle.dayfile_reader.proofs.fill.Given as goal
@@ -9,6 +7,3 @@ abbrev pub invariant-loop-k : goal.invariant-loop-k
 invariant-loop-k l =
     PeriodsRead l.fn.file l.fn.n (tables_of l.fn.demand l.fn.capacity l.fn.setup l.fn.unit l.fn.holding l.fn.store) l.k l.at
     (tables_of l.demand l.capacity l.setup l.unit l.holding l.store)
-
-abbrev pub decreases-loop-k : goal.decreases-loop-k
-decreases-loop-k l = l.n - l.k

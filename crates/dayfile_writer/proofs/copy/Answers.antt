@@ -1,9 +1,6 @@
--- A turn stores one more byte.
-use Rattle.std.proofs.Common.{arith, add-one, length-set}
-use Rattle.dayfile_writer.proofs.Stores.{sets_more}
+-- The bytes stand in the part that they were copied to.
+use Rattle.dayfile_writer.proofs.Stores.{copied}
 use Rattle.dayfile_writer.proofs.copy.Goals as goal
 
-pub loop-k-preserved : goal.loop-k-preserved
-loop-k-preserved c =
-    let w = c.loop-k.invariant in
-    (omega arith, rw (add-one, w.1) (sets_more _ _ _ _ c.loop-k-test.true), simp length-set w.2)
+pub returns : goal.returns
+returns c = copied _ _ _ _ c.requires c.copy_from_slice.ensures.after

@@ -1,5 +1,5 @@
 -- What a turn copies is the record of its period, for which there is room.
-use Rattle.std.proofs.Common.{◌+◌, ◌∙◌, suc, arith, add-one, length}
+use Rattle.std.proofs.Common.{◌+◌, suc, arith, add-one, length}
 use Rattle.day.specs.Sums.{at, sum_grows}
 use Rattle.day.specs.Day.{tables_of}
 use Rattle.day.specs.File.{limit_of}
@@ -27,8 +27,6 @@ loop-k-preserved c =
     let k = c.loop-k.k in
     let w = c.loop-k.invariant in
     let part = record_part d k c.record_size-size.ensures.is c.record_of-record.ensures in (
-      omega arith,
-      rw add-one (omega (arith, w.1, c.record_size-size.ensures.is)),
-      rw add-one (record_stored d _ a.first k w.1 w.2 part c.copy.ensures),
-      c.copy.auto.out ∙ w.3,
+      rw add-one (omega (arith, w.0, c.record_size-size.ensures.is)),
+      rw add-one (record_stored d _ a.first k w.0 w.1 part c.copy.ensures),
     )

@@ -1,5 +1,5 @@
--- The first k records stand from byte `first` on; the measure is how many are left.
-use Rattle.std.proofs.Common.{◌≡◌, ◌+◌, ◌-◌, ◌≤◌, length}
+-- The first k records stand from byte `first` on.
+use Rattle.std.proofs.Common.{◌≡◌, ◌+◌}
 use Rattle.std.proofs.lemmas.List.Edits.{sets}
 use Rattle.day.specs.Sums.{at}
 use Rattle.day.specs.Day.{tables_of}
@@ -9,10 +9,5 @@ use Rattle.dayfile_writer.proofs.put_periods.Given as goal
 
 abbrev pub invariant-loop-k : goal.invariant-loop-k
 invariant-loop-k l =
-    (l.k ≤ length l.demand)
-    × (l.at ≡ l.first + record_bytes (at l.store) l.k)
+    (l.at ≡ l.first + record_bytes (at l.store) l.k)
     × (l.out ≡ sets l.fn.out l.first (records_of (tables_of l.demand l.capacity l.setup l.unit l.holding l.store) l.k))
-    × (length l.out ≡ length l.fn.out)
-
-abbrev pub decreases-loop-k : goal.decreases-loop-k
-decreases-loop-k l = length l.demand - l.k

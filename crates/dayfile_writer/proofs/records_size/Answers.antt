@@ -1,16 +1,14 @@
 -- A record has 19 bytes at most, so all of them fit.
-use Rattle.std.proofs.Common.{◌≡◌, arith, length}
+use Rattle.std.proofs.Common.{◌≡◌, ◌+◌, ◌∙◌, sum, map, length, arith, rules}
 use Rattle.day.specs.Sums.{at}
+use Rattle.day.specs.File.{limit_of}
 use Rattle.dayfile.specs.Theorems.{most_bytes}
+use Rattle.dayfile_writer.proofs.Stores.{sizes_summed}
 use Rattle.dayfile_writer.proofs.records_size.Goals as goal
-
-pub overflow_add-size : goal.overflow_add-size
-overflow_add-size c =
-    omega (arith, c.loop-k.invariant, most_bytes (at c.args.store.now) c.loop-k.k, c.record_size-size.ensures.low, c.requires)
 
 pub returns : goal.returns
 returns c =
     let store = c.args.store.now in
-    let e : c.loop-k.k ≡ length store = omega arith in
-    let is = rw e at c.loop-k.invariant.1 in
+    let summed : c.sum.result ≡ sum (map (λ s. 17 + length (limit_of s)) store) = search rules in
+    let is = summed ∙ sizes_summed store in
     record { is = is; low = omega (arith, is, most_bytes (at store) (length store), c.requires) }

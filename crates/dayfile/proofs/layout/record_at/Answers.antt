@@ -1,10 +1,10 @@
--- Record k is one of the file's periods, and the next one begins where it ends.
-use Rattle.std.proofs.Common.{refl, arith, add-one}
+-- A record before record i is one of the file's periods, and the next one begins where it ends.
+use Rattle.std.proofs.Common.{arith, add-one}
 use Rattle.dayfile.specs.Layout.{period_at}
 use Rattle.dayfile.proofs.layout.record_at.Goals as goal
 
 pub next-at-requires : goal.next-at-requires
-next-at-requires c = omega (arith, (period_at c.args.file.now c.loop-k.k (omega arith)).whole)
+next-at-requires c = omega (arith, (period_at c.args.file.now c.loop.counter (omega arith)).whole)
 
-pub loop-k-preserved : goal.loop-k-preserved
-loop-k-preserved c = (omega arith, rw (add-one, c.next-at.ensures, c.loop-k.invariant.1) refl)
+pub loop-preserved : goal.loop-preserved
+loop-preserved c = rw (add-one, c.next-at.ensures, c.loop.invariant)
