@@ -1,8 +1,8 @@
 -- Laws of the call: what passed tests leave for the work, and what the work leaves is what an accepted call leaves.
 -- Assumes nothing.
-use Rattle.std.proofs.Common.{◌≡◌, refl, sym, ap, subst, ◌∙◌, List, ◌++◌, ℕ, ◌-◌, ◌≤◌, ◌<◌, length, drop, replicate, arith}
+use Rattle.std.proofs.Common.{◌≡◌, refl, sym, ap, subst, ◌∙◌, List, ◌++◌, ℕ, ◌≤◌, ◌<◌, length, take, drop, replicate, arith}
+use Rattle.std.proofs.Common.{length-append, length-drop, length-take-le, drop_at}
 use lib.ListN.{get_or-append}
-use borrow.Rule.Slice.PartMut.{mid_of, put_mid, mid_len, same_len_mid, drop_put}
 use Rattle.day.specs.declared.Totals.{Totals}
 use Rattle.day.specs.Sums.{at}
 use Rattle.day.specs.Day.{Day, periods}
@@ -29,24 +29,24 @@ use Rattle.equal.specs.Solved.{Solvable, PlanFound}
 
 -- a part of k cells at the front, lent
 abbrev pub front : ℕ → List ℕ → List ℕ
-front k l = mid_of 0 (k - 0) l
+front k l = take k l
 
 front_length : (k : ℕ) (l : List ℕ) → k ≤ length l → length (front k l) ≡ k
-front_length k l h = mid_len 0 k l h ∙ omega arith
+front_length k l h = length-take-le k l h
 
 -- and given back
 abbrev pub back : (k : ℕ) (l part : List ℕ) → List ℕ
-back k l part = put_mid 0 (k - 0) l part
+back k l part = part ++ drop k l
 
-module _ (k : ℕ) (l part : List ℕ) (e : length part ≡ length (front k l)) where
+module _ (k : ℕ) (l part : List ℕ) (e : length part ≡ length (front k l)) (h : k ≤ length l) where
   back_length : length (back k l part) ≡ length l
-  back_length = same_len_mid 0 (k - 0) l part e
+  back_length = omega (arith, length-append part (drop k l), length-drop k l, front_length k l h)
 
-  back_rest : k ≤ length l → drop k (back k l part) ≡ drop k l
-  back_rest h = drop_put 0 k l part (omega arith) h (e ∙ mid_len 0 k l h)
+  back_rest : drop k (back k l part) ≡ drop k l
+  back_rest = drop_at part (drop k l) k (e ∙ front_length k l h)
 
-  back_cleared : k ≤ length l → (l' : List ℕ) → Cleared k (back k l part) l' → Cleared k l l'
-  back_cleared h l' c = c ∙ ap (λ (t : List ℕ). replicate k 0 ++ t) (back_rest h)
+  back_cleared : (l' : List ℕ) → Cleared k (back k l part) l' → Cleared k l l'
+  back_cleared l' c = c ∙ ap (λ (t : List ℕ). replicate k 0 ++ t) back_rest
 
 module _ (d : Day) (m : Memory) (ok : Admitted equal d (sizes_of m)) (r : Needed) (needed : NeededBy equal (periods d) 0 r) where
   abbrev n : ℕ
@@ -101,7 +101,7 @@ module _ (d : Day) (m : Memory) (ok : Admitted equal d (sizes_of m)) (r : Needed
           (optimal_ext (model_of q) (Problem.periods q) (Problem.total q) (at slots) (at slots') same found_net)
 
       pub slots_feasible : FeasiblePlan d slots'
-      slots_feasible = path_plan ok (back_length n m.slots slots size) slots_optimal.feasible
+      slots_feasible = path_plan ok (back_length n m.slots slots size ok.room.slots) slots_optimal.feasible
 
       -- The front parts as the work leaves them, and then cleared, are as an accepted call leaves its memory.
       pub work_accepted : (t : Totals) (costs choices costs' choices' : List ℕ)
@@ -115,7 +115,7 @@ module _ (d : Day) (m : Memory) (ok : Admitted equal d (sizes_of m)) (r : Needed
           record {
             plan = slots_optimal;
             counts = rw is refl;
-            size = back_length n m.slots slots size;
+            size = back_length n m.slots slots size ok.room.slots;
             rest = back_rest n m.slots slots size ok.room.slots;
             costs = rw needed.costs at (back_cleared r.costs m.costs costs e costs_inside costs' clear);
             choices = rw needed.choices at (back_cleared r.choices m.choices choices f choices_inside choices' clear');

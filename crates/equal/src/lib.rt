@@ -33,15 +33,14 @@ fn solve(
         (problem_with demand.now capacity.now setup.now unit.now holding.now)
         slots.new }
 {
-    let n = demand.len();
     let full = capacity[0];
     if full == 0 {
-        areas::clear_narrow(slots, n);
+        slots.fill(0);
         return;
     }
     equal_rows::rows(demand, setup, unit, holding, full, costs, choices, slots);
-    let from = n * n;
-    areas::copy(&choices[from..from + n], slots);
+    let n = demand.len();
+    slots.copy_from_slice(&choices[n * n..n * n + n]);
 }
 
 // The work, once the tests have passed.
@@ -69,8 +68,8 @@ fn work(
     let n = demand.len();
     let mut need_table = [0u16; 96];
     let mut rate_table = [0u32; 96];
-    let net = &mut need_table[0..n];
-    let rates = &mut rate_table[0..n];
+    let net = &mut need_table[..n];
+    let rates = &mut rate_table[..n];
     net::fill(demand, holding, net, rates, ends);
     let needed = path_checks::cells(PathKind::Equal, n, 0);
     let cost_cells = needed.costs;
@@ -81,9 +80,9 @@ fn work(
         setup,
         unit,
         rates,
-        &mut costs[0..cost_cells],
-        &mut choices[0..choice_cells],
-        &mut slots[0..n],
+        &mut costs[..cost_cells],
+        &mut choices[..choice_cells],
+        &mut slots[..n],
     );
     areas::clear_wide(costs, cost_cells);
     areas::clear_narrow(choices, choice_cells);

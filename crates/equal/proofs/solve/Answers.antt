@@ -1,10 +1,8 @@
 -- Without capacity nothing is made, and else the last row is the plan.
-use Rattle.std.proofs.Common.{◌≡◌, sym, ap, ◌∙◌, subst, List, ℕ, ◌+◌, ◌-◌, ◌*◌, length, drop, replicate, arith}
-use Rattle.std.proofs.lemmas.List.{length-replicate, get_or-replicate}
-use lib.ListN.{get_or-append}
+use Rattle.std.proofs.Common.{◌≡◌, sym, ap, ◌∙◌, subst, List, ℕ, ◌+◌, ◌-◌, ◌*◌, length, replicate, arith, rules}
+use Rattle.std.proofs.lemmas.List.{get_or-replicate}
 use borrow.Rule.Slice.PartMut.{mid_of}
 use Rattle.day.specs.Sums.{at}
-use Rattle.day.specs.Outcome.{Cleared}
 use Rattle.theory.specs.Problem.{Problem, problem_with, periods, model_of}
 use Rattle.theory.specs.Recursion.{leads_optimal}
 use Rattle.equal_runs.specs.Run.{constant_with}
@@ -15,14 +13,9 @@ use Rattle.equal.specs.Solved.{PlanFound, constant_is, idle_found}
 use Rattle.equal.proofs.solve.Goals as goal
 
 -- cleared slots make nothing
-idle : (p : Problem) (slots slots' : List ℕ) → ConstantCapacity p (at p.capacity 0) → at p.capacity 0 ≡ 0
-    → Cleared (periods p) slots slots' → PlanFound p slots'
-idle p slots slots' constant e clear =
-    idle_found p (rw e at constant) slots'
-    (λ k h.
-    ap (λ (l : List ℕ). at l k) clear
-    ∙ get_or-append (replicate (periods p) 0) (drop (periods p) slots) 0 k (omega (arith, length-replicate {A = ℕ} (periods p) 0))
-    ∙ get_or-replicate (periods p) k 0 0 h)
+idle : (p : Problem) (slots : List ℕ) → ConstantCapacity p (at p.capacity 0) → at p.capacity 0 ≡ 0 → slots ≡ replicate (periods p) 0 → PlanFound p slots
+idle p slots constant e clear =
+    idle_found p (rw e at constant) slots (λ k h. ap (λ (l : List ℕ). at l k) clear ∙ get_or-replicate (periods p) k 0 0 h)
 
 module _ (demand capacity setup unit holding : List ℕ) (c : ℕ)
     (constant : ConstantCapacity (problem_with demand capacity setup unit holding) c) where
@@ -48,8 +41,8 @@ module _ (demand capacity setup unit holding : List ℕ) (c : ℕ)
 pub returns-then-full-eq0 : goal.returns-then-full-eq0
 returns-then-full-eq0 c =
     let a = c.args in
-    idle (problem_with a.demand.now a.capacity.now a.setup.now a.unit.now a.holding.now) a.slots.now _ c.requires.constant c.if-full-eq0.true
-    c.clear_narrow.ensures
+    let clear : c.fill.new.self ≡ replicate (length a.slots.now) 0 = search rules in
+    idle (problem_with a.demand.now a.capacity.now a.setup.now a.unit.now a.holding.now) _ c.requires.constant c.if-full-eq0.true (rw c.requires.each at clear)
 
 pub rows-requires : goal.rows-requires
 rows-requires c =
@@ -64,4 +57,4 @@ rows-requires c =
 pub returns : goal.returns
 returns c =
     let a = c.args in
-    last_row a.demand.now a.capacity.now a.setup.now a.unit.now a.holding.now _ c.requires.constant _ _ c.rows.ensures c.copy.ensures
+    last_row a.demand.now a.capacity.now a.setup.now a.unit.now a.holding.now _ c.requires.constant _ _ c.rows.ensures c.copy_from_slice.ensures.after
