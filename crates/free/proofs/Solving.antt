@@ -1,6 +1,7 @@
 -- Laws of `solve`: by keys in cells, from cleared slots, the loops give what the greedy rule gives, which finds a plan where no period is short.
 -- Main statement: `solved`. Assumes nothing.
-use Rattle.std.proofs.Common.{◌≡◌, refl, sym, ap, ◌∙◌, subst, Bool, true, false, List, [], ℕ, ◌<◌, arith, drop}
+use Rattle.std.proofs.Common.{◌≡◌, refl, sym, ap, ◌∙◌, subst, List, [], ℕ, ◌<◌, arith, drop}
+use Rattle.std.specs.Prelude as std
 use Rattle.std.proofs.Math.Option.{Option, some, none-ne-some}
 use Rattle.day.specs.Sums.{at}
 use Rattle.day.specs.Outcome.{Memory, memory_of, cleared, Cleared}
@@ -15,9 +16,9 @@ use Rattle.greedy.specs.Search.{Told}
 use Rattle.free.specs.Solved.{free_of, Solvable, Solved}
 
 -- what a loop tells where there is something to find
-told_found : (o : Option (List ℕ)) (g slots : List ℕ) (r : Bool) → o ≡ some g → Told r o slots → o ≡ some slots
-told_found o g slots true e t = t
-told_found o g slots false e t = absurd (none-ne-some g (sym t ∙ e))
+told_found : (o : Option (List ℕ)) (g slots : List ℕ) (r : std.Option (Unit {0})) → o ≡ some g → Told r o slots → o ≡ some slots
+told_found o g slots (std.Some _) e t = t
+told_found o g slots std.None e t = absurd (none-ne-some g (sym t ∙ e))
 
 -- What the steps of `solve` leave: keys in the cost cells, slots cleared, and the rule's amounts, which it finds.
 module _ (demand capacity unit holding : List ℕ) (m : Memory) (ok : Solvable (free_of demand capacity unit holding) m) where
@@ -49,7 +50,7 @@ module _ (demand capacity unit holding : List ℕ) (m : Memory) (ok : Solvable (
       ap (greedy_to (at costs) (at capacity) (at demand) n) clear
       ∙ greedy_to_same (at costs) (key M n) (at capacity) n (cells_key costs keyed) (at demand) n (omega arith) (cleared n m.slots)
 
-  pub solved : (costs slots slots' : List ℕ) (r : Bool) → Keyed unit holding m.costs costs → Cleared n m.slots slots
+  pub solved : (costs slots slots' : List ℕ) (r : std.Option (Unit {0})) → Keyed unit holding m.costs costs → Cleared n m.slots slots
       → Told r (greedy_to (at costs) (at capacity) (at demand) n slots) slots' → Solved p m (memory_of costs [] slots')
   solved costs slots slots' r keyed clear told =
       record {

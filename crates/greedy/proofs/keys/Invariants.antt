@@ -4,6 +4,3 @@ use Rattle.greedy.proofs.keys.Given as goal
 
 abbrev pub invariant-loop-k : goal.invariant-loop-k
 invariant-loop-k l = Keying l.unit l.holding l.k l.held l.fn.cells l.cells
-
-abbrev pub decreases-loop-k : goal.decreases-loop-k
-decreases-loop-k l = l.k

@@ -5,17 +5,14 @@ use Rattle.theory.specs.Greedy.{serve, serve_done}
 use Rattle.greedy.specs.Search.{served_turn, served_stuck}
 use Rattle.greedy.proofs.serve.Goals as goal
 
-pub returns-then-d-best : goal.returns-then-d-best
-returns-then-d-best c =
-    let a = c.args in
-    served_stuck (at a.keys.now) (at a.capacity.now) a.d c.loop-left.slots c.source-best.result c.source-best.ensures c.loop-left.left _
-    c.loop-left-test.true c.loop-left.invariant c.if-d-best.true
+pub returns-in_err-k : goal.returns-in_err-k
+returns-in_err-k c =
+    rw c.from_residual.ensures
+    (served_stuck _ _ _ _ _ _ c.loop-left-test.true c.loop-left.invariant c.in_err-k.ensures)
 
 pub loop-left-preserved : goal.loop-left-preserved
 loop-left-preserved c =
-    let a = c.args in
-    served_turn (at a.keys.now) (at a.capacity.now) a.d c.loop-left.slots c.source-best.result c.source-best.ensures c.loop-left.left _
-    c.loop-left-test.true c.loop-left.invariant c.least-batch.result c.if-d-best.false c.least-batch.ensures
+    served_turn _ _ _ _ _ _ c.loop-left-test.true c.loop-left.invariant c.in_ok-k.k _ c.in_ok-k.ensures c.min-batch.ensures
 
 pub returns : goal.returns
 returns c =
