@@ -1,6 +1,7 @@
 -- Laws of one trial: what the loops of the greedy rule tell is what the rule of 2.3 gives for the day with starts taken as free.
 -- Main statements: `trial_none`, `trial_some`; `trial_feasible`, its plan is one of the day. Assumes nothing.
-use Rattle.std.proofs.Common.{◌≡◌, refl, sym, ap, ◌∙◌, subst, Bool, true, false, List, ℕ, arith, length}
+use Rattle.std.proofs.Common.{◌≡◌, refl, sym, ap, ◌∙◌, subst, List, ℕ, arith, length}
+use Rattle.std.specs.Prelude as std
 use Rattle.std.proofs.Math.Option.{Option, none, some}
 use Rattle.day.specs.Sums.{at, length-list_of}
 use Rattle.day.specs.Day.{Day, periods, total, net_end}
@@ -70,14 +71,14 @@ module _ (d : Day) (net allowances cells plan : List ℕ) (ok : Triable d net al
             ap (λ (m : ℕ). greedy_to (at cells) (at allowances) (at net) m slots) net_size
             ∙ (ap (greedy_to (at cells) (at allowances) (at net) n) (clear ∙ ap (λ (m : ℕ). cleared m plan) net_size) ∙ by_cells (cleared n plan))
 
-    abbrev Tells : Bool → Type 0
+    abbrev Tells : std.Option (Unit {0}) → Type 0
     Tells r = Told r (greedy_to (at cells) (at allowances) (at net) (length net) slots) after
 
-    pub trial_none : (r : Bool) → r ≡ false → Tells r → Ruled e none
-    trial_none r q told = given none (subst Tells q told)
+    pub trial_none : Tells std.None → Ruled e none
+    trial_none told = given none told
 
-    pub trial_some : (r : Bool) → r ≡ true → Tells r → Ruled e (some after)
-    trial_some r q told = given (some after) (subst Tells q told)
+    pub trial_some : Tells (std.Some tt) → Ruled e (some after)
+    trial_some told = given (some after) told
 
   -- and its plan keeps the conditions of the day
   pub trial_feasible : (after : List ℕ) → Ruled e (some after) → FeasiblePlan d after

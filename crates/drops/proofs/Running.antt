@@ -1,14 +1,13 @@
 -- What the loop over the trials keeps. Main statements: `running_search`, what the search for the next period asks; `running_comes`, what the next trial
 -- finds. Assumes nothing.
-use Rattle.std.proofs.Common.{◌≡◌, sym, ap, ◌∙◌, Bool, List, ℕ, ◌+◌, ◌*◌, ◌≤◌, arith, length, drop}
+use Rattle.std.proofs.Common.{◌≡◌, Some, sym, List, ℕ, ◌+◌, ◌*◌, ◌≤◌, arith, length, drop}
 use Rattle.day.specs.Day.{Day, periods, max_periods}
 use Rattle.day.specs.Drops.{next, TriedIn}
 use Rattle.theory.proofs.Drops.{tried_stands}
-use Rattle.rounds.specs.declared.Coming.{Coming}
-use Rattle.rounds.specs.declared.Coming.TheVariants.{Try}
+use Rattle.rounds.specs.declared.Turn.{Turn}
 use Rattle.rounds.specs.Turns.{turn_of}
 use Rattle.drops.specs.declared.Standing.{Standing}
-use Rattle.drops.specs.Standing.{state_of, Held, NextIs}
+use Rattle.drops.specs.Standing.{state_of, Held, NextIs, Finished}
 
 -- `used` of the allowed trials are made
 pub record Running (d : Day) (net cells₀ : List ℕ) (trials : ℕ) (allowances cells plan : List ℕ) (s : Standing) (used : ℕ) : Type 0 where
@@ -26,6 +25,16 @@ module _ {d : Day} {net cells₀ : List ℕ} {trials : ℕ} {allowances cells pl
   pub running_search : (periods d ≤ max_periods) × (s.ahead ≤ periods d) × (periods d + periods d ≤ length cells)
   running_search = (w.held.triable.limits.limits.few, ahead_inside, omega (arith, w.held.room))
 
-  module _ (coming : Coming) (is : turn_of coming ≡ next (periods d) (state_of (periods d) cells s)) where
-    pub running_comes : (k : ℕ) (dropped : Bool) → coming ≡ Try k dropped → NextIs d cells s k dropped
-    running_comes k dropped e = record { inside = ahead_inside; comes = sym is ∙ ap turn_of e }
+  pub running_comes : (turn : Turn) → turn_of (Some turn) ≡ next (periods d) (state_of (periods d) cells s) → NextIs d cells s turn
+  running_comes turn is = record { inside = ahead_inside; comes = sym is }
+
+  -- where the trials are used up
+  pub running_out : trials ≤ used → Finished d trials trials cells₀ cells
+  running_out out =
+      let e : used ≡ trials = omega (arith, w.within) in
+      record {
+        ahead = s.ahead;
+        dropped = s.dropped;
+        ended = record { tried = rw e at w.tried; allowed = omega arith; stops = λ l. absurd (omega arith) };
+        rest = w.rest;
+      }

@@ -1,7 +1,8 @@
--- Laws of the trials in turn. Main statements: `begun`, what trial 1 leaves; `step_none`, `step_dearer`, `step_cheaper`, what a further one leaves.
+-- Laws of the trials in turn. Main statements: `begun`, what trial 1 leaves; `step_cheaper`, `step_undone`, what a further one leaves.
 -- Assumes nothing.
-use Rattle.std.proofs.Common.{◌≡◌, refl, sym, ap, ◌∙◌, subst, Bool, true, List, ℕ, ◌+◌, ◌*◌, ◌≤◌, ◌<◌, arith, ltb, length, drop, set}
+use Rattle.std.proofs.Common.{◌≡◌, refl, sym, ap, ◌∙◌, subst, true, List, ℕ, ◌+◌, ◌*◌, ◌≤◌, ◌<◌, arith, ltb, length, drop, set}
 use Rattle.std.proofs.Common.{replicate, length-set, get_or-set_same, get_or-set_other, drop-set-lt}
+use Rattle.std.specs.Prelude as std
 use Rattle.std.proofs.Math.Option.{Option, none, some}
 use Rattle.std.proofs.Math.Decide.{ℕ_discrete}
 use borrow.Author.Tests.{lt-ltb, le-ltb}
@@ -13,8 +14,7 @@ use Rattle.rounds.specs.Cells.{mark_at, marks_in, plan_in, Kept}
 use Rattle.theory.proofs.Drops.{ruled_plans, trial_loose, trial_free, feasible_free, allowed_all, allowed_less, allowed_again, next_allowed}
 use Rattle.theory.proofs.Drops.{same_state}
 use Rattle.drops.specs.declared.Standing.{Standing}
-use Rattle.drops.specs.declared.Outcome.{Outcome}
-use Rattle.drops.specs.declared.Outcome.TheVariants.{NoPlan, Plan}
+use Rattle.rounds.specs.declared.Turn as forbid
 use Rattle.drops.specs.Trial.{retriable, Comes}
 use Rattle.drops.specs.Standing.{state_of, Held, NextIs, Stepped, Startable, Begun}
 use Rattle.drops.proofs.Marking.{same_marks, marked}
@@ -74,26 +74,28 @@ module _ (d : Day) (net allowances cells plan : List ℕ) (ok : Startable d net 
       every = allowed_all d ok.triable.limits.limits.lengths.capacity ∙ ap (λ (m : List ℕ). allowed m d) (sym unmarked)
 
   -- with the capacities copied
-  module _ (copied plan' : List ℕ) (same : copied ≡ d.capacity) (o : Outcome) (comes : Comes d copied o plan') where
-    told : Comes d d.capacity o plan'
-    told = subst (λ (c : List ℕ). Comes d c o plan') same comes
+  module _ (copied plan' : List ℕ) (same : copied ≡ d.capacity) where
+    pub some_plan : (o : std.Option ℕ) → Comes d copied o plan' → std.IsSome o
+    some_plan (std.Some t) comes = refl
+    some_plan std.None comes = absurd (finds (subst (λ (c : List ℕ). Ruled (starts_free c d) none) same comes))
 
-    pub some_plan : o ≡ NoPlan → ⊥
-    some_plan e = finds (subst (λ (o : Outcome). Comes d d.capacity o plan') e told)
-
-    pub begun : (cells' : List ℕ) (t : ℕ) → o ≡ Plan t → length plan' ≡ length plan → Kept plan' cells cells' → Begun d cells t net copied cells' plan'
-    begun cells' t e size kept =
-        let c = subst (λ (o : Outcome). Comes d d.capacity o plan') e told in
+    pub begun : (cells' : List ℕ) (t : ℕ) → Comes d copied (std.Some t) plan' → length plan' ≡ length plan → Kept plan' cells cells'
+        → Begun d cells t net copied cells' plan'
+    begun cells' t comes size kept =
+        let c = subst (λ (c : List ℕ). Comes d c (std.Some t) plan') same comes in
         subst (λ (l : List ℕ). Begun d cells t net l cells' plan') (sym same) (keeps plan' cells' t size c.0 c.1 kept)
 
 -- A further trial.
-module _ (d : Day) (net allowances cells plan : List ℕ) (s : Standing) (k : ℕ) (dropped : Bool)
-    (held : Held d net allowances cells plan s.cost) (turns : NextIs d cells s k dropped) where
+module _ (d : Day) (net allowances cells plan : List ℕ) (s : Standing) (next : forbid.Turn)
+    (held : Held d net allowances cells plan s.cost) (turns : NextIs d cells s next) where
   abbrev state : Tried
   state = state_of (periods d) cells s
 
+  abbrev k : ℕ
+  k = next.period
+
   abbrev turn : Turn
-  turn = record { period = k; dropped = dropped }
+  turn = record { period = k; dropped = next.dropped }
 
   abbrev marks : List ℕ
   marks = marks_in (periods d) cells
@@ -135,7 +137,7 @@ module _ (d : Day) (net allowances cells plan : List ℕ) (s : Standing) (k : �
 
   unchanged : (plan' : List ℕ) → length plan' ≡ length plan → (o : Option (List ℕ)) → Ruled (starts_free (set allowances k 0) d) o
       → settled d state turn o ≡ undone state turn
-      → Stepped d s cells (record { cost = s.cost; ahead = k; dropped = dropped }) net
+      → Stepped d s cells (record { cost = s.cost; ahead = k; dropped = next.dropped }) net
       (set (set allowances k 0) k (at d.capacity k)) cells plan'
   unchanged plan' alike o r e =
       let again = allowed_again d marks allowances marks_size held.allowed k inside right.1 in
@@ -190,21 +192,19 @@ module _ (d : Day) (net allowances cells plan : List ℕ) (s : Standing) (k : �
       cheaper =
           lt-ltb (cost d (at plan')) (cost d (at (plan_in (periods d) cells))) (omega (arith, knows))
 
-  -- by what the trial has come to: no plan, one that costs no less, one that costs less
-  module _ (plan' : List ℕ) (alike : length plan' ≡ length plan) (o : Outcome) (comes : Comes d (set allowances k 0) o plan') where
-    abbrev Came : Outcome → Type 0
-    Came o = Comes d (set allowances k 0) o plan'
-
-    pub step_none : o ≡ NoPlan
-        → Stepped d s cells (record { cost = s.cost; ahead = k; dropped = dropped }) net
-        (set (set allowances k 0) k (at d.capacity k)) cells plan'
-    step_none e = unchanged plan' alike none (subst Came e comes) refl
-
-    pub step_dearer : (t : ℕ) → o ≡ Plan t → s.cost ≤ t
-        → Stepped d s cells (record { cost = s.cost; ahead = k; dropped = dropped }) net
-        (set (set allowances k 0) k (at d.capacity k)) cells plan'
-    step_dearer t e l = let c = subst Came e comes in unchanged plan' alike (some plan') c.0 (no_cheaper plan' t c.1 l)
-
-    pub step_cheaper : (cells' : List ℕ) (t : ℕ) → o ≡ Plan t → t < s.cost → Kept plan' (set cells (periods d + k) 1) cells'
+  -- by what the trial has come to: a plan that costs less, or one that costs no less, or none
+  module _ (plan' : List ℕ) (alike : length plan' ≡ length plan) (o : std.Option ℕ) (comes : Comes d (set allowances k 0) o plan') where
+    pub step_cheaper : (cells' : List ℕ) (t : ℕ) → o ≡ std.Some t → t < s.cost → Kept plan' (set cells (periods d + k) 1) cells'
         → Stepped d s cells (record { cost = t; ahead = k; dropped = true }) net (set allowances k 0) cells' plan'
-    step_cheaper cells' t e l kept = let c = subst Came e comes in changed plan' cells' t alike c.0 c.1 l kept
+    step_cheaper cells' t e l kept = let c = rw e at comes in changed plan' cells' t alike c.0 c.1 l kept
+
+    pub step_undone : std.IfSome o (λ t. s.cost ≤ t)
+        → Stepped d s cells (record { cost = s.cost; ahead = k; dropped = next.dropped }) net
+        (set (set allowances k 0) k (at d.capacity k)) cells plan'
+    step_undone dear = go o comes dear
+      where
+        go : (o : std.Option ℕ) → Comes d (set allowances k 0) o plan' → std.IfSome o (λ t. s.cost ≤ t)
+            → Stepped d s cells (record { cost = s.cost; ahead = k; dropped = next.dropped }) net
+            (set (set allowances k 0) k (at d.capacity k)) cells plan'
+        go std.None c _ = unchanged plan' alike none c refl
+        go (std.Some t) c l = unchanged plan' alike (some plan') c.0 (no_cheaper plan' t c.1 l)

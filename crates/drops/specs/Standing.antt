@@ -1,12 +1,13 @@
 -- Where the trials of a big day stand, in cells and beside them. Main definitions: `Held`, what every trial finds; `Stepped`, what a further one leaves;
 -- `Begun`, what trial 1 leaves; `Finished`, what all leave. Assumes nothing.
-use Rattle.std.specs.Prelude.{◌≡◌, Bool, false, List, ℕ, ◌*◌, ◌≤◌, length, drop, replicate}
-use Rattle.std.proofs.Math.Option.{some}
+use Rattle.std.specs.Prelude.{◌≡◌, Some, Bool, false, List, ℕ, ◌*◌, ◌≤◌, length, drop, replicate}
 use Rattle.day.specs.Sums.{at}
 use Rattle.day.specs.Day.{Day, periods}
 use Rattle.day.specs.Plan.{Feasible, cost}
 use Rattle.day.specs.Drops.{allowed, Tried, next, FirstTrial, NextTrial, Ended}
 use Rattle.rounds.specs.Cells.{marks_in, plan_in, state_in}
+use Rattle.rounds.specs.Turns.{turn_of}
+use Rattle.rounds.specs.declared.Turn.{Turn}
 use Rattle.drops.specs.declared.Standing.{Standing}
 use Rattle.drops.specs.Trial.{Triable}
 
@@ -21,10 +22,10 @@ pub record Held (d : Day) (net allowances cells plan : List ℕ) (best : ℕ) : 
   pub allowed : allowances ≡ allowed (marks_in (periods d) cells) d
   pub costs : best ≡ cost d (at (plan_in (periods d) cells))
 
--- the trial that comes next is the one that forbids period k + 1
-pub record NextIs (d : Day) (cells : List ℕ) (s : Standing) (k : ℕ) (dropped : Bool) : Type 0 where
+-- the trial that comes next is the one that forbids the turn's period
+pub record NextIs (d : Day) (cells : List ℕ) (s : Standing) (turn : Turn) : Type 0 where
   pub inside : s.ahead ≤ periods d
-  pub comes : next (periods d) (state_of (periods d) cells s) ≡ some (record { period = k; dropped = dropped })
+  pub comes : next (periods d) (state_of (periods d) cells s) ≡ turn_of (Some turn)
 
 -- a further trial is made
 pub record Stepped (d : Day) (s : Standing) (before : List ℕ) (r : Standing) (net allowances cells plan : List ℕ) : Type 0 where

@@ -1,5 +1,5 @@
 -- One trial of a big day. Main definitions: `Triable`, what a trial asks; `Comes`, what it comes to. Main statement: `retriable`. Assumes nothing.
-use Rattle.std.specs.Prelude.{◌≡◌, List, ℕ, ◌≤◌, ◌<◌, length}
+use Rattle.std.specs.Prelude.{◌≡◌, Option, Some, None, List, ℕ, ◌≤◌, ◌<◌, length}
 use Rattle.std.proofs.Common.{◌∙◌, arith}
 use Rattle.std.proofs.Math.Option.{none, some}
 use Rattle.day.specs.Sums.{at}
@@ -10,8 +10,6 @@ use Rattle.checks.specs.Passed.{DayLimits}
 use Rattle.theory.specs.Net.{net_needs, rates_of}
 use Rattle.theory.specs.Store.{Loose}
 use Rattle.theory.specs.Greedy.{key_of}
-use Rattle.drops.specs.declared.Outcome.{Outcome}
-use Rattle.drops.specs.declared.Outcome.TheVariants.{NoPlan, Plan}
 
 -- a day within the limits of big days whose stores can't bind; its net needs; a key for every period, a capacity no higher than its own, a slot
 pub record Triable (d : Day) (net allowances cells plan : List ℕ) : Type 0 where
@@ -41,6 +39,6 @@ retriable t other cells' plan' each low long keys size =
     }
 
 -- the rule of 2.3, starts taken as free, finds no plan under the capacities that are allowed; or it finds this one, which costs c, starts included
-abbrev pub Comes : Day → (allowances : List ℕ) → Outcome → (plan : List ℕ) → Type 0
-Comes d allowances NoPlan plan = Ruled (starts_free allowances d) none
-Comes d allowances (Plan c) plan = Ruled (starts_free allowances d) (some plan) × (c ≡ cost d (at plan))
+abbrev pub Comes : Day → (allowances : List ℕ) → Option ℕ → (plan : List ℕ) → Type 0
+Comes d allowances None plan = Ruled (starts_free allowances d) none
+Comes d allowances (Some c) plan = Ruled (starts_free allowances d) (some plan) × (c ≡ cost d (at plan))

@@ -13,16 +13,9 @@ ghost use Rattle.drops.specs.Trial.{Triable, Comes};
 ghost use Rattle.drops.specs.Standing.{Held, NextIs, Stepped, Startable, Begun, Finished};
 
 use day::Ends;
-use rounds::Coming;
+use rounds::Turn;
 
-// What a trial comes to: what its plan costs, starts included, or that there is no plan.
-#[derive(Clone, Copy)]
-enum Outcome {
-    NoPlan,
-    Plan(u64),
-}
-
-// One trial, under the allowed capacities; the cells begin with the keys.
+// One trial, under the allowed capacities: what its plan costs, starts included, where there is a plan. The cells begin with the keys.
 fn trial(
     demand: &[u16],
     capacity: &[u16],
@@ -35,18 +28,16 @@ fn trial(
     cells: &[u64],
     plan: &mut [u16],
     ends: Ends,
-) -> Outcome
+) -> Option<u64>
     requires { Triable
         (day_of demand.now capacity.now setup.now unit.now holding.now store.now ends)
         net.now allowed.now cells.now plan.old }
     ensures { Comes (day_before demand capacity setup unit holding store ends) allowed.now result plan.new }
 {
     areas::clear_narrow(plan, net.len());
-    if !greedy::serve_all(net, cells, allowed, plan) {
-        return Outcome::NoPlan;
-    }
+    greedy::serve_all(net, cells, allowed, plan)?;
     let totals = weigher::totals(demand, capacity, setup, unit, holding, store, plan, ends);
-    Outcome::Plan(totals.cost)
+    Some(totals.cost)
 }
 
 // What a plan costs with all starts free.
@@ -101,16 +92,13 @@ pub fn begin(
         cells.old result
         net.now allowed.new cells.new plan.new }
 {
-    areas::copy(capacity, allowed);
-    match trial(
+    allowed.copy_from_slice(capacity);
+    let cost = trial(
         demand, capacity, setup, unit, holding, store, net, allowed, cells, plan, ends,
-    ) {
-        Outcome::Plan(cost) => {
-            rounds::keep(plan, cells);
-            cost
-        }
-        Outcome::NoPlan => 0,
-    }
+    )
+    .unwrap();
+    rounds::keep(plan, cells);
+    cost
 }
 
 // Where the trials stand, beside the cells: what the best plan costs; the round, which has yet to look at the first `ahead` periods, and whether it has
@@ -122,7 +110,7 @@ struct Standing {
     dropped: bool,
 }
 
-// The trial that forbids period k + 1 too. It stays forbidden exactly if there is a plan that costs strictly less than the best so far.
+// The trial that forbids the turn's period too. It stays forbidden exactly if there is a plan that costs strictly less than the best so far.
 fn step(
     demand: &[u16],
     capacity: &[u16],
@@ -136,40 +124,38 @@ fn step(
     plan: &mut [u16],
     ends: Ends,
     s: Standing,
-    k: usize,
-    dropped: bool,
+    turn: Turn,
 ) -> Standing
     requires held { Held
         (day_of demand.now capacity.now setup.now unit.now holding.now store.now ends)
         net.now allowed.old cells.old plan.old s.cost }
     requires next_is { NextIs
         (day_of demand.now capacity.now setup.now unit.now holding.now store.now ends)
-        cells.old s k dropped }
+        cells.old s turn }
     ensures { Stepped
         (day_before demand capacity setup unit holding store ends)
         s cells.old result
         net.now allowed.new cells.new plan.new }
 {
-    let n = demand.len();
+    let k = turn.period;
     allowed[k] = 0;
-    if let Outcome::Plan(cost) = trial(
+    let outcome = trial(
         demand, capacity, setup, unit, holding, store, net, allowed, cells, plan, ends,
-    ) {
-        if cost < s.cost {
-            cells[n + k] = 1;
-            rounds::keep(plan, cells);
-            return Standing {
-                cost,
-                ahead: k,
-                dropped: true,
-            };
-        }
+    );
+    if let Some(cost) = outcome.filter(|cost| *cost < s.cost) {
+        cells[demand.len() + k] = 1;
+        rounds::keep(plan, cells);
+        return Standing {
+            cost,
+            ahead: k,
+            dropped: true,
+        };
     }
     allowed[k] = capacity[k];
     Standing {
         cost: s.cost,
         ahead: k,
-        dropped,
+        dropped: turn.dropped,
     }
 }
 
@@ -206,20 +192,13 @@ pub fn run(
         ahead: demand.len(),
         dropped: false,
     };
-    let mut used = 1;
-    while used < trials {
-        match rounds::next(cells, demand.len(), s.ahead, s.dropped) {
-            Coming::Stop => {
-                return used;
-            }
-            Coming::Try(k, dropped) => {
-                s = step(
-                    demand, capacity, setup, unit, holding, store, net, allowed, cells, plan, ends,
-                    s, k, dropped,
-                );
-            }
-        }
-        used += 1;
+    for used in 1..trials {
+        let Some(turn) = rounds::next(cells, demand.len(), s.ahead, s.dropped) else {
+            return used;
+        };
+        s = step(
+            demand, capacity, setup, unit, holding, store, net, allowed, cells, plan, ends, s, turn,
+        );
     }
-    used
+    trials
 }

@@ -1,2 +1,3 @@
 -- Laws of the writing loops.
 pub mod Writing
+pub mod Last

@@ -2,23 +2,21 @@
 -- Main definitions: `open_of`, `turn_of`. Main statements: `open_here`, `open_below`, one period down; `turn_by`, `round_by`, what was found is what comes
 -- next; `next_in`, by the state that cells hold. Assumes nothing.
 use Rattle.std.specs.Prelude.{◌≡◌, refl, Bool, List, ℕ, zero, suc, ◌≤◌, ◌<◌}
-use Rattle.std.proofs.Common.{sym, ap, ap₂, ◌∙◌, arith}
+use Rattle.std.specs.Prelude as std
+use Rattle.std.proofs.Common.{sym, ap₂, ◌∙◌, arith}
 use Rattle.std.proofs.Math.Option.{Option, none, some}
 use Rattle.day.specs.Sums.{at, at-list_of}
-use Rattle.day.specs.Drops.{Turn, open_at, last_open, turn_to, in_round, next}
+use Rattle.day.specs.Drops.{Turn, open_at, last_open, in_round, next}
 use Rattle.rounds.specs.Cells.{mark_at, marks_in, state_in}
-use Rattle.rounds.specs.declared.Open.{Open}
-use Rattle.rounds.specs.declared.Open.TheVariants.{At, Nothing}
-use Rattle.rounds.specs.declared.Coming.{Coming}
-use Rattle.rounds.specs.declared.Coming.TheVariants.{Try, Stop}
+use Rattle.rounds.specs.declared.Turn as coming
 
-abbrev pub open_of : Open → Option ℕ
-open_of (At k) = some k
-open_of Nothing = none
+abbrev pub maths_of : std.Option ℕ → Option ℕ
+maths_of (std.Some k) = some k
+maths_of std.None = none
 
-abbrev pub turn_of : Coming → Option Turn
-turn_of (Try k dropped) = some (record { period = k; dropped = dropped })
-turn_of Stop = none
+abbrev pub turn_of : std.Option coming.Turn → Option Turn
+turn_of (std.Some t) = some (record { period = t.period; dropped = t.dropped })
+turn_of std.None = none
 
 -- one period down
 pub open_here : (marks : ℕ → ℕ) (k j : ℕ) → k ≡ suc j → marks j ≡ 0 → some j ≡ last_open marks k
@@ -31,13 +29,6 @@ open_below marks k j e h = rw e (go (marks j) h)
     go zero l = absurd (omega arith)
     go (suc v) l = refl
 
--- what the search's answer says of the turn: after a round, and in one
-pub turn_by : (r c : Open) (d : Bool) (o : Option ℕ) → r ≡ c → open_of r ≡ o → turn_to d (open_of c) ≡ turn_to d o
-turn_by r c d o e s = ap (turn_to d) (ap open_of (sym e) ∙ s)
-
-pub round_by : (r c : Open) (d : Bool) (o last : Option ℕ) → r ≡ c → open_of r ≡ o → in_round (open_of c) last d ≡ in_round o last d
-round_by r c d o last e s = ap (λ (q : Option ℕ). in_round q last d) (ap open_of (sym e) ∙ s)
-
 -- the search looks at the marks of its periods alone
 open_alike : (f g : ℕ → ℕ) (m : ℕ) → ((k : ℕ) → k < m → f k ≡ g k) → last_open f m ≡ last_open g m
 open_alike f g zero same = refl
@@ -45,9 +36,9 @@ open_alike f g (suc m) same =
     ap₂ (λ (mark : ℕ) (o : Option ℕ). open_at mark m o) (same m (omega arith)) (open_alike f g m (λ k l. same k (omega arith)))
 
 -- so what comes next by the cells comes next by the state that they hold
-pub next_in : (n : ℕ) (cells : List ℕ) (ahead : ℕ) (dropped : Bool) → ahead ≤ n
-    → in_round (last_open (mark_at n cells) ahead) (last_open (mark_at n cells) n) dropped ≡ next n (state_in n cells ahead dropped)
-next_in n cells ahead dropped le =
+pub next_in : (n : ℕ) (cells : List ℕ) (ahead : ℕ) (dropped : Bool) (onward : Option ℕ) → ahead ≤ n → onward ≡ last_open (mark_at n cells) ahead
+    → in_round onward (last_open (mark_at n cells) n) dropped ≡ next n (state_in n cells ahead dropped)
+next_in n cells ahead dropped onward le is =
     let same : (m : ℕ) → m ≤ n → last_open (mark_at n cells) m ≡ last_open (at (marks_in n cells)) m =
     λ m l. open_alike (mark_at n cells) (at (marks_in n cells)) m (λ k h. sym (at-list_of (mark_at n cells) n k (omega arith))) in
-    ap₂ (λ (onward last : Option ℕ). in_round onward last dropped) (same ahead le) (same n (omega arith))
+    ap₂ (λ (o last : Option ℕ). in_round o last dropped) (is ∙ same ahead le) (same n (omega arith))

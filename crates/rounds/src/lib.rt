@@ -6,58 +6,45 @@ ghost use Rattle.std.specs.Prelude.{◌≡◌, ◌++◌, ℕ, ◌+◌, ◌*◌, 
 ghost use Rattle.day.specs.Day.{max_periods};
 ghost use Rattle.day.specs.Drops.{last_open, another_round, next};
 ghost use Rattle.rounds.specs.Cells.{mark_at, plan_in, amount_at, state_in, Kept};
-ghost use Rattle.rounds.specs.Turns.{open_of, turn_of};
-
-// An allowed period, or that there is none.
-#[derive(Clone, Copy)]
-pub enum Open {
-    At(usize),
-    Nothing,
-}
+ghost use Rattle.rounds.specs.Turns.{maths_of, turn_of};
 
 // The last allowed of the first m periods.
-fn last_open(cells: &[u64], n: usize, m: usize) -> Open
+fn last_open(cells: &[u64], n: usize, m: usize) -> Option<usize>
     requires { (n ≤ max_periods) × (n + m ≤ length cells.now) }
-    ensures { open_of result ≡ last_open (mark_at n cells.now) m }
+    ensures { maths_of result ≡ last_open (mark_at n cells.now) m }
 {
-    let mut k = m;
-    while 0 < k {
-        k -= 1;
-        if cells[n + k] == 0 {
-            return Open::At(k);
-        }
-    }
-    Open::Nothing
+    cells[n..n + m].iter().rposition(|mark| *mark == 0)
 }
 
-// The period to forbid next, and whether its round has forbidden one before it; or the call stops.
+// The period to forbid next, and whether its round has forbidden one before it.
 #[derive(Clone, Copy)]
-pub enum Coming {
-    Try(usize, bool),
-    Stop,
+pub struct Turn {
+    pub period: usize,
+    pub dropped: bool,
 }
 
-// After a round.
-fn another(cells: &[u64], n: usize, dropped: bool) -> Coming
+// After a round: another one, from the top, unless it has forbidden none.
+fn another(cells: &[u64], n: usize, dropped: bool) -> Option<Turn>
     requires { (n ≤ max_periods) × (n + n ≤ length cells.now) }
     ensures { turn_of result ≡ another_round (last_open (mark_at n cells.now) n) dropped }
 {
     if !dropped {
-        return Coming::Stop;
+        return None;
     }
-    match last_open(cells, n, n) {
-        Open::At(k) => Coming::Try(k, false),
-        Open::Nothing => Coming::Stop,
-    }
+    let period = last_open(cells, n, n)?;
+    Some(Turn {
+        period,
+        dropped: false,
+    })
 }
 
 // In a round that has yet to look at the first `ahead` periods; `dropped` says whether it has forbidden one of the others.
-pub fn next(cells: &[u64], n: usize, ahead: usize, dropped: bool) -> Coming
+pub fn next(cells: &[u64], n: usize, ahead: usize, dropped: bool) -> Option<Turn>
     requires { (n ≤ max_periods) × (ahead ≤ n) × (n + n ≤ length cells.now) }
     ensures { turn_of result ≡ next n (state_in n cells.now ahead dropped) }
 {
-    if let Open::At(k) = last_open(cells, n, ahead) {
-        return Coming::Try(k, dropped);
+    if let Some(period) = last_open(cells, n, ahead) {
+        return Some(Turn { period, dropped });
     }
     another(cells, n, dropped)
 }
@@ -68,10 +55,8 @@ pub fn keep(plan: &[u16], cells: &mut [u64])
     ensures { Kept plan.now cells.old cells.new }
 {
     let n = plan.len();
-    let mut k = 0;
-    while k < n {
-        cells[2 * n + k] = plan[k] as u64;
-        k += 1;
+    for (k, amount) in plan.iter().enumerate() {
+        cells[2 * n + k] = *amount as u64;
     }
 }
 
@@ -81,9 +66,7 @@ pub fn hand_out(cells: &[u64], slots: &mut [u16], n: usize)
     requires by_index { (k : ℕ) → k < n → amount_at n cells.now k < 2 ^ 16 }
     ensures { slots.new ≡ plan_in n cells.now ++ drop n slots.old }
 {
-    let mut k = 0;
-    while k < n {
-        slots[k] = cells[2 * n + k] as u16;
-        k += 1;
+    for (k, amount) in cells[2 * n..3 * n].iter().enumerate() {
+        slots[k] = *amount as u16;
     }
 }

@@ -1,5 +1,4 @@
 -- `used` of the allowed trials are made.
-use Rattle.std.proofs.Common.{◌-◌}
 use Rattle.day.specs.Day.{day_of}
 use Rattle.drops.proofs.Running.{Running}
 use Rattle.drops.proofs.run.Given as goal
@@ -8,6 +7,3 @@ abbrev pub invariant-loop-used : goal.invariant-loop-used
 invariant-loop-used l =
     Running (day_of l.demand l.capacity l.setup l.unit l.holding l.store l.ends) l.net l.fn.cells l.trials
     l.allowed l.cells l.plan l.s l.used
-
-abbrev pub decreases-loop-used : goal.decreases-loop-used
-decreases-loop-used l = l.trials - l.used

@@ -12,23 +12,23 @@ clear_narrow-requires c =
     let size = net_size given _ _ _ _ c.requires in
     omega (arith, size, c.requires.size)
 
-pub returns-then-not-serve_all : goal.returns-then-not-serve_all
-returns-then-not-serve_all c =
+pub returns-in_err-serve_all : goal.returns-in_err-serve_all
+returns-in_err-serve_all c =
     let a = c.args in
     let given = day_of a.demand.now a.capacity.now a.setup.now a.unit.now a.holding.now a.store.now a.ends in
-    trial_none given _ _ _ _ c.requires _ _ c.clear_narrow.ensures c.serve_all.result c.if-not-serve_all.true c.serve_all.ensures
+    rw c.from_residual.ensures (trial_none given _ _ _ _ c.requires _ c.serve_all.new.slots c.clear_narrow.ensures c.in_err-serve_all.ensures)
 
 pub totals-totals-requires : goal.totals-totals-requires
 totals-totals-requires c =
     let a = c.args in
     let given = day_of a.demand.now a.capacity.now a.setup.now a.unit.now a.holding.now a.store.now a.ends in
     trial_feasible given _ _ _ _ c.requires _
-    (trial_some given _ _ _ _ c.requires _ _ c.clear_narrow.ensures c.serve_all.result c.if-not-serve_all.false c.serve_all.ensures)
+    (trial_some given _ _ _ _ c.requires _ _ c.clear_narrow.ensures c.in_ok-serve_all.ensures)
 
 pub returns : goal.returns
 returns c =
     let a = c.args in
     let given = day_of a.demand.now a.capacity.now a.setup.now a.unit.now a.holding.now a.store.now a.ends in (
-      trial_some given _ _ _ _ c.requires _ _ c.clear_narrow.ensures c.serve_all.result c.if-not-serve_all.false c.serve_all.ensures,
+      trial_some given _ _ _ _ c.requires _ _ c.clear_narrow.ensures c.in_ok-serve_all.ensures,
       ap (λ (t : Totals). t.cost) c.totals-totals.ensures,
     )
