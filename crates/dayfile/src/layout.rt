@@ -9,7 +9,7 @@ ghost use Rattle.dayfile.specs.Kinds.{byte_of};
 use crate::kind::Kind;
 use day::{Check, Refusal, Stamp};
 
-// A store limit that limits nothing: no record holds it.
+// A store limit that limits nothing: no record holds it. It is no Option, since it stands in a lent cell of 16 bits.
 pub const NO_LIMIT: u16 = 65535;
 
 // Numbers stand most significant byte first.

@@ -2,11 +2,11 @@
 //! What it does is `Writing` of the crate dayfile.
 #![tactic(auto)]
 
-ghost use Rattle.std.specs.Prelude.{◌≡◌, ◌∷◌, ◌++◌, ◌+◌, ◌*◌, ◌≤◌, length};
+ghost use Rattle.std.specs.Prelude.{◌≡◌, ◌∷◌, ◌++◌, ◌+◌, ◌*◌, ◌≤◌, not, length};
 ghost use Rattle.std.proofs.lemmas.List.Edits.{sets};
 ghost use Rattle.day.specs.Sums.{Term, at};
 ghost use Rattle.day.specs.Day.{day_of, tables_of, max_periods};
-ghost use Rattle.day.specs.File.{end_kind, bytes2, charges_of, head_of, fields_of, kind_of, limit_of, records_of, file_of};
+ghost use Rattle.day.specs.File.{end_kind, both_zero, bytes2, charges_of, head_of, fields_of, kind_of, limit_of, records_of, file_of};
 ghost use Rattle.checks.specs.Passed.{SameLengths, Readable};
 ghost use Rattle.day.specs.Lent.{day_before, tables_before};
 ghost use Rattle.tables.specs.Filled.{Cells};
@@ -95,15 +95,18 @@ fn head_record(kind: Kind, first: u16, second: u16) -> [u8; 5]
     record
 }
 
-// How long the head is: 5 bytes for the stamp, and 5 for charges, which are written exactly if A or Z is above 0.
+// Whether charges are written: exactly if A or Z is above 0.
+fn has_charges(ends: Ends) -> bool
+    ensures { result ≡ not (both_zero ends.opening ends.closing) }
+{
+    ends.opening != 0 || ends.closing != 0
+}
+
+// How long the head is: 5 bytes for the stamp, and 5 for charges.
 fn head_size(ends: Ends) -> usize
     ensures { Term (5 + length (charges_of ends.opening ends.closing)) 10 result }
 {
-    if ends.opening != 0 || ends.closing != 0 {
-        10
-    } else {
-        5
-    }
+    if has_charges(ends) { 10 } else { 5 }
 }
 
 // The end record.
@@ -129,11 +132,10 @@ fn put_charges(out: &mut [u8], at: usize, ends: Ends)
     requires { at + length (charges_of ends.opening ends.closing) ≤ length out.old }
     ensures { out.new ≡ sets out.old at (charges_of ends.opening ends.closing) }
 {
-    if head_size(ends) == 5 {
-        return;
+    if has_charges(ends) {
+        let record = head_record(Kind::Charges, ends.opening, ends.closing);
+        copy(&record, out, at);
     }
-    let record = head_record(Kind::Charges, ends.opening, ends.closing);
-    copy(&record, out, at);
 }
 
 // The head, at the slice's front; the stamp is always written.
