@@ -8,9 +8,9 @@
 --     store-passed                          16
 --     admitted                              all tests of a path: what its work relies on
 -- Assumes nothing.
-use Rattle.std.specs.Prelude.{◌≡◌, refl, Bool, false, not, ◌||◌, List, [], ◌∷◌, ◌↔◌, ℕ, zero, suc, ◌+◌, ◌-◌, ◌≤◌, ◌<◌, ltb, eqb, length}
+use Rattle.std.proofs.lemmas.Option.{none-some, same_Some}
+use Rattle.std.specs.Prelude.{◌≡◌, refl, Bool, false, not, ◌||◌, List, [], ◌∷◌, ◌↔◌, ℕ, zero, suc, ◌+◌, ◌-◌, ◌≤◌, ◌<◌, ltb, eqb, length, Option, None, Some}
 use Rattle.std.proofs.Common.{sym, ap, ◌∙◌, true≢false, arith, ltb-false, le-ltb, eqb-true, eq-eqb, ne_eqb}
-use Rattle.std.proofs.Math.Option.{Option, none, some, none-ne-some, some-ne-none, some-injective}
 use Rattle.std.proofs.lemmas.Bool.{eqb-false, not-false}
 use Rattle.day.specs.declared.Refusal.{Refusal}
 use Rattle.day.specs.declared.Refusal.TheVariants.{PeriodCount, TableLength, AboveLimit, TotalDemand, ShortArea, FewSlots, SurplusInventory}
@@ -64,7 +64,7 @@ abbrev pub FirstFailing : Day → Refusal → Type 0
 FirstFailing d r = FirstAt d (λ k. Passes d k → ⊥) (Passes d) r
 
 -- 1
-pub count_passed : (n : ℕ) → bad_count n ≡ none → (1 ≤ n) × (n ≤ max_periods)
+pub count_passed : (n : ℕ) → bad_count n ≡ None → (1 ≤ n) × (n ≤ max_periods)
 count_passed n e =
     let t = neither (eqb n 0) (ltb max_periods n) (not_refused _ PeriodCount e) in
     (positive n (eqb-false n 0 t.0), ltb-false max_periods n t.1)
@@ -77,7 +77,7 @@ count_passed n e =
 abbrev as_long : Day → List ℕ → Bool
 as_long d l = eqb (length l) (periods d)
 
-pub lengths_passed : (d : Day) → bad_lengths d ≡ none → SameLengths d
+pub lengths_passed : (d : Day) → bad_lengths d ≡ None → SameLengths d
 lengths_passed d e =
     let c = as_long d d.capacity in
     let b = as_long d d.setup in
@@ -120,7 +120,7 @@ values_within d k e =
     }
 
 -- 1, 2, 3
-pub tables_passed : (d : Day) → first (table_tests d) ≡ none → Limits d
+pub tables_passed : (d : Day) → first (table_tests d) ≡ None → Limits d
 tables_passed d e =
     let one = first_split (bad_count (periods d) ∷ []) (bad_lengths d ∷ bad_value d ∷ []) e in
     let two = first_split (bad_lengths d ∷ []) (bad_value d ∷ []) one.1 in
@@ -139,7 +139,7 @@ pub record DayLimits (limit : ℕ) (d : Day) : Type 0 where
   pub small : required d ≤ limit
   pub used : d.opening ≤ required d
 
-pub day_passed : {limit : ℕ} (d : Day) → first (day_tests limit d) ≡ none → DayLimits limit d
+pub day_passed : {limit : ℕ} (d : Day) → first (day_tests limit d) ≡ None → DayLimits limit d
 day_passed {limit} d e =
     let t = first_split (table_tests d) (total_tests limit d) e in
     let s = first_split (bad_total limit d ∷ []) (bad_opening d ∷ []) t.1 in
@@ -150,7 +150,7 @@ day_passed {limit} d e =
     }
 
 -- 5
-pub area_passed : (P : Path) (d : Day) (s : Sizes) → area_test P d s ≡ none
+pub area_passed : (P : Path) (d : Day) (s : Sizes) → area_test P d s ≡ None
     → (P.cost_cells (periods d) (total d) ≤ s.costs) × (P.choice_cells (periods d) (total d) ≤ s.choices)
 area_passed P d s e =
     let costs = ltb s.costs (P.cost_cells (periods d) (total d)) in
@@ -159,7 +159,7 @@ area_passed P d s e =
     (ltb-false _ _ a.0, ltb-false _ _ a.1)
 
 -- 5, 6
-memory_passed : (P : Path) (d : Day) (s : Sizes) → first (memory_tests P d s) ≡ none → Roomy P d s
+memory_passed : (P : Path) (d : Day) (s : Sizes) → first (memory_tests P d s) ≡ None → Roomy P d s
 memory_passed P d s e =
     let n = periods d in
     let t = first_two (area_test P d s) (bad_slots s.slots n) e in
@@ -173,46 +173,46 @@ passes_iff d k = (
   λ p. rw (le-ltb (demand_to d (suc k) + at d.store k) d.opening p.room, le-ltb (most_to d (suc k)) (net_to d (suc k)) p.reach) refl,
 )
 
-pub shortage_passed : (d : Day) → shortage d ≡ none → (k : ℕ) → k < periods d → Passes d k
+pub shortage_passed : (d : Day) → shortage d ≡ None → (k : ℕ) → k < periods d → Passes d k
 shortage_passed d e k l = (passes_iff d k).0 (none_found (short d) (periods d) (nowhere Shortage _ e) k l)
 
-pub shortage_found : (d : Day) (r : Refusal) → shortage d ≡ some r → FirstFailing d r
+pub shortage_found : (d : Day) (r : Refusal) → shortage d ≡ Some r → FirstFailing d r
 shortage_found d r e = go (find (short d) (periods d)) refl e
   where
-    go : (o : Option ℕ) → find (short d) (periods d) ≡ o → refuse_at Shortage o ≡ some r → FirstFailing d r
-    go none found s = absurd (none-ne-some _ s)
-    go (some k) found s =
+    go : (o : Option ℕ) → find (short d) (periods d) ≡ o → refuse_at Shortage o ≡ Some r → FirstFailing d r
+    go None found s = absurd (none-some _ s)
+    go (Some k) found s =
         let f = some_found (short d) (periods d) k found in
         record {
           k = k;
-          number = sym (ap number_of (some-injective _ _ s));
-          period = sym (ap period_of (some-injective _ _ s));
+          number = sym (ap number_of (same_Some _ _ s));
+          period = sym (ap period_of (same_Some _ _ s));
           inside = f.inside;
           fails = λ p. true≢false (sym f.passes ∙ (passes_iff d k).1 p);
           earlier = λ j l. (passes_iff d j).0 (f.first j l);
         }
 
 -- 8: one capacity throughout
-pub equal_passed : (d : Day) → unequal d ≡ none → (k : ℕ) → k < periods d → at d.capacity k ≡ at d.capacity 0
+pub equal_passed : (d : Day) → unequal d ≡ None → (k : ℕ) → k < periods d → at d.capacity k ≡ at d.capacity 0
 equal_passed d e k l = eqb-true _ _ (not-false _ (none_found (differs d) (periods d) (go _ e) k l))
   where
-    go : (o : Option ℕ) → anywhere o UnequalCapacities ≡ none → o ≡ none
-    go none s = refl
-    go (some j) s = absurd (some-ne-none _ s)
+    go : (o : Option ℕ) → anywhere o UnequalCapacities ≡ None → o ≡ None
+    go None s = refl
+    go (Some j) s = absurd (none-some _ (sym s))
 
 -- 9: no capacity is below what is still to be made
-pub binding_passed : (d : Day) → binding d ≡ none → (k : ℕ) → k < periods d → total d ≤ net_to d k + at d.capacity k
+pub binding_passed : (d : Day) → binding d ≡ None → (k : ℕ) → k < periods d → total d ≤ net_to d k + at d.capacity k
 binding_passed d e k l =
     let free = none_found (binds d) (periods d) (nowhere BindingCapacity _ e) k l in
     omega (arith, net_before d k l, ltb-false (at d.capacity k) (total d - (demand_to d k - d.opening)) free)
 
 -- 15: setups cost nothing
-pub free_passed : (d : Day) → paid_setup d ≡ none → (k : ℕ) → k < periods d → at d.setup k ≡ 0
+pub free_passed : (d : Day) → paid_setup d ≡ None → (k : ℕ) → k < periods d → at d.setup k ≡ 0
 free_passed d e k l =
     omega (arith, ltb-false 0 (at d.setup k) (none_found (paid d) (periods d) (nowhere PaidSetup _ e) k l))
 
 -- 16: every store takes R + Z
-pub store_passed : (d : Day) → low_store d ≡ none → (k : ℕ) → k < periods d → required d ≤ at d.store k
+pub store_passed : (d : Day) → low_store d ≡ None → (k : ℕ) → k < periods d → required d ≤ at d.store k
 store_passed d e k l = ltb-false _ _ (none_found (tight d) (periods d) (nowhere LowStore _ e) k l)
 
 -- what a path relies on that refuses nothing
@@ -220,9 +220,9 @@ pub record Admitted (P : Path) (d : Day) (s : Sizes) : Type 0 where
   pub day : DayLimits P.limit d
   pub room : Roomy P d s
   pub supplied : (k : ℕ) → k < periods d → Passes d k
-  pub own : first (P.own d) ≡ none
+  pub own : first (P.own d) ≡ None
 
-pub admitted : (P : Path) (d : Day) (s : Sizes) → refusal P d s ≡ none → Admitted P d s
+pub admitted : (P : Path) (d : Day) (s : Sizes) → refusal P d s ≡ None → Admitted P d s
 admitted P d s e =
     let one = first_split (day_tests P.limit d) (path_tests P d s) e in
     let two = first_split (memory_tests P d s) (shortage d ∷ P.own d) one.1 in
@@ -235,13 +235,13 @@ admitted P d s e =
     }
 
 -- and the other way round: a day within the limits passes tests 1 to 3, and 4 and 14
-pub lengths_pass : (d : Day) → SameLengths d → bad_lengths d ≡ none
+pub lengths_pass : (d : Day) → SameLengths d → bad_lengths d ≡ None
 lengths_pass d s = simp (eq-eqb _ _ s.capacity, eq-eqb _ _ s.setup, eq-eqb _ _ s.unit, eq-eqb _ _ s.holding, eq-eqb _ _ s.store)
 
-pub tables_pass : (d : Day) → Limits d → first (table_tests d) ≡ none
+pub tables_pass : (d : Day) → Limits d → first (table_tests d) ≡ None
 tables_pass d l = rw (count, lengths_pass d l.lengths, value) refl
   where
-    count : bad_count (periods d) ≡ none
+    count : bad_count (periods d) ≡ None
     count = rw (ne_eqb (periods d) 0 (λ e. omega (arith, l.nonempty)), le-ltb max_periods (periods d) l.few) refl
 
     inside : (k : ℕ) → Within d k → above_limit d k ≡ false
@@ -255,9 +255,9 @@ tables_pass d l = rw (count, lengths_pass d l.lengths, value) refl
           le-ltb _ _ w.store,
         )
 
-    value : bad_value d ≡ none
+    value : bad_value d ≡ None
     value = ap (refuse_at AboveLimit) (nothing_found (above_limit d) (periods d) (λ k h. inside k (l.within k h)))
 
-pub day_passes : {limit : ℕ} (d : Day) → DayLimits limit d → first (day_tests limit d) ≡ none
+pub day_passes : {limit : ℕ} (d : Day) → DayLimits limit d → first (day_tests limit d) ≡ None
 day_passes {limit} d g =
     first_passed (table_tests d) (total_tests limit d) (tables_pass d g.limits) ∙ rw (le-ltb _ _ g.small, le-ltb _ _ g.used) refl

@@ -1,9 +1,8 @@
 -- Each row of the marked days is right. Main statement: `marked_right`. One test is computed over the table; what it gives is the proof.
 -- Assumes nothing.
-use Rattle.std.specs.Prelude.{◌≡◌, refl, Bool, true, false, ℕ, zero, suc, ltb, length}
+use Rattle.std.specs.Prelude.{◌≡◌, refl, Bool, true, false, ℕ, zero, suc, ltb, length, Option, None, Some, option_map}
 use Rattle.std.proofs.Common.{ap, ◌∙◌}
 use Rattle.std.proofs.Math.Logic.Dec
-use Rattle.std.proofs.Math.Option.{Option, none, some, map}
 use Rattle.std.proofs.Math.Decide.{dec_le, dec_lt, ℕ_discrete}
 use Rattle.day.specs.declared.Refusal.{Refusal}
 use Rattle.day.specs.declared.Refusal.TheVariants.{PaidSetup}
@@ -22,15 +21,15 @@ brought d e P s limit room =
     roomy_first P d s room ∙ ap (λ (o : Option Refusal). or_next o (first (P.own d))) (ap (λ (l : ℕ). day_refusal l d) limit ∙ e)
 
 -- the tests of what it brings: nothing; 7 with period i
-abbrev none_brought? : (o : Option Refusal) → Option (o ≡ none)
-none_brought? none = some refl
-none_brought? (some q) = none
+abbrev none_brought? : (o : Option Refusal) → Option (o ≡ None)
+none_brought? None = Some refl
+none_brought? (Some q) = None
 
 -- for the periods before it the capacities are such amounts, as no row has a store limit
-abbrev brought? : (d : Day) (k : ℕ) (o : Option Refusal) → Option ((q : Refusal) × ((o ≡ some q) × (FirstShort d q × (period_of q ≡ suc k))))
-brought? d k none = none
-brought? d k (some q) =
-    map
+abbrev brought? : (d : Day) (k : ℕ) (o : Option Refusal) → Option ((q : Refusal) × ((o ≡ Some q) × (FirstShort d q × (period_of q ≡ suc k))))
+brought? d k None = None
+brought? d k (Some q) =
+    option_map
     (λ p.
     let w = p.1.1 in
     let first : FirstShort d q =
@@ -49,16 +48,16 @@ brought? d k (some q) =
 
 -- the test of what the free path refuses: nothing; 15 with period 1
 abbrev paid? : (o : Option ℕ) (b : Bool) → Option (refuse_at PaidSetup o ≡ refuse b (PaidSetup 1))
-paid? none false = some refl
-paid? none true = none
-paid? (some zero) true = some refl
-paid? (some zero) false = none
-paid? (some (suc k)) b = none
+paid? None false = Some refl
+paid? None true = None
+paid? (Some zero) true = Some refl
+paid? (Some zero) false = None
+paid? (Some (suc k)) b = None
 
 -- the test of a claim
 abbrev right? : (d : Day) (c : Claim) → Option (ClaimHolds d c)
 right? d (planned x c s) =
-    map
+    option_map
     (λ p.
     let q = p.1.1.1 in
     record { given = brought d p.0; paid = p.1.0; stores = p.1.1.0; amounts = q.0; plan = q.1.0; cost = q.1.1.0; setups = q.1.1.1 })
@@ -68,14 +67,14 @@ right? d (planned x c s) =
     (both (sure (ℕ_discrete (length x) (periods d)))
     (both (optimal? d (at x)) (both (sure (ℕ_discrete (cost d (at x)) c)) (sure (ℕ_discrete (setups (periods d) (at x)) s))))))))
 right? d (costs x c) =
-    map (λ p. record { feasible = p.0; cost = p.1 }) (both (sure (keeps? d (periods d) (at x))) (sure (ℕ_discrete (cost d (at x)) c)))
-right? d (refused zero) = none
+    option_map (λ p. record { feasible = p.0; cost = p.1 }) (both (sure (keeps? d (periods d) (at x))) (sure (ℕ_discrete (cost d (at x)) c)))
+right? d (refused zero) = None
 right? d (refused (suc k)) =
-    map
+    option_map
     (λ p. let q = p.0 in record { refusal = q.0; given = brought d q.1.0; first = q.1.1.0; period = q.1.1.1; none = p.1 })
     (both (brought? d k (day_refusal max_total d)) (none? d (periods d)))
 
 -- Every row's claims hold of the written meaning.
 pub marked_right : All (λ r. All (ClaimHolds (day_of_row r)) r.claims) marked
 unfolding iff? implies? both_below below? Dec.and keeps? smaller? precedes? dec_le dec_lt ℕ_discrete
-marked_right = given (all? (λ r. all? (right? (day_of_row r)) r.claims) marked) tt
+marked_right = given (all? (λ r. all? (right? (day_of_row r)) r.claims) marked) refl

@@ -2,13 +2,10 @@
 -- Index k is period k + 1. A mark says of a period whether it is forbidden: 0 where it is allowed.
 -- Main definitions: `Ruled`, what a trial plans; `next`, which period the next trial forbids; `TriedIn`, what so many trials lead to;
 -- `Dropping`, the contract of the call. Assumes nothing.
-use Rattle.std.specs.Prelude.{◌≡◌, Bool, true, false, List, [], ◌∷◌, ◌++◌, ℕ, zero, suc, ◌-◌, ◌≤◌, ◌<◌, ltb, length, drop, replicate, set}
-use Rattle.std.proofs.Math.Option.{Option, none, some}
+use Rattle.std.specs.Prelude.{◌≡◌, Bool, true, false, List, [], ◌∷◌, ◌++◌, ℕ, zero, suc, ◌-◌, ◌≤◌, ◌<◌, ltb, length, drop, replicate, set, Option, None, Some, Result, Ok, Err}
 use Rattle.day.specs.declared.Refusal.{Refusal}
 use Rattle.day.specs.declared.Totals.{Totals}
 use Rattle.day.specs.declared.Trials.{Trials}
-use Rattle.day.specs.declared.BigAnswer.{BigAnswer}
-use Rattle.day.specs.declared.BigAnswer.TheVariants.{Refused, Planned}
 use Rattle.day.specs.Sums.{at, list_of}
 use Rattle.day.specs.Day.{Day, day_of, ends_of, periods, total}
 use Rattle.day.specs.Plan.{cost, setups}
@@ -40,8 +37,8 @@ trial_day marks d = starts_free (allowed marks d) d
 
 -- what the rule of 2.3 gives: amounts for all periods, by which it has served all that is to be made, or nothing, where no amounts are such
 abbrev pub Ruled : Day → Option (List ℕ) → Type 0
-Ruled d none = (x : ℕ → ℕ) → ServedTo d (total d) x → ⊥
-Ruled d (some plan) = (length plan ≡ periods d) × ServedTo d (total d) (at plan)
+Ruled d None = (x : ℕ → ℕ) → ServedTo d (total d) x → ⊥
+Ruled d (Some plan) = (length plan ≡ periods d) × ServedTo d (total d) (at plan)
 
 -- where the trials stand: the marks, the best plan so far, and the round: it has yet to look at the first `ahead` periods, and `dropped` says whether
 -- it has forbidden one of the others
@@ -53,11 +50,11 @@ pub record Tried : Type 0 where
 
 -- the last allowed of the first m periods
 abbrev pub open_at : (mark k : ℕ) → Option ℕ → Option ℕ
-open_at zero k earlier = some k
+open_at zero k earlier = Some k
 open_at (suc _) k earlier = earlier
 
 abbrev pub last_open : (marks : ℕ → ℕ) → ℕ → Option ℕ
-last_open marks zero = none
+last_open marks zero = None
 last_open marks (suc m) = open_at (marks m) m (last_open marks m)
 
 -- the period that is forbidden next, and whether its round has forbidden one before it
@@ -66,18 +63,18 @@ pub record Turn : Type 0 where
   pub dropped : Bool
 
 abbrev pub turn_to : (dropped : Bool) → Option ℕ → Option Turn
-turn_to dropped none = none
-turn_to dropped (some k) = some (record { period = k; dropped = dropped })
+turn_to dropped None = None
+turn_to dropped (Some k) = Some (record { period = k; dropped = dropped })
 
 -- after a round: another one, with none forbidden yet, unless this one has forbidden none
 abbrev pub another_round : (last : Option ℕ) (dropped : Bool) → Option Turn
-another_round last false = none
+another_round last false = None
 another_round last true = turn_to false last
 
 -- the round goes on downwards, or is over
 abbrev pub in_round : (onward last : Option ℕ) (dropped : Bool) → Option Turn
-in_round none last dropped = another_round last dropped
-in_round (some k) last dropped = turn_to dropped (some k)
+in_round None last dropped = another_round last dropped
+in_round (Some k) last dropped = turn_to dropped (Some k)
 
 -- the next of n periods; none where the call stops
 abbrev pub next : ℕ → Tried → Option Turn
@@ -101,12 +98,12 @@ judged s t plan true = done s t plan
 judged s t plan false = undone s t
 
 abbrev pub settled : Day → Tried → Turn → Option (List ℕ) → Tried
-settled d s t none = undone s t
-settled d s t (some plan) = judged s t plan (ltb (cost d (at plan)) (cost d (at s.plan)))
+settled d s t None = undone s t
+settled d s t (Some plan) = judged s t plan (ltb (cost d (at plan)) (cost d (at s.plan)))
 
 -- trial 1: all periods are allowed
 pub record FirstTrial (d : Day) (s : Tried) : Type 0 where
-  pub ruled : Ruled (trial_day s.marks d) (some s.plan)
+  pub ruled : Ruled (trial_day s.marks d) (Some s.plan)
   pub marks : s.marks ≡ replicate (periods d) 0
   pub ahead : s.ahead ≡ periods d
   pub dropped : s.dropped ≡ false
@@ -114,7 +111,7 @@ pub record FirstTrial (d : Day) (s : Tried) : Type 0 where
 -- a further trial
 pub record NextTrial (d : Day) (s r : Tried) : Type 0 where
   pub turn : Turn
-  pub comes : next (periods d) s ≡ some turn
+  pub comes : next (periods d) s ≡ Some turn
   pub outcome : Option (List ℕ)
   pub ruled : Ruled (trial_day (forbidding s turn) d) outcome
   pub is : r ≡ settled d s turn outcome
@@ -129,7 +126,7 @@ TriedIn d (suc (suc t)) s = (q : Tried) × TriedIn d (suc t) q × NextTrial d q 
 pub record Ended (d : Day) (trials used : ℕ) (s : Tried) : Type 0 where
   pub tried : TriedIn d used s
   pub allowed : used ≤ trials
-  pub stops : used < trials → next (periods d) s ≡ none
+  pub stops : used < trials → next (periods d) s ≡ None
 
 -- the call's first refusal: a path's in their order, then 19
 abbrev pub big_refusal : (trials : ℕ) → Day → Sizes → Option Refusal
@@ -144,11 +141,11 @@ pub record BestSoFar (trials : ℕ) (d : Day) (a : Totals) (b : Trials) (before 
   pub free : ℕ
   pub least : LeastCost (starts_free d.capacity d) free
   pub gives : let x = at state.plan in
-      big_figures (Planned a b) ≡ accepted_with (cost d x ∷ setups (periods d) x ∷ used ∷ (cost d x - free) ∷ [])
+      big_figures (Ok (a, b)) ≡ accepted_with (cost d x ∷ setups (periods d) x ∷ used ∷ (cost d x - free) ∷ [])
   pub slots : after.slots ≡ state.plan ++ drop (periods d) before.slots
   pub costs : Cleared (big.cost_cells (periods d) (total d)) before.costs after.costs
 
 -- the contract of the call: where there is a refusal it is the answer, by its number and period, and no cell changes
-abbrev pub Dropping : (trials : ℕ) → Day → Memory → BigAnswer → Memory → Type 0
-Dropping trials d before (Refused r) after = Gives (big_refusal trials d (sizes_of before)) r × (after ≡ before)
-Dropping trials d before (Planned a b) after = (big_refusal trials d (sizes_of before) ≡ none) × BestSoFar trials d a b before after
+abbrev pub Dropping : (trials : ℕ) → Day → Memory → Result (Totals × Trials) Refusal → Memory → Type 0
+Dropping trials d before (Err r) after = Gives (big_refusal trials d (sizes_of before)) r × (after ≡ before)
+Dropping trials d before (Ok p) after = (big_refusal trials d (sizes_of before) ≡ None) × BestSoFar trials d p.0 p.1 before after

@@ -2,20 +2,13 @@
 -- Each answer's figures are defined in its own crate; those of answers that this crate declares here, and the promise of a call that answers with its tests.
 -- Main definitions: `Figures`, `answer_figures`, `equal_figures`, `bounds_figures`, `big_figures`, `Checks`; main statements: `same_values`, `checks_is`,
 -- `is_checks`. Assumes nothing.
-use Rattle.std.specs.Prelude.{◌≡◌, refl, List, [], ◌∷◌, ℕ}
+use Rattle.std.specs.Prelude.{◌≡◌, refl, List, [], ◌∷◌, ℕ, Option, None, Some, Result, Ok, Err}
 use Rattle.std.proofs.Common.{sym, ap, subst}
-use Rattle.std.proofs.Math.Option.{Option, none, some}
 use Rattle.day.specs.declared.Refusal.{Refusal}
-use Rattle.day.specs.declared.Check.{Check}
-use Rattle.day.specs.declared.Check.TheVariants.{Passed, Refused}
-use Rattle.day.specs.declared.Answer.{Answer}
-use Rattle.day.specs.declared.Answer.TheVariants as answer
-use Rattle.day.specs.declared.EqualAnswer.{EqualAnswer}
-use Rattle.day.specs.declared.EqualAnswer.TheVariants as equal_answer
-use Rattle.day.specs.declared.BoundsAnswer.{BoundsAnswer}
-use Rattle.day.specs.declared.BoundsAnswer.TheVariants as bounds_answer
-use Rattle.day.specs.declared.BigAnswer.{BigAnswer}
-use Rattle.day.specs.declared.BigAnswer.TheVariants as big_answer
+use Rattle.day.specs.declared.Totals.{Totals}
+use Rattle.day.specs.declared.Loads.{Loads}
+use Rattle.day.specs.declared.Bounds.{Bounds}
+use Rattle.day.specs.declared.Trials.{Trials}
 use Rattle.day.specs.Refusals.{number_of, period_of, Gives, checked}
 use Rattle.day.specs.Tests.{gives_is, is_gives}
 
@@ -26,34 +19,47 @@ pub record Figures (A : Type 0) : Type 0 where
   pub values : Option (List A)
 
 abbrev pub accepted_with : {A : Type 0} → List A → Figures A
-accepted_with values = record { number = 0; period = 0; values = some values }
+accepted_with values = record { number = 0; period = 0; values = Some values }
 
 abbrev pub refused_with : {A : Type 0} → Refusal → Figures A
-refused_with r = record { number = number_of r; period = period_of r; values = none }
+refused_with r = record { number = number_of r; period = period_of r; values = None }
+
+-- an answer's figures: the values of what it gives, or why it gives nothing
+abbrev pub figures_by : {A E B : Type 0} → (A → List B) → (E → Figures B) → Result A E → Figures B
+figures_by values failed (Ok a) = accepted_with (values a)
+figures_by values failed (Err e) = failed e
 
 -- a path: cost and setups of the plan
-abbrev pub answer_figures : Answer → Figures ℕ
-answer_figures (answer.Refused r) = refused_with r
-answer_figures (answer.Planned t) = accepted_with (t.cost ∷ t.setups ∷ [])
+abbrev pub plan_values : Totals → List ℕ
+plan_values t = t.cost ∷ t.setups ∷ []
+
+abbrev pub answer_figures : Result Totals Refusal → Figures ℕ
+answer_figures = figures_by plan_values refused_with
 
 -- the equal path: the plan's loads too
-abbrev pub equal_figures : EqualAnswer → Figures ℕ
-equal_figures (equal_answer.Refused r) = refused_with r
-equal_figures (equal_answer.Planned t l) = accepted_with (t.cost ∷ t.setups ∷ l.full ∷ l.part ∷ [])
+abbrev pub equal_values : Totals × Loads → List ℕ
+equal_values p = p.0.cost ∷ p.0.setups ∷ p.1.full ∷ p.1.part ∷ []
+
+abbrev pub equal_figures : Result (Totals × Loads) Refusal → Figures ℕ
+equal_figures = figures_by equal_values refused_with
 
 -- needs known as ranges: the least costs for the lowest and for the highest
-abbrev pub bounds_figures : BoundsAnswer → Figures ℕ
-bounds_figures (bounds_answer.Refused r) = refused_with r
-bounds_figures (bounds_answer.Bounded b) = accepted_with (b.lowest ∷ b.highest ∷ [])
+abbrev pub bounds_values : Bounds → List ℕ
+bounds_values b = b.lowest ∷ b.highest ∷ []
+
+abbrev pub bounds_figures : Result Bounds Refusal → Figures ℕ
+bounds_figures = figures_by bounds_values refused_with
 
 -- big days: cost and setups of the plan, the trials used, the gap
-abbrev pub big_figures : BigAnswer → Figures ℕ
-big_figures (big_answer.Refused r) = refused_with r
-big_figures (big_answer.Planned t b) = accepted_with (t.cost ∷ t.setups ∷ b.used ∷ b.gap ∷ [])
+abbrev pub big_values : Totals × Trials → List ℕ
+big_values p = p.0.cost ∷ p.0.setups ∷ p.1.used ∷ p.1.gap ∷ []
+
+abbrev pub big_figures : Result (Totals × Trials) Refusal → Figures ℕ
+big_figures = figures_by big_values refused_with
 
 -- accepted answers with the same figures give the same values
 pub same_values : {A : Type 0} {l m : List A} → accepted_with l ≡ accepted_with m → l ≡ m
-same_values {A} {l} {m} e = let same : some l ≡ some m = ap (λ (f : Figures A). f.values) e in cc
+same_values {A} {l} {m} e = let same : Some l ≡ Some m = ap (λ (f : Figures A). f.values) e in cc
 
 -- one by one
 pub first_value : {A : Type 0} {a b : A} {l m : List A} → accepted_with (a ∷ l) ≡ accepted_with (b ∷ m) → a ≡ b
@@ -63,14 +69,14 @@ pub second_value : {A : Type 0} {a b x y : A} {l m : List A} → accepted_with (
 second_value e = let same = same_values e in cc
 
 -- the promise of a call that answers with its tests alone: its first refusal, by number and period, or that there is none
-abbrev pub Checks : Option Refusal → Check → Type 0
-Checks o Passed = o ≡ none
-Checks o (Refused r) = Gives o r
+abbrev pub Checks : Option Refusal → Result Unit Refusal → Type 0
+Checks o (Ok _) = o ≡ None
+Checks o (Err r) = Gives o r
 
-pub checks_is : (o : Option Refusal) (answer : Check) → Checks o answer → answer ≡ checked o
-checks_is o Passed e = sym (ap checked e)
-checks_is o (Refused r) g = sym (ap checked (gives_is g))
+pub checks_is : (o : Option Refusal) (answer : Result Unit Refusal) → Checks o answer → answer ≡ checked o
+checks_is o (Ok _) e = sym (ap checked e)
+checks_is o (Err r) g = sym (ap checked (gives_is g))
 
-pub is_checks : (o : Option Refusal) (answer : Check) → answer ≡ checked o → Checks o answer
-is_checks none answer e = subst (Checks none) (sym e) refl
-is_checks (some r) answer e = subst (Checks (some r)) (sym e) (is_gives refl)
+pub is_checks : (o : Option Refusal) (answer : Result Unit Refusal) → answer ≡ checked o → Checks o answer
+is_checks None answer e = subst (Checks None) (sym e) refl
+is_checks (Some r) answer e = subst (Checks (Some r)) (sym e) (is_gives refl)

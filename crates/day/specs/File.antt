@@ -8,14 +8,11 @@
 --     kind 5  the stamp: station, and date in days since 1 January 2000 (4 bytes)
 -- The head is kind 5 and then kind 3, each where it is there; the periods follow, then the end.
 -- Main definitions: `Layout`, what a file is; `stamp_in` and `day_in`, the stamp and the day that it holds; `file_of`, the file of these. Assumes nothing.
-use Rattle.std.specs.Prelude.{◌≡◌, ◌⊎◌, Bool, false, not, ◌&&◌, ◌||◌, cond, List, [], ◌∷◌, ◌++◌, ℕ, zero, suc}
+use Rattle.std.specs.Prelude.{◌≡◌, ◌⊎◌, Bool, false, not, ◌&&◌, ◌||◌, cond, List, [], ◌∷◌, ◌++◌, ℕ, zero, suc, Option, None, Some}
 use Rattle.std.specs.Prelude.{◌+◌, ◌*◌, ◌/◌, ◌%◌, ◌<◌, eqb, leb, ltb, length, take, drop}
-use Rattle.std.proofs.Math.Option.{Option, none, some}
 use Rattle.day.specs.declared.Refusal.{Refusal}
 use Rattle.day.specs.declared.Refusal.TheVariants.{UnknownKind, TruncatedFile, WrongEnd, NoSuchPeriod, WrongStamp}
 use Rattle.day.specs.declared.Stamp.{Stamp}
-use Rattle.day.specs.declared.Expected.{Expected}
-use Rattle.day.specs.declared.Expected.TheVariants.{Nothing, Only}
 use Rattle.day.specs.Sums.{at, list_of}
 use Rattle.day.specs.Find.{find}
 use Rattle.day.specs.Day.{Day, periods, max_store}
@@ -111,8 +108,8 @@ pub record Layout (s : List ℕ) (n : ℕ) : Type 0 where
 
 -- how many period records follow the head: where the first record stands that is none. There is one among so many, since each has a byte
 abbrev pub or_zero : Option ℕ → ℕ
-or_zero none = 0
-or_zero (some k) = k
+or_zero None = 0
+or_zero (Some k) = k
 
 abbrev pub periods_in : List ℕ → ℕ
 periods_in s = or_zero (find (λ i. not (is_period s (record_at s i))) (suc (length s)))
@@ -162,11 +159,11 @@ same_stamp t u = eqb t.station u.station && eqb t.date u.date
 abbrev pub has_stamp : Stamp → List ℕ → Bool
 has_stamp t s = is_stamped s && same_stamp (stamp_in s) t
 
-abbrev pub is_expected : Expected → List ℕ → Bool
-is_expected Nothing s = false
-is_expected (Only t) s = has_stamp t s
+abbrev pub is_expected : Option Stamp → List ℕ → Bool
+is_expected None s = false
+is_expected (Some t) s = has_stamp t s
 
-abbrev pub wrong_stamp : Expected → List ℕ → Option Refusal
+abbrev pub wrong_stamp : Option Stamp → List ℕ → Option Refusal
 wrong_stamp expected s = refuse (not (is_expected expected s)) WrongStamp
 
 -- 13: the asked-for period is 0 or above n

@@ -1,13 +1,11 @@
 -- How a plan loads the cell, and the contract of the equal path, whose answer counts it (document 02, 2.6, in place of document 01's "at most one
 -- part-loaded period").
 -- Main definitions: `Run`, `RunLoads`, `loads_through`, `EqualRuns`; `m11_loads` shows them on M11. Assumes nothing.
-use Rattle.std.specs.Prelude.{◌≡◌, refl, Bool, true, false, ◌&&◌, [], ◌∷◌, ◌⊎◌, ◌≢◌, ℕ, ◌+◌, ◌-◌, ◌/◌, ◌%◌, ◌≤◌, ◌<◌, eqb, ltb}
+use Rattle.std.specs.Prelude.{◌≡◌, refl, Bool, true, false, ◌&&◌, [], ◌∷◌, ◌⊎◌, ◌≢◌, ℕ, ◌+◌, ◌-◌, ◌/◌, ◌%◌, ◌≤◌, ◌<◌, eqb, ltb, Result, Ok, Err}
 use Rattle.std.proofs.Common.{arith, lt-ltb, le-ltb, eq-eqb, ne_eqb}
 use Rattle.day.specs.declared.Loads.{Loads}
-use Rattle.day.specs.declared.Answer.{Answer}
-use Rattle.day.specs.declared.Answer.TheVariants as answer
-use Rattle.day.specs.declared.EqualAnswer.{EqualAnswer}
-use Rattle.day.specs.declared.EqualAnswer.TheVariants.{Refused, Planned}
+use Rattle.day.specs.declared.Refusal.{Refusal}
+use Rattle.day.specs.declared.Totals.{Totals}
 use Rattle.day.specs.Sums.{at, sum_to}
 use Rattle.day.specs.Day.{Day, periods}
 use Rattle.day.specs.Plan.{inventory, cost, setups}
@@ -102,19 +100,19 @@ m11_loads = (
 )
 
 -- the equal path's answer as every path has it, without the loads
-abbrev pub path_answer : EqualAnswer → Answer
-path_answer (Refused r) = answer.Refused r
-path_answer (Planned t l) = answer.Planned t
+abbrev pub path_answer : Result (Totals × Loads) Refusal → Result Totals Refusal
+path_answer (Ok p) = Ok p.0
+path_answer (Err r) = Err r
 
 -- what an accepted answer gives is the plan's cost, setups, full-load and part-loaded periods over the day, by the answer's figures
-abbrev pub CountsLoads : Day → (ℕ → ℕ) → EqualAnswer → Type 0
-CountsLoads d x (Refused r) = Unit {0}
-CountsLoads d x (Planned t l) =
+abbrev pub CountsLoads : Day → (ℕ → ℕ) → Result (Totals × Loads) Refusal → Type 0
+CountsLoads d x (Err r) = Unit {0}
+CountsLoads d x (Ok p) =
     let c = at d.capacity in
     let n = periods d in
-    equal_figures (Planned t l) ≡ accepted_with (cost d x ∷ setups n x ∷ full_to c x n ∷ part_to c x n ∷ [])
+    equal_figures (Ok p) ≡ accepted_with (cost d x ∷ setups n x ∷ full_to c x n ∷ part_to c x n ∷ [])
 
 -- the contract of the equal path: that of every path, and the loads of the plan in its slots
-pub record EqualRuns (d : Day) (before : Memory) (r : EqualAnswer) (after : Memory) : Type 0 where
+pub record EqualRuns (d : Day) (before : Memory) (r : Result (Totals × Loads) Refusal) (after : Memory) : Type 0 where
   pub runs : Runs equal d before (path_answer r) after
   pub loads : CountsLoads d (at after.slots) r

@@ -1,8 +1,7 @@
 -- The marked days of document 01, as document 02, 2.2 has them, and its tie row: the table, and the theorem that each row's outcome is what the
 -- meaning and the contracts' refusals say (demands 2 and 3).
 -- Main statement: `marked_right`, in proofs/Marked. Assumes nothing.
-use Rattle.std.specs.Prelude.{◌≡◌, List, [], ◌∷◌, ℕ, ltb, length, replicate}
-use Rattle.std.proofs.Math.Option.{Option, none, some}
+use Rattle.std.specs.Prelude.{◌≡◌, List, [], ◌∷◌, ℕ, ltb, length, replicate, Option, None, Some}
 use Rattle.day.specs.declared.Refusal.{Refusal}
 use Rattle.day.specs.declared.Refusal.TheVariants.{PaidSetup}
 use Rattle.day.specs.Sums.{at}
@@ -66,9 +65,9 @@ Given d o = (P : Path) (s : Sizes) → P.limit ≡ max_total → Roomy P d s →
 -- the plan of the day, with its cost and setups; a path refuses it by its own tests alone, the free path 15 with period 1 where b is above 0,
 -- and none 16
 pub record PlannedAs (d : Day) (x : List ℕ) (c s : ℕ) : Type 0 where
-  pub given : Given d none
+  pub given : Given d None
   pub paid : paid_setup d ≡ refuse (ltb 0 (at d.setup 0)) (PaidSetup 1)
-  pub stores : low_store d ≡ none
+  pub stores : low_store d ≡ None
   pub amounts : length x ≡ periods d
   pub plan : Optimal d (at x)
   pub cost : cost d (at x) ≡ c
@@ -77,7 +76,7 @@ pub record PlannedAs (d : Day) (x : List ℕ) (c s : ℕ) : Type 0 where
 -- there is no plan: every such path gives 7 with period i, counted from 1, the first through which no amounts keep the conditions
 pub record RefusedAt (d : Day) (i : ℕ) : Type 0 where
   pub refusal : Refusal
-  pub given : Given d (some refusal)
+  pub given : Given d (Some refusal)
   pub first : FirstShort d refusal
   pub period : period_of refusal ≡ i
   pub none : (y : ℕ → ℕ) → Feasible d y → ⊥
@@ -93,5 +92,5 @@ All P (a ∷ rest) = P a × All P rest
 
 -- a test for every entry
 abbrev pub all? : {A : Type 0} {P : A → Type 0} → ((a : A) → Option (P a)) → (l : List A) → Option (All P l)
-all? p [] = some tt
+all? p [] = Some tt
 all? p (a ∷ rest) = both (p a) (all? p rest)

@@ -1,13 +1,10 @@
 -- What a caller lends to a path, what the path needs of it and refuses, and what it leaves in it (document 01, "Three paths, one plan";
 -- document 02, 2.3).
 -- Main definitions: `refusal`; `Runs`, the contract of every path that gives the plan of the day (demands 1 to 3). Assumes nothing.
-use Rattle.std.specs.Prelude.{◌≡◌, List, [], ◌∷◌, ◌++◌, ℕ, ◌≤◌, length, drop, replicate}
+use Rattle.std.specs.Prelude.{◌≡◌, List, [], ◌∷◌, ◌++◌, ℕ, ◌≤◌, length, drop, replicate, Option, None, Result, Ok, Err}
 use Rattle.std.proofs.Common.{◌∙◌, le-ltb}
-use Rattle.std.proofs.Math.Option.{Option, none}
 use Rattle.day.specs.declared.Refusal.{Refusal}
 use Rattle.day.specs.declared.Totals.{Totals}
-use Rattle.day.specs.declared.Answer.{Answer}
-use Rattle.day.specs.declared.Answer.TheVariants.{Refused, Planned}
 use Rattle.day.specs.Sums.{at}
 use Rattle.day.specs.Day.{Day, periods, total}
 use Rattle.day.specs.Plan.{Optimal, cost, setups}
@@ -76,12 +73,12 @@ roomy_first P d s room =
     rw (le-ltb _ _ room.costs, le-ltb _ _ room.choices, le-ltb _ _ room.slots) (first_join (day_tests P.limit d ++ (shortage d ∷ [])) (P.own d))
 
 -- and a day of its kind for what the day is, alone
-pub roomy_refusal : (P : Path) (d : Day) (s : Sizes) → Roomy P d s → first (P.own d) ≡ none → refusal P d s ≡ day_refusal P.limit d
+pub roomy_refusal : (P : Path) (d : Day) (s : Sizes) → Roomy P d s → first (P.own d) ≡ None → refusal P d s ≡ day_refusal P.limit d
 roomy_refusal P d s room kind = roomy_first P d s room ∙ rw kind (first_one (day_refusal P.limit d))
 
 -- what is given is the plan's cost and setups, by the answer's figures
 abbrev pub Counts : Day → (ℕ → ℕ) → Totals → Type 0
-Counts d x t = answer_figures (Planned t) ≡ accepted_with (cost d x ∷ setups (periods d) x ∷ [])
+Counts d x t = answer_figures (Ok t) ≡ accepted_with (cost d x ∷ setups (periods d) x ∷ [])
 
 -- the first k cells hold zero, and the later ones what they held
 abbrev pub cleared : ℕ → List ℕ → List ℕ
@@ -100,6 +97,6 @@ pub record Accepted (P : Path) (d : Day) (t : Totals) (before after : Memory) : 
   pub choices : Cleared (P.choice_cells (periods d) (total d)) before.choices after.choices
 
 -- the contract of a path: where there is a refusal it is the answer, by its number and period, and no cell changes
-abbrev pub Runs : Path → Day → Memory → Answer → Memory → Type 0
-Runs P d before (Refused r) after = Gives (refusal P d (sizes_of before)) r × (after ≡ before)
-Runs P d before (Planned t) after = (refusal P d (sizes_of before) ≡ none) × Accepted P d t before after
+abbrev pub Runs : Path → Day → Memory → Result Totals Refusal → Memory → Type 0
+Runs P d before (Err r) after = Gives (refusal P d (sizes_of before)) r × (after ≡ before)
+Runs P d before (Ok t) after = (refusal P d (sizes_of before) ≡ None) × Accepted P d t before after

@@ -1,12 +1,9 @@
 -- Easier days, and needs known as ranges (document 02, 2.9): a lowest and a highest need for each period.
 -- The day that a call reads has the highest needs; the lowest are a table of their own.
 -- Main definitions: `Easier`, `LeastCost`, `Between`; `Bounding`, the contract of the call. Assumes nothing.
-use Rattle.std.specs.Prelude.{◌≡◌, List, [], ◌∷◌, ◌++◌, ℕ, ◌≤◌, ◌<◌, length}
-use Rattle.std.proofs.Math.Option.{Option, none}
+use Rattle.std.specs.Prelude.{◌≡◌, List, [], ◌∷◌, ◌++◌, ℕ, ◌≤◌, ◌<◌, length, Option, None, Result, Ok, Err}
 use Rattle.day.specs.declared.Refusal.{Refusal}
 use Rattle.day.specs.declared.Bounds.{Bounds}
-use Rattle.day.specs.declared.BoundsAnswer.{BoundsAnswer}
-use Rattle.day.specs.declared.BoundsAnswer.TheVariants.{Refused, Bounded}
 use Rattle.day.specs.Sums.{at}
 use Rattle.day.specs.Day.{Day, periods, total, with_demand, max_total}
 use Rattle.day.specs.Plan.{Optimal, cost}
@@ -57,11 +54,11 @@ pub record BothBounded (lowest : List ℕ) (d : Day) (b : Bounds) (before after 
   pub most : ℕ
   pub low : LeastCost (with_demand lowest d) least
   pub high : LeastCost d most
-  pub gives : bounds_figures (Bounded b) ≡ accepted_with (least ∷ most ∷ [])
+  pub gives : bounds_figures (Ok b) ≡ accepted_with (least ∷ most ∷ [])
   pub costs : Cleared (full.cost_cells (periods d) (total d)) before.costs after.costs
   pub choices : Cleared (full.choice_cells (periods d) (total d)) before.choices after.choices
 
 -- the contract of the call: where there is a refusal it is the answer, by its number and period, and no cell changes
-abbrev pub Bounding : List ℕ → Day → Memory → BoundsAnswer → Memory → Type 0
-Bounding lowest d before (Refused r) after = Gives (range_refusal lowest d (sizes_of before)) r × (after ≡ before)
-Bounding lowest d before (Bounded b) after = (range_refusal lowest d (sizes_of before) ≡ none) × BothBounded lowest d b before after
+abbrev pub Bounding : List ℕ → Day → Memory → Result Bounds Refusal → Memory → Type 0
+Bounding lowest d before (Err r) after = Gives (range_refusal lowest d (sizes_of before)) r × (after ≡ before)
+Bounding lowest d before (Ok b) after = (range_refusal lowest d (sizes_of before) ≡ None) × BothBounded lowest d b before after

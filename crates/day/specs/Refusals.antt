@@ -1,15 +1,12 @@
 -- What is refused, and when: document 01's conditions 1 to 9 and document 02's 14 to 19, each as a definition, and the number and period of each refusal.
 -- A call's first refusal in order is `first` of a list of these; laws of such lists are in `Tests`. Conditions 10 to 13 and 20 are in `File`.
 -- Assumes nothing.
-use Rattle.std.specs.Prelude.{◌≡◌, Bool, true, false, not, ◌||◌, List, [], ◌∷◌, ◌++◌, ℕ, suc, ◌+◌, ◌-◌, ◌<◌, eqb, ltb, length}
-use Rattle.std.proofs.Math.Option.{Option, none, some}
+use Rattle.std.specs.Prelude.{◌≡◌, Bool, true, false, not, ◌||◌, List, [], ◌∷◌, ◌++◌, ℕ, suc, ◌+◌, ◌-◌, ◌<◌, eqb, ltb, length, Option, None, Some, Result, Ok, Err}
 use Rattle.day.specs.declared.Refusal.{Refusal}
 use Rattle.day.specs.declared.Refusal.TheVariants.{PeriodCount, TableLength, AboveLimit, TotalDemand, ShortArea, FewSlots, Shortage}
 use Rattle.day.specs.declared.Refusal.TheVariants.{UnequalCapacities, BindingCapacity}
 use Rattle.day.specs.declared.Refusal.TheVariants.{UnknownKind, TruncatedFile, WrongEnd, NoSuchPeriod, SurplusInventory, PaidSetup, LowStore}
 use Rattle.day.specs.declared.Refusal.TheVariants.{OpeningInventory, ReversedRange, NoTrials, WrongStamp}
-use Rattle.day.specs.declared.Check.{Check}
-use Rattle.day.specs.declared.Check.TheVariants.{Passed, Refused}
 use Rattle.day.specs.Sums.{at, capped_to}
 use Rattle.day.specs.Find.{find}
 use Rattle.day.specs.Day.{Day, periods, max_periods, max_demand, max_capacity, max_setup, max_rate, max_half_rate, max_store}
@@ -64,34 +61,34 @@ period_of WrongStamp = 0
 
 -- the refusal, where its condition holds
 abbrev pub refuse : Bool → Refusal → Option Refusal
-refuse true r = some r
-refuse false r = none
+refuse true r = Some r
+refuse false r = None
 
 -- the refusal with the first period in which its condition holds; index k is period k + 1
 abbrev pub refuse_at : (ℕ → Refusal) → Option ℕ → Option Refusal
-refuse_at r none = none
-refuse_at r (some k) = some (r (suc k))
+refuse_at r None = None
+refuse_at r (Some k) = Some (r (suc k))
 
 -- the first of several
 abbrev pub or_next : Option Refusal → Option Refusal → Option Refusal
-or_next none o = o
-or_next (some r) o = some r
+or_next None o = o
+or_next (Some r) o = Some r
 
 abbrev pub first : List (Option Refusal) → Option Refusal
-first [] = none
+first [] = None
 first (o ∷ rest) = or_next o (first rest)
 
 -- r is given where o is a call's first refusal in order: it has the documents' number and period of that one, which fix it (`gives_is`)
 pub record Gives (o : Option Refusal) (r : Refusal) : Type 0 where
   pub first : Refusal
-  pub is : o ≡ some first
+  pub is : o ≡ Some first
   pub number : number_of r ≡ number_of first
   pub period : period_of r ≡ period_of first
 
 -- what a call's tests answer
-abbrev pub checked : Option Refusal → Check
-checked none = Passed
-checked (some r) = Refused r
+abbrev pub checked : Option Refusal → Result Unit Refusal
+checked None = Ok tt
+checked (Some r) = Err r
 
 -- 1: n is 0 or above 96
 abbrev pub bad_count : ℕ → Option Refusal
@@ -168,8 +165,8 @@ abbrev pub differs : Day → ℕ → Bool
 differs d k = not (eqb (at d.capacity k) (at d.capacity 0))
 
 abbrev pub anywhere : Option ℕ → Refusal → Option Refusal
-anywhere none r = none
-anywhere (some k) r = some r
+anywhere None r = None
+anywhere (Some k) r = Some r
 
 abbrev pub unequal : Day → Option Refusal
 unequal d = anywhere (find (differs d) (periods d)) UnequalCapacities

@@ -1,9 +1,8 @@
 -- A plain search over all plans of a small day. A test gives a proof, or nothing; that it gives one is found by computing it.
 -- Main statement: `optimal?`, for the plan of a day; `none?`, for a day that has none. Assumes nothing.
-use Rattle.std.specs.Prelude.{◌≡◌, refl, List, [], ◌∷◌, ℕ, zero, suc, ◌+◌, ◌≤◌, ◌<◌}
-use Rattle.std.proofs.Common.{sym, ◌∙◌, ⊎_elim, eq-or-lt_of_le, le_of_suc-le-suc, arith}
+use Rattle.std.specs.Prelude.{◌≡◌, refl, List, [], ◌∷◌, ℕ, zero, suc, ◌+◌, ◌≤◌, ◌<◌, Option, None, Some, option_map, IsSome}
+use Rattle.std.proofs.Common.{true≢false, sym, ◌∙◌, ⊎_elim, eq-or-lt_of_le, le_of_suc-le-suc, arith}
 use Rattle.std.proofs.Math.Logic.Dec
-use Rattle.std.proofs.Math.Option.{Option, none, some, map, IsSome}
 use Rattle.std.proofs.Math.Decide.{dec_le, dec_lt, ℕ_discrete}
 use Rattle.day.specs.Sums.{at, sum_to, below, sum_ext, list_of, at-list_of}
 use Rattle.day.specs.Day.{Day, periods, demand_to, required}
@@ -11,38 +10,38 @@ use Rattle.day.specs.Plan.{inventory, cost_at, cost, KeepsTo, Feasible, Smaller,
 
 -- a test that passed gives its proof
 pub given : {A : Type 0} (o : Option A) → IsSome o → A
-given none t = absurd t
-given (some a) t = a
+given None t = absurd (true≢false (sym t))
+given (Some a) t = a
 
 -- tests: of what is decided; of two facts; of a fact that is wanted only where another holds
 abbrev pub sure : {A : Type 0} → Dec A → Option A
-sure (yes a) = some a
-sure (no h) = none
+sure (yes a) = Some a
+sure (no h) = None
 
 abbrev pub both : {A B : Type 0} → Option A → Option B → Option (A × B)
-both none o = none
-both (some a) none = none
-both (some a) (some b) = some (a, b)
+both None o = None
+both (Some a) None = None
+both (Some a) (Some b) = Some (a, b)
 
 abbrev pub only_if : {A B : Type 0} → Dec A → Option B → Option (A → B)
-only_if (no h) o = some (λ a. absurd (h a))
-only_if (yes a) none = none
-only_if (yes a) (some b) = some (λ _. b)
+only_if (no h) o = Some (λ a. absurd (h a))
+only_if (yes a) None = None
+only_if (yes a) (Some b) = Some (λ _. b)
 
 -- of a fact about 0 .. m
 pub at_most : {P : ℕ → Type 0} (m : ℕ) → ((v : ℕ) → v ≤ m → P v) × P (suc m) → (v : ℕ) → v ≤ suc m → P v
 at_most m p v l = ⊎_elim (λ (e : v ≡ suc m). rw e p.1) (λ h. p.0 v (le_of_suc-le-suc h)) (eq-or-lt_of_le l)
 
 abbrev pub up_to : {P : ℕ → Type 0} → ((v : ℕ) → Option (P v)) → (m : ℕ) → Option ((v : ℕ) → v ≤ m → P v)
-up_to p zero = map (λ q v l. let e : v ≡ 0 = omega arith in rw e q) (p 0)
-up_to p (suc m) = map (at_most m) (both (up_to p m) (p (suc m)))
+up_to p zero = option_map (λ q v l. let e : v ≡ 0 = omega arith in rw e q) (p 0)
+up_to p (suc m) = option_map (at_most m) (both (up_to p m) (p (suc m)))
 
 -- of a fact about every list of n amounts, of which the k-th is at most c k
 abbrev pub every_plan : {P : List ℕ → Type 0} → ((l : List ℕ) → Option (P l)) → (c : ℕ → ℕ) (n : ℕ)
     → Option ((y : ℕ → ℕ) → ((k : ℕ) → k < n → y k ≤ c k) → P (list_of y n))
-every_plan p c zero = map (λ q y h. q) (p [])
+every_plan p c zero = option_map (λ q y h. q) (p [])
 every_plan p c (suc n) =
-    map
+    option_map
     (λ all y h. all (y 0) (h 0 (omega arith)) (λ k. y (suc k)) (λ k l. h (suc k) (omega arith)))
     (up_to (λ v. every_plan (λ rest. p (v ∷ rest)) (λ k. c (suc k)) n) (c 0))
 
@@ -115,7 +114,7 @@ module _ (d : Day) (x y : ℕ → ℕ) (same : (k : ℕ) → k < periods d → x
 abbrev pub every_kept : (d : Day) (i : ℕ) {P : (ℕ → ℕ) → Type 0} → ((y : ℕ → ℕ) → Option (P y))
     → Option ((y : ℕ → ℕ) → KeepsTo d i y → P (at (list_of y i)))
 every_kept d i p =
-    map
+    option_map
     (λ all y f. all y f.within (kept_alike d i y (at (list_of y i)) (λ k l. sym (at-list_of y i k l)) f))
     (every_plan (λ l. only_if (keeps? d i (at l)) (p (at l))) (at d.capacity) i)
 
@@ -134,10 +133,10 @@ precedes_all d x all y f =
 -- A plan that is feasible, and precedes every feasible plan that the search meets, is the plan of the day.
 abbrev pub optimal? : (d : Day) (x : ℕ → ℕ) → Option (Optimal d x)
 optimal? d x =
-    map
+    option_map
     (λ p. record { feasible = p.0; first = precedes_all d x p.1 })
     (both (sure (keeps? d (periods d) x)) (every_kept d (periods d) (λ y. sure (precedes? (cost d) (periods d) x y))))
 
 -- Where the search meets no amounts that keep the conditions through i, there are none.
 abbrev pub none? : (d : Day) (i : ℕ) → Option ((y : ℕ → ℕ) → KeepsTo d i y → ⊥)
-none? d i = every_kept d i {P = λ _. ⊥} (λ y. none)
+none? d i = every_kept d i {P = λ _. ⊥} (λ y. None)

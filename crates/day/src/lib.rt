@@ -2,6 +2,8 @@
 #![tactic(auto)]
 
 ghost use Rattle.std.specs.Prelude.{◌≡◌};
+ghost use Rattle.day.specs.Day.{periods};
+ghost use Rattle.day.specs.Lent.{lent_day, entries_at, HasPeriod};
 ghost use Rattle.day.specs.Refusals.{number_of, period_of};
 
 // Why a call is refused, with the period that it names, where it names one.
@@ -86,13 +88,6 @@ impl Refusal {
     }
 }
 
-// What the tests of a call say: it goes on, or the first refusal.
-#[derive(Clone, Copy)]
-pub enum Check {
-    Passed,
-    Refused(Refusal),
-}
-
 // The paths (document 01, "Three paths, one plan"; document 02, 2.3, 2.10); `path_of` gives what each needs and tests.
 #[derive(Clone, Copy)]
 pub enum PathKind {
@@ -110,18 +105,59 @@ pub struct Ends {
     pub closing: u16,
 }
 
+// A day as a call is lent it: its tables, with one entry a period, and its ends. In the documents' words: need r, capacity c, start cost b, unit
+// cost p, upkeep h, store limit s (document 02, 2.5).
+#[derive(Clone, Copy)]
+pub struct Day<'a> {
+    pub demand: &'a [u16],
+    pub capacity: &'a [u16],
+    pub setup: &'a [u32],
+    pub unit: &'a [u32],
+    pub holding: &'a [u32],
+    pub store: &'a [u16],
+    pub ends: Ends,
+}
+
+// The entries of one period.
+#[derive(Clone, Copy)]
+pub struct Entries {
+    pub demand: u16,
+    pub capacity: u16,
+    pub setup: u32,
+    pub unit: u32,
+    pub holding: u32,
+    pub store: u16,
+}
+
+impl<'a> Day<'a> {
+    // n
+    pub fn periods(self) -> usize
+        ensures { result ≡ periods (lent_day self.entry) }
+    {
+        self.demand.len()
+    }
+
+    // The entries of the period at index i, of tables of one length.
+    pub fn entries(self, i: usize) -> Entries
+        requires { HasPeriod (lent_day self) i }
+        ensures { result ≡ entries_at (lent_day self.entry) i }
+    {
+        Entries {
+            demand: self.demand[i],
+            capacity: self.capacity[i],
+            setup: self.setup[i],
+            unit: self.unit[i],
+            holding: self.holding[i],
+            store: self.store[i],
+        }
+    }
+}
+
 // The station and the day that a file is for, in days since 1 January 2000 (document 02, 2.12: the pair).
 #[derive(Clone, Copy)]
 pub struct Stamp {
     pub station: u16,
     pub date: u16,
-}
-
-// The stamp that a reader expects. Where that is nothing, no file has it.
-#[derive(Clone, Copy)]
-pub enum Expected {
-    Nothing,
-    Only(Stamp),
 }
 
 // A plan's cost and its setups (document 01: starts).
@@ -131,25 +167,11 @@ pub struct Totals {
     pub setups: u64,
 }
 
-// What a path answers; the plan itself is in the lent slots.
-#[derive(Clone, Copy)]
-pub enum Answer {
-    Refused(Refusal),
-    Planned(Totals),
-}
-
 // How many periods of a plan are full-load periods, and how many are part-loaded (document 02, 2.6).
 #[derive(Clone, Copy)]
 pub struct Loads {
     pub full: u64,
     pub part: u64,
-}
-
-// What the equal path answers: as every path, and the plan's loads.
-#[derive(Clone, Copy)]
-pub enum EqualAnswer {
-    Refused(Refusal),
-    Planned(Totals, Loads),
 }
 
 // The least cost of a day with its lowest needs, and with its highest (document 02, 2.9).
@@ -159,23 +181,9 @@ pub struct Bounds {
     pub highest: u64,
 }
 
-// What the call on needs known as ranges answers.
-#[derive(Clone, Copy)]
-pub enum BoundsAnswer {
-    Refused(Refusal),
-    Bounded(Bounds),
-}
-
 // How many trials a big day took, and how far its cost lies above the least with all starts free (document 02, 2.10).
 #[derive(Clone, Copy)]
 pub struct Trials {
     pub used: u64,
     pub gap: u64,
-}
-
-// What the call on big days answers; the plan itself is in the lent slots.
-#[derive(Clone, Copy)]
-pub enum BigAnswer {
-    Refused(Refusal),
-    Planned(Totals, Trials),
 }

@@ -1,8 +1,7 @@
 -- The greedy rule as a loop computes it gives the optimal plan where all setups are free, and nothing only where no amounts keep the rules.
 -- The rule is `greedy` of specs/Batches. Main statements: `greedy_right`, `greedy_covered`. Assumes nothing.
-use Rattle.std.specs.Prelude.{◌≡◌, refl, List, ℕ, zero, suc, ◌+◌, ◌-◌, ◌≤◌, ◌<◌, length, drop, set, replicate}
+use Rattle.std.specs.Prelude.{◌≡◌, refl, List, ℕ, zero, suc, ◌+◌, ◌-◌, ◌≤◌, ◌<◌, length, drop, set, replicate, Option, None, Some}
 use Rattle.std.proofs.Common.{◌∙◌, le_of_suc-le-suc, arith, length-set, length-append, length-drop, get_or-set_same, get_or-set_other, drop-set-lt}
-use Rattle.std.proofs.Math.Option.{Option, none, some}
 use Rattle.std.proofs.lemmas.List.{length-replicate, get_or-replicate}
 use Rattle.std.proofs.Math.ListN.{get_or-append}
 use Rattle.day.specs.Sums.{at}
@@ -36,8 +35,8 @@ module _ (M : Model) (rising : Rising M) (unlimited : Unlimited M) (n : ℕ) (fr
 
   -- what the rule has come to: progress, or nothing, and then no plan is
   abbrev Reached : ℕ → Option (List ℕ) → Type 0
-  Reached t none = (y : ℕ → ℕ) → OptimalTo M n (M.floor n) y → ⊥
-  Reached t (some g) = Slots t g
+  Reached t None = (y : ℕ → ℕ) → OptimalTo M n (M.floor n) y → ⊥
+  Reached t (Some g) = Slots t g
 
   nothing_left : (d t : ℕ) (g : List ℕ) → t + 0 ≡ M.floor d → Slots t g → Reached (M.floor d) (serve (key M n) M.capacity d 0 g)
   nothing_left d t g e s =
@@ -46,7 +45,7 @@ module _ (M : Model) (rising : Rising M) (unlimited : Unlimited M) (n : ℕ) (fr
 
   -- a batch more
   batch_more : (d t w k : ℕ) (g : List ℕ) → d ≤ n → ((i : ℕ) → i < d → M.floor i ≤ t) → t + w ≡ M.floor d → Slots t g
-      → Sources (key M n) M.capacity (at g) d (some k)
+      → Sources (key M n) M.capacity (at g) d (Some k)
       → let b = batch M.capacity g k w in Slots (b + t) (set g k (b + at g k))
   batch_more d t w k g dn before e s best =
       let b : ℕ = batch M.capacity g k w in
@@ -76,10 +75,10 @@ module _ (M : Model) (rising : Rising M) (unlimited : Unlimited M) (n : ℕ) (fr
           → ((v r : ℕ) (h : List ℕ) → v ≤ turns → r + v ≡ M.floor d → ((i : ℕ) → i < d → M.floor i ≤ r) → Slots r h
           → Reached (M.floor d) (serve (key M n) M.capacity d v h))
           → Reached (M.floor d) (serve (key M n) M.capacity d (suc w) g)
-      go none q full old =
+      go None q full old =
           rw (serve_stuck (key M n) M.capacity d (suc w) g (omega arith) q)
           (λ y best. no_plan M rising unlimited n free t d (at g) (record { progress = s.progress; inside = dn; before = before }) y best full (omega arith))
-      go (some k) q best old =
+      go (Some k) q best old =
           let b : ℕ = batch M.capacity g k (suc w) in
           let some-b = batch_some (key M n) M.capacity d g k (suc w) best (omega arith) in
           rw (serve_turn (key M n) M.capacity d (suc w) g k (omega arith) best)
@@ -89,8 +88,8 @@ module _ (M : Model) (rising : Rising M) (unlimited : Unlimited M) (n : ℕ) (fr
   module _ (need : ℕ → ℕ) (adds : Adds M n need) where
     next_right : (d : ℕ) → d < n → (o : Option (List ℕ)) → Reached (M.floor d) o
         → Reached (M.floor (suc d)) (after o (serve (key M n) M.capacity (suc d) (need d)))
-    next_right d l none r = r
-    next_right d l (some g) s =
+    next_right d l None r = r
+    next_right d l (Some g) s =
         serve_right (suc d) l (need d) (need d) (M.floor d) g (omega arith) (adds d l) (λ i h. floor_grows M rising i d (le_of_suc-le-suc h)) s
 
     -- every need in turn
@@ -101,8 +100,8 @@ module _ (M : Model) (rising : Rising M) (unlimited : Unlimited M) (n : ℕ) (fr
     greedy_to_right (suc d) l = next_right d l (greedy_to (key M n) M.capacity need d slots) (greedy_to_right d (omega arith))
 
     solves : (o : Option (List ℕ)) → Reached (M.floor n) o → Solves M n slots o
-    solves none r = λ y f. let w = optimal_exists M n (M.floor n) y f in r w.0 w.1
-    solves (some g) s = record { each = s.each; rest = s.rest; optimal = done_optimal M rising unlimited n free (at g) s.progress }
+    solves None r = λ y f. let w = optimal_exists M n (M.floor n) y f in r w.0 w.1
+    solves (Some g) s = record { each = s.each; rest = s.rest; optimal = done_optimal M rising unlimited n free (at g) s.progress }
 
     -- The rule gives the plan, and nothing only where no amounts keep the rules.
     pub greedy_right : Solves M n slots (greedy M n need slots)
@@ -110,12 +109,12 @@ module _ (M : Model) (rising : Rising M) (unlimited : Unlimited M) (n : ℕ) (fr
     greedy_right = solves (greedy M n need slots) (greedy_to_right n (omega arith))
 
     given : (o : Option (List ℕ)) → Solves M n slots o → (y : ℕ → ℕ) → FeasibleTo M n (M.floor n) y
-        → (g : List ℕ) × (o ≡ some g) × Filled M n slots g
-    given none s y f = absurd (s y f)
-    given (some g) s y f = (g, refl, s)
+        → (g : List ℕ) × (o ≡ Some g) × Filled M n slots g
+    given None s y f = absurd (s y f)
+    given (Some g) s y f = (g, refl, s)
 
     -- It gives the plan where every floor can be reached, which is what refusal 7 tests.
-    pub greedy_covered : Covered M n → (g : List ℕ) × (greedy M n need slots ≡ some g) × Filled M n slots g
+    pub greedy_covered : Covered M n → (g : List ℕ) × (greedy M n need slots ≡ Some g) × Filled M n slots g
     greedy_covered enough =
         let r = interval M rising n enough (M.floor n) (omega arith) (enough n (omega arith)) in
         given (greedy M n need slots) greedy_right r.0 r.1

@@ -2,9 +2,9 @@
 -- Main statements: `planned_iff`, `refused_first` (demand 2), `cheapest_first` (demand 3), which stand for the full path as `full_planned_iff`,
 -- `full_refused_first`, `full_cheapest_first`; `free_in_turn_ends`, `free_in_turn` (document 02, 2.3: the rule).
 -- Assumes nothing.
-use Rattle.std.specs.Prelude.{◌≡◌, refl, [], ◌∷◌, ◌↔◌, ℕ, ◌<◌}
+use Rattle.std.proofs.lemmas.Option.{none-some}
+use Rattle.std.specs.Prelude.{◌≡◌, refl, [], ◌∷◌, ◌↔◌, ℕ, ◌<◌, None}
 use Rattle.std.proofs.Common.{sym, ◌∙◌, arith}
-use Rattle.std.proofs.Math.Option.{none, none-ne-some}
 use Rattle.day.specs.declared.Refusal.{Refusal}
 use Rattle.day.specs.declared.Totals.{Totals}
 use Rattle.day.specs.declared.Answer.{Answer}
@@ -30,7 +30,7 @@ use Rattle.theory.proofs.Demands.{plan_unique, shortage_iff, shortage_names}
 use Rattle.theory.specs.Calls.{IsPlan, CheapestFirst}
 
 -- A day within the limits (1 to 4, 14) and of the path's kind, with memory that is long enough: only 7 can be refused.
-module _ (P : Path) (d : Day) (m : Memory) (limits : DayLimits P.limit d) (room : Roomy P d (sizes_of m)) (kind : first (P.own d) ≡ none) where
+module _ (P : Path) (d : Day) (m : Memory) (limits : DayLimits P.limit d) (room : Roomy P d (sizes_of m)) (kind : first (P.own d) ≡ None) where
   pub only_shortage : refusal P d (sizes_of m) ≡ shortage d
   only_shortage =
       roomy_refusal P d (sizes_of m) room kind
@@ -39,7 +39,7 @@ module _ (P : Path) (d : Day) (m : Memory) (limits : DayLimits P.limit d) (room 
   -- Demand 2: the answer is a plan exactly if some amounts keep the conditions.
   pub planned_iff : (r : Answer) (after : Memory) → Runs P d m r after → IsPlan r ↔ ((x : ℕ → ℕ) × Feasible d x)
   planned_iff (Refused q) after runs =
-      (λ none. absurd none, λ w. none-ne-some q (sym ((shortage_iff d (limits_fit limits)).1 w) ∙ (sym only_shortage ∙ gives_is runs.0)))
+      (λ empty. absurd empty, λ w. none-some q (sym ((shortage_iff d (limits_fit limits)).1 w) ∙ (sym only_shortage ∙ gives_is runs.0)))
   planned_iff (Planned t) after runs = (λ _. (at after.slots, runs.1.plan.feasible), λ _. tt)
 
   -- Demand 2: otherwise it is refusal 7 with the first period for which no amounts up to it keep the conditions through it.

@@ -2,9 +2,8 @@
 -- Main statements: `plan_uses`, `feasible_iff`, `shortage_iff`, `shortage_names` (demand 2), on days whose stores can't bind `loose_feasible_iff`,
 -- `loose_names`; `optimal_exists`, `plan_unique` (demand 3).
 -- Assumes nothing.
-use Rattle.std.specs.Prelude.{◌≡◌, refl, ◌↔◌, ℕ, suc, ◌+◌, ◌≤◌, ◌<◌}
+use Rattle.std.specs.Prelude.{◌≡◌, refl, ◌↔◌, ℕ, suc, ◌+◌, ◌≤◌, ◌<◌, None, Some}
 use Rattle.std.proofs.Common.{ap, arith, le-ltb}
-use Rattle.std.proofs.Math.Option.{none, some}
 use Rattle.std.proofs.Math.Decide.{dec_lt}
 use Rattle.day.specs.declared.Refusal.{Refusal}
 use Rattle.day.specs.declared.Refusal.TheVariants.{Shortage}
@@ -27,7 +26,7 @@ pub plan_unique : (d : Day) (x y : ℕ → ℕ) → Optimal d x → Optimal d y 
 plan_unique d x y o q = precedes_anti (cost d) (periods d) x y (o.first y q.feasible) (q.first x o.feasible)
 
 -- Demand 2: refusal 14 is given to no day that has a plan, which uses A up.
-pub plan_uses : (d : Day) (x : ℕ → ℕ) → Feasible d x → bad_opening d ≡ none
+pub plan_uses : (d : Day) (x : ℕ → ℕ) → Feasible d x → bad_opening d ≡ None
 plan_uses d x f = rw (le-ltb (required d) d.opening (omega (arith, f.ends refl))) refl
 
 -- a first period in other words: where failing means failing so, and passing up to a period means passing so
@@ -58,14 +57,14 @@ module _ (d : Day) (fits : Fits d) where
       (w.0, (store_plan d fits room w.0).1 w.1)
 
   -- Demand 2: refusal 7 is given exactly if no plan exists.
-  pub shortage_iff : (shortage d ≡ none) ↔ ((x : ℕ → ℕ) × Feasible d x)
+  pub shortage_iff : (shortage d ≡ None) ↔ ((x : ℕ → ℕ) × Feasible d x)
   shortage_iff = (
     λ e. feasible_iff.1 (shortage_passed d e),
     λ w. ap (refuse_at Shortage) (nothing_found (short d) (periods d) (λ k l. (passes_iff d k).1 (feasible_iff.0 w k l))),
   )
 
   -- Demand 2: and then it names the first period for which no amounts up to it keep the conditions through it.
-  pub shortage_names : (r : Refusal) → shortage d ≡ some r → FirstShort d r
+  pub shortage_names : (r : Refusal) → shortage d ≡ Some r → FirstShort d r
   shortage_names r e =
       first_by d r (shortage_found d r e)
       (λ k l fails x h. fails ((keeps_iff d fits (suc k) l).0 (x, h) k (omega arith)))
@@ -80,7 +79,7 @@ loose_feasible_iff d loose = (
 )
 
 -- and refusal 7 names the first period in which more must.
-pub loose_names : (d : Day) → Loose d → (r : Refusal) → shortage d ≡ some r → FirstAbove d r
+pub loose_names : (d : Day) → Loose d → (r : Refusal) → shortage d ≡ Some r → FirstAbove d r
 loose_names d loose r e = first_by d r (shortage_found d r e) exceeds (λ k l pass. (passes_loose d loose k l).0 (pass k (omega arith)))
   where
     exceeds : (k : ℕ) → k < periods d → (Passes d k → ⊥) → capacity_to d (suc k) < net_to d (suc k)

@@ -3,9 +3,9 @@
 -- best plan so far keeps the conditions of the day; `tried_one`, so many trials lead to one state; `ended_cheaper`, more allowed trials never lead to a
 -- dearer plan; `ended_one`, the trials end in one way; `first_optimal`, `free_least`, trial 1 has the least cost with all starts free, which no plan of
 -- the day undercuts. Assumes nothing.
-use Rattle.std.specs.Prelude.{◌≡◌, refl, Bool, true, false, List, ℕ, zero, suc, ◌≤◌, ◌<◌, ltb, length, set, replicate}
+use Rattle.std.proofs.lemmas.Option.{none-some, same_Some}
+use Rattle.std.specs.Prelude.{◌≡◌, refl, Bool, true, false, List, ℕ, zero, suc, ◌≤◌, ◌<◌, ltb, length, set, replicate, Option, None, Some}
 use Rattle.std.proofs.Common.{sym, ap, ap₂, ◌∙◌, subst, arith, length-set, ext_get_or, get_or-set_same, get_or-set_other, ltb-true}
-use Rattle.std.proofs.Math.Option.{Option, none, some, none-ne-some, some-injective}
 use Rattle.std.proofs.Math.Decide.{dec_lt, ℕ_discrete}
 use Rattle.std.proofs.lemmas.List.{length-replicate, get_or-replicate}
 use Rattle.std.proofs.Math.ListN.{get_or-eq_default}
@@ -51,12 +51,12 @@ served_alike d (suc t) x y same (w, served, next) = (
 -- On a day without setup cost whose stores can't bind the rule gives just that.
 module _ (d : Day) (loose : Loose d) (free : Free (model_of (problem_of d)) (periods d)) where
   pub ruled_plans : (o : Option (List ℕ)) → Ruled d o → Plans d o
-  ruled_plans none r = λ x f. let w = in_turn_serves d loose free x f in r w.0 w.1
-  ruled_plans (some plan) r = (r.0, in_turn_optimal d loose free (at plan) r.1)
+  ruled_plans None r = λ x f. let w = in_turn_serves d loose free x f in r w.0 w.1
+  ruled_plans (Some plan) r = (r.0, in_turn_optimal d loose free (at plan) r.1)
 
   pub plans_ruled : (o : Option (List ℕ)) → Plans d o → Ruled d o
-  plans_ruled none p = λ x served. p x (in_turn_optimal d loose free x served).feasible
-  plans_ruled (some plan) (size, plan-of) =
+  plans_ruled None p = λ x served. p x (in_turn_optimal d loose free x served).feasible
+  plans_ruled (Some plan) (size, plan-of) =
       let w = in_turn_serves d loose free (at plan) plan-of.feasible in
       let same : (k : ℕ) → k < periods d → w.0 k ≡ at plan k =
       plan_unique d w.0 (at plan) (in_turn_optimal d loose free w.0 w.1) plan-of in
@@ -70,13 +70,13 @@ module _ (d : Day) (loose : Loose d) (free : Free (model_of (problem_of d)) (per
 
   -- there is one outcome
   ruled_one : (o p : Option (List ℕ)) → Ruled d o → Ruled d p → o ≡ p
-  ruled_one none none r q = refl
-  ruled_one none (some h) r q = absurd (r (at h) q.1)
-  ruled_one (some g) none r q = absurd (q (at g) r.1)
-  ruled_one (some g) (some h) r q =
+  ruled_one None None r q = refl
+  ruled_one None (Some h) r q = absurd (r (at h) q.1)
+  ruled_one (Some g) None r q = absurd (q (at g) r.1)
+  ruled_one (Some g) (Some h) r q =
       let same =
       plan_unique d (at g) (at h) (in_turn_optimal d loose free (at g) r.1) (in_turn_optimal d loose free (at h) q.1) in
-      ap some (ext_get_or 0 g h (r.0 ∙ sym q.0) (λ k l. same k (omega (arith, r.0))))
+      ap Some (ext_get_or 0 g h (r.0 ∙ sym q.0) (λ k l. same k (omega (arith, r.0))))
 
 -- The day of a trial.
 module _ (d : Day) where
@@ -179,26 +179,26 @@ module _ (d : Day) where
 abbrev Allowed : (marks : ℕ → ℕ) → ℕ → ℕ → Type 0
 Allowed marks m k = (k < m) × (marks k ≡ 0)
 
-open_allowed : (marks : ℕ → ℕ) (m k : ℕ) → last_open marks m ≡ some k → Allowed marks m k
-open_allowed marks zero k e = absurd (none-ne-some k e)
+open_allowed : (marks : ℕ → ℕ) (m k : ℕ) → last_open marks m ≡ Some k → Allowed marks m k
+open_allowed marks zero k e = absurd (none-some k e)
 open_allowed marks (suc m) k e = go (marks m) refl e (open_allowed marks m k)
   where
-    go : (mark : ℕ) → marks m ≡ mark → open_at mark m (last_open marks m) ≡ some k → (last_open marks m ≡ some k → Allowed marks m k)
+    go : (mark : ℕ) → marks m ≡ mark → open_at mark m (last_open marks m) ≡ Some k → (last_open marks m ≡ Some k → Allowed marks m k)
         → Allowed marks (suc m) k
-    go zero z e old = let same = some-injective m k e in (omega arith, ap marks (sym same) ∙ z)
+    go zero z e old = let same = same_Some m k e in (omega arith, ap marks (sym same) ∙ z)
     go (suc _) z e old = let w = old e in (omega (arith, w.0), w.1)
 
-turn_has : (P : ℕ → Type 0) (dropped : Bool) (o : Option ℕ) (t : Turn) → ((k : ℕ) → o ≡ some k → P k) → turn_to dropped o ≡ some t → P t.period
-turn_has P dropped none t has e = absurd (none-ne-some t e)
-turn_has P dropped (some k) t has e = subst P (ap (λ (t : Turn). t.period) (some-injective _ t e)) (has k refl)
+turn_has : (P : ℕ → Type 0) (dropped : Bool) (o : Option ℕ) (t : Turn) → ((k : ℕ) → o ≡ Some k → P k) → turn_to dropped o ≡ Some t → P t.period
+turn_has P dropped None t has e = absurd (none-some t e)
+turn_has P dropped (Some k) t has e = subst P (ap (λ (t : Turn). t.period) (same_Some _ t e)) (has k refl)
 
-round_has : (P : ℕ → Type 0) (dropped : Bool) (onward last : Option ℕ) (t : Turn) → ((k : ℕ) → onward ≡ some k → P k) → ((k : ℕ) → last ≡ some k → P k)
-    → in_round onward last dropped ≡ some t → P t.period
-round_has P dropped (some k) last t has top e = turn_has P dropped (some k) t has e
-round_has P false none last t has top e = absurd (none-ne-some t e)
-round_has P true none last t has top e = turn_has P false last t top e
+round_has : (P : ℕ → Type 0) (dropped : Bool) (onward last : Option ℕ) (t : Turn) → ((k : ℕ) → onward ≡ Some k → P k) → ((k : ℕ) → last ≡ Some k → P k)
+    → in_round onward last dropped ≡ Some t → P t.period
+round_has P dropped (Some k) last t has top e = turn_has P dropped (Some k) t has e
+round_has P false None last t has top e = absurd (none-some t e)
+round_has P true None last t has top e = turn_has P false last t top e
 
-pub next_allowed : (n : ℕ) (s : Tried) (t : Turn) → s.ahead ≤ n → next n s ≡ some t → (t.period < n) × (at s.marks t.period ≡ 0)
+pub next_allowed : (n : ℕ) (s : Tried) (t : Turn) → s.ahead ≤ n → next n s ≡ Some t → (t.period < n) × (at s.marks t.period ≡ 0)
 next_allowed n s t le e =
     round_has (Allowed (at s.marks) n) s.dropped (last_open (at s.marks) s.ahead) (last_open (at s.marks) n) t
     (λ k q. let w = open_allowed (at s.marks) s.ahead k q in (omega (arith, w.0), w.1)) (open_allowed (at s.marks) n) e
@@ -224,7 +224,7 @@ module _ (d : Day) (loose : Loose d) where
 
   first_stands : (s : Tried) → FirstTrial d s → Stands d loose s
   first_stands s f =
-      let p = trial_plans s.marks (some s.plan) f.ruled in
+      let p = trial_plans s.marks (Some s.plan) f.ruled in
       record {
         marks = ap (λ (l : List ℕ). length l) f.marks ∙ length-replicate (periods d) 0;
         size = p.0;
@@ -247,8 +247,8 @@ module _ (d : Day) (loose : Loose d) where
 
   settled_stands : (s : Tried) (t : Turn) (o : Option (List ℕ)) → t.period < periods d → Stands d loose s → Plans (trial_day (forbidding s t) d) o
       → Onward s (settled d s t o)
-  settled_stands s t none inside w p = undone_stands s t inside w
-  settled_stands s t (some plan) inside w p =
+  settled_stands s t None inside w p = undone_stands s t inside w
+  settled_stands s t (Some plan) inside w p =
       judged_stands s t plan (ltb (cost d (at plan)) (cost d (at s.plan))) refl inside w p.0
       (trial_feasible d (forbidding s t) (at plan) p.1.feasible)
 
@@ -268,7 +268,7 @@ module _ (d : Day) (loose : Loose d) where
   pub first_optimal : length d.capacity ≡ periods d → (s : Tried) → FirstTrial d s → Optimal (starts_free d.capacity d) (at s.plan)
   first_optimal size s f =
       let every = ap (λ (marks : List ℕ). allowed marks d) f.marks ∙ sym (allowed_all d size) in
-      subst (λ (c : List ℕ). Optimal (starts_free c d) (at s.plan)) every (trial_plans s.marks (some s.plan) f.ruled).1
+      subst (λ (c : List ℕ). Optimal (starts_free c d) (at s.plan)) every (trial_plans s.marks (Some s.plan) f.ruled).1
 
   -- which no plan of the day undercuts, starts included.
   pub free_least : (x y : ℕ → ℕ) → Optimal (starts_free d.capacity d) x → Feasible d y → cost (starts_free d.capacity d) x ≤ cost d y
@@ -279,13 +279,13 @@ module _ (d : Day) (loose : Loose d) where
   first_one : (s r : Tried) → FirstTrial d s → FirstTrial d r → s ≡ r
   first_one s r f g =
       let marks = f.marks ∙ sym g.marks in
-      let again = subst (λ (m : List ℕ). Ruled (trial_day m d) (some r.plan)) (sym marks) g.ruled in
-      same_state s r marks (some-injective _ _ (trial_one s.marks (some s.plan) (some r.plan) f.ruled again))
+      let again = subst (λ (m : List ℕ). Ruled (trial_day m d) (Some r.plan)) (sym marks) g.ruled in
+      same_state s r marks (same_Some _ _ (trial_one s.marks (Some s.plan) (Some r.plan) f.ruled again))
       (f.ahead ∙ sym g.ahead) (f.dropped ∙ sym g.dropped)
 
   next_one : (s r q : Tried) → NextTrial d s r → NextTrial d s q → r ≡ q
   next_one s r q f g =
-      let turns = some-injective f.turn g.turn (sym f.comes ∙ g.comes) in
+      let turns = same_Some f.turn g.turn (sym f.comes ∙ g.comes) in
       let again = subst (λ (t : Turn). Ruled (trial_day (forbidding s t) d) g.outcome) (sym turns) g.ruled in
       let outcomes = trial_one (forbidding s f.turn) f.outcome g.outcome f.ruled again in
       f.is ∙ (ap₂ (settled d s) turns outcomes ∙ sym g.is)
@@ -301,7 +301,7 @@ module _ (d : Day) (loose : Loose d) where
     pub state : Tried
     pub tried : TriedIn d t state
     pub dearer : cost d (at s.plan) ≤ cost d (at state.plan)
-    pub goes : t < u → next (periods d) state ≡ none → ⊥
+    pub goes : t < u → next (periods d) state ≡ None → ⊥
 
   earlier : (t u : ℕ) (s : Tried) → 0 < t → t ≤ u → TriedIn d u s → Earlier t u s
   earlier t zero s pos le tried = absurd tried
@@ -336,7 +336,7 @@ module _ (d : Day) (loose : Loose d) where
             state = q;
             tried = subst (λ (m : ℕ). TriedIn d m q) e tried;
             dearer = stands.1;
-            goes = λ _ stop. none-ne-some step.turn (sym stop ∙ step.comes);
+            goes = λ _ stop. none-some step.turn (sym stop ∙ step.comes);
           }
 
   some_tried : (t : ℕ) (s : Tried) → TriedIn d t s → 0 < t
@@ -347,7 +347,7 @@ module _ (d : Day) (loose : Loose d) where
   none_follows : (trials t u : ℕ) (s r : Tried) → Ended d trials t s → t < trials → TriedIn d u r → t < u → ⊥
   none_follows trials t u s r end spare tried l =
       let e = earlier t u r (some_tried t s end.tried) (omega arith) tried in
-      e.goes l (subst (λ (w : Tried). next (periods d) w ≡ none) (tried_one t s e.state end.tried e.tried) (end.stops spare))
+      e.goes l (subst (λ (w : Tried). next (periods d) w ≡ None) (tried_one t s e.state end.tried e.tried) (end.stops spare))
 
   -- More allowed trials never lead to a dearer plan.
   pub ended_cheaper : (trials more t u : ℕ) (s r : Tried) → trials ≤ more → Ended d trials t s → Ended d more u r

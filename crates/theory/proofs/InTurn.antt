@@ -2,9 +2,8 @@
 -- to its end. So the batches of the loop, which give the plan too, make what the rule makes.
 -- Main statements: `key_signed`, the keys that the loop compares order the periods as the signed form does; `in_turn_optimal`; `in_turn_serves`.
 -- Assumes nothing.
-use Rattle.std.specs.Prelude.{◌≡◌, refl, Bool, true, false, cond, ◌↔◌, ℕ, zero, suc, ◌+◌, ◌-◌, ◌≤◌, ◌<◌, ltb, ℤ, pos, negsuc, ◌-ℤ◌, ◌≤ℤ◌}
+use Rattle.std.specs.Prelude.{◌≡◌, refl, Bool, true, false, cond, ◌↔◌, ℕ, zero, suc, ◌+◌, ◌-◌, ◌≤◌, ◌<◌, ltb, ℤ, pos, negsuc, ◌-ℤ◌, ◌≤ℤ◌, Option, None, Some}
 use Rattle.std.proofs.Common.{sym, ◌∙◌, subst, le_of_suc-le-suc, arith, leb→le, le→leb, ltb-true, ltb-false}
-use Rattle.std.proofs.Math.Option.{Option, none, some}
 use Rattle.std.proofs.Math.Decide.{dec_lt}
 use Rattle.std.specs.Int.Signed.{le_z_yes}
 use Rattle.day.specs.Sums.{at, sum_to, sum_ext}
@@ -148,13 +147,13 @@ module _ (d : Day) where
 
       one_more : (t i : ℕ) (x : ℕ → ℕ) → NeededIn d t i → ServedTo d t x
           → (o : Option ℕ) → Sources (key M n) M.capacity x (suc i) o → (y : ℕ → ℕ) × ServedTo d (suc t) y
-      one_more t i x needed served none full =
+      one_more t i x needed served None full =
           absurd (
           no_plan M (model_rising (problem_of d)) (model_unlimited (problem_of d)) n free t (suc i) x
           (due t i x needed (progress t x served)) best.0 best.1 full
           (omega (arith, needed.owed, floor_here (suc i) needed.inside))
           )
-      one_more t i x needed served (some k) s = (
+      one_more t i x needed served (Some k) s = (
         λ j. only k j + x j,
         (
           x,

@@ -1,6 +1,5 @@
 -- The greedy rule as a loop computes it, and what it has to give. Main definitions: `greedy`, `Solves`. That it does is in proofs/Batches. Assumes nothing.
-use Rattle.std.specs.Prelude.{◌≡◌, List, ℕ, suc, ◌+◌, ◌≤◌, ◌<◌, length, drop}
-use Rattle.std.proofs.Math.Option.{Option, none, some}
+use Rattle.std.specs.Prelude.{◌≡◌, List, ℕ, suc, ◌+◌, ◌≤◌, ◌<◌, length, drop, Option, None, Some}
 use Rattle.day.specs.Sums.{at}
 use Rattle.theory.specs.Model.{Model, FeasibleTo, OptimalTo}
 use Rattle.theory.specs.Greedy.{greedy_to}
@@ -23,8 +22,8 @@ pub record Filled (M : Model) (n : ℕ) (slots g : List ℕ) : Type 0 where
 
 -- what the rule has to give: the plan, or nothing, and then no amounts keep the rules
 abbrev pub Solves : Model → ℕ → List ℕ → Option (List ℕ) → Type 0
-Solves M n slots none = (y : ℕ → ℕ) → FeasibleTo M n (M.floor n) y → ⊥
-Solves M n slots (some g) = Filled M n slots g
+Solves M n slots None = (y : ℕ → ℕ) → FeasibleTo M n (M.floor n) y → ⊥
+Solves M n slots (Some g) = Filled M n slots g
 
 unfoldable pub greedy : Model → ℕ → (need : ℕ → ℕ) → List ℕ → Option (List ℕ)
 greedy M n need slots = greedy_to (key M n) M.capacity need n slots

@@ -1,7 +1,6 @@
 -- The first, by cost and then by size, of several candidates: what a loop keeps that tries them in turn.
 -- Main statements: `keep_old`, `take_new`. Assumes nothing.
-use Rattle.std.specs.Prelude.{◌≡◌, refl, ◌⊎◌, ℕ, suc, ◌<◌}
-use Rattle.std.proofs.Math.Option.{Option, none, some}
+use Rattle.std.specs.Prelude.{◌≡◌, refl, ◌⊎◌, ℕ, suc, ◌<◌, Option, None, Some}
 use Rattle.std.proofs.Common.{inl, inr, ⊎_elim, eq-or-lt_of_le, le_of_suc-le-suc, arith}
 use Rattle.std.proofs.Math.Logic.{⊎_swap}
 use Rattle.day.specs.Sums.{at}
@@ -27,7 +26,7 @@ module _ (costs : (ℕ → ℕ) → ℕ) (n : ℕ) where
 
   pub second_leads : (P Q : (ℕ → ℕ) → Type 0) (a b : Solution) → Leads P costs n a → Leads Q costs n b
       → Precedes costs n (at b.plan) (at a.plan) → Leads (λ y. P y ⊎ Q y) costs n b
-  second_leads P Q a b la lb p = answers_iff costs n (some b) (λ y q. ⊎_swap q) (λ y q. ⊎_swap q) (first_leads Q P b a lb la p)
+  second_leads P Q a b la lb p = answers_iff costs n (Some b) (λ y q. ⊎_swap q) (λ y q. ⊎_swap q) (first_leads Q P b a lb la p)
 
   some_more : (P : ℕ → (ℕ → ℕ) → Type 0) (i : ℕ) (y : ℕ → ℕ) → Some P i y ⊎ P i y → Some P (suc i) y
   some_more P i y q = ⊎_elim (λ (r : Some P i y). (r.0, omega (arith, r.1), r.2)) (λ r. (i, omega arith, r)) q
@@ -38,18 +37,18 @@ module _ (costs : (ℕ → ℕ) → ℕ) (n : ℕ) where
   -- A loop keeps the first of all that the candidates so far lead: of the old and the new one that precedes the other.
   pub keep_old : (P : ℕ → (ℕ → ℕ) → Type 0) (i : ℕ) (a : Solution) (o : Option Solution)
       → Leads (Some P i) costs n a → Answers (P i) costs n o
-      → ((b : Solution) → o ≡ some b → Precedes costs n (at a.plan) (at b.plan))
+      → ((b : Solution) → o ≡ Some b → Precedes costs n (at a.plan) (at b.plan))
       → Leads (Some P (suc i)) costs n a
-  keep_old P i a none la lb p =
-      answers_iff costs n (some a) (λ y q. some_more P i y (inl q)) (λ y q. ⊎_elim (λ r. r) (λ r. absurd (lb y r)) (some_less P i y q)) la
-  keep_old P i a (some b) la lb p =
-      answers_iff costs n (some a) (some_more P i) (some_less P i) (first_leads (Some P i) (P i) a b la lb (p b refl))
+  keep_old P i a None la lb p =
+      answers_iff costs n (Some a) (λ y q. some_more P i y (inl q)) (λ y q. ⊎_elim (λ r. r) (λ r. absurd (lb y r)) (some_less P i y q)) la
+  keep_old P i a (Some b) la lb p =
+      answers_iff costs n (Some a) (some_more P i) (some_less P i) (first_leads (Some P i) (P i) a b la lb (p b refl))
 
   pub take_new : (P : ℕ → (ℕ → ℕ) → Type 0) (i : ℕ) (o : Option Solution) (b : Solution)
       → Answers (Some P i) costs n o → Leads (P i) costs n b
-      → ((a : Solution) → o ≡ some a → Precedes costs n (at b.plan) (at a.plan))
+      → ((a : Solution) → o ≡ Some a → Precedes costs n (at b.plan) (at a.plan))
       → Leads (Some P (suc i)) costs n b
-  take_new P i none b la lb p =
-      answers_iff costs n (some b) (λ y q. some_more P i y (inr q)) (λ y q. ⊎_elim (λ r. absurd (la y r)) (λ r. r) (some_less P i y q)) lb
-  take_new P i (some a) b la lb p =
-      answers_iff costs n (some b) (some_more P i) (some_less P i) (second_leads (Some P i) (P i) a b la lb (p a refl))
+  take_new P i None b la lb p =
+      answers_iff costs n (Some b) (λ y q. some_more P i y (inr q)) (λ y q. ⊎_elim (λ r. absurd (la y r)) (λ r. r) (some_less P i y q)) lb
+  take_new P i (Some a) b la lb p =
+      answers_iff costs n (Some b) (some_more P i) (some_less P i) (second_leads (Some P i) (P i) a b la lb (p a refl))

@@ -1,8 +1,8 @@
 -- How many batches the greedy rule takes: one ends a need or fills a period, so there are at most as many as needs and periods together.
 -- Main definition: `BatchesTo`. Main statements: `greedy_to_batches`; `few_batches`, at most 2 × n, whatever the needs are. Assumes nothing.
-use Rattle.std.specs.Prelude.{◌≡◌, refl, List, ℕ, zero, suc, ◌+◌, ◌-◌, ◌*◌, ◌≤◌, ◌<◌, min, length, set}
+use Rattle.std.proofs.lemmas.Option.{none-some, same_Some}
+use Rattle.std.specs.Prelude.{◌≡◌, refl, List, ℕ, zero, suc, ◌+◌, ◌-◌, ◌*◌, ◌≤◌, ◌<◌, min, length, set, Option, None, Some}
 use Rattle.std.proofs.Common.{sym, ap, ◌∙◌, arith, length-set, get_or-set_same, get_or-set_other}
-use Rattle.std.proofs.Math.Option.{Option, none, some, none-ne-some, some-injective}
 use Rattle.std.proofs.Math.Decide.{dec_lt, ℕ_discrete}
 use Rattle.day.specs.Sums.{at, sum_to, sum_ext}
 use Rattle.theory.specs.Greedy.{after, source, batch, serve, greedy_to, Source, Sources, source_right, batch_some, serve_done, serve_turn, serve_stuck}
@@ -29,10 +29,10 @@ module _ (key capacity : ℕ → ℕ) where
   BatchesTo need (suc d) m g h = (f : List ℕ) × (a : ℕ) × (b : ℕ) × BatchesTo need d a g f × Batches (suc d) b (need d) f h × (m ≡ a + b)
 
   -- what the rule gives it gives in batches
-  served_all : (d : ℕ) (g h : List ℕ) → serve key capacity d 0 g ≡ some h → (m : ℕ) × Batches d m 0 g h
-  served_all d g h e = (0, (refl, some-injective g h (sym (serve_done key capacity d g) ∙ e)))
+  served_all : (d : ℕ) (g h : List ℕ) → serve key capacity d 0 g ≡ Some h → (m : ℕ) × Batches d m 0 g h
+  served_all d g h e = (0, (refl, same_Some g h (sym (serve_done key capacity d g) ∙ e)))
 
-  serve_batches : (d turns w : ℕ) (g h : List ℕ) → w ≤ turns → serve key capacity d w g ≡ some h → (m : ℕ) × Batches d m w g h
+  serve_batches : (d turns w : ℕ) (g h : List ℕ) → w ≤ turns → serve key capacity d w g ≡ Some h → (m : ℕ) × Batches d m w g h
   serve_batches d zero zero g h l e = served_all d g h e
   serve_batches d zero (suc w) g h l e = absurd (omega arith)
   serve_batches d (suc turns) zero g h l e = served_all d g h e
@@ -40,23 +40,23 @@ module _ (key capacity : ℕ → ℕ) where
       go (source key capacity (at g) d) refl (source_right key capacity (at g) d) (λ v f a b. serve_batches d turns v f h a b)
     where
       go : (o : Option ℕ) → source key capacity (at g) d ≡ o → Sources key capacity (at g) d o
-          → ((v : ℕ) (f : List ℕ) → v ≤ turns → serve key capacity d v f ≡ some h → (m : ℕ) × Batches d m v f h)
+          → ((v : ℕ) (f : List ℕ) → v ≤ turns → serve key capacity d v f ≡ Some h → (m : ℕ) × Batches d m v f h)
           → (m : ℕ) × Batches d m (suc w) g h
-      go none q s old = absurd (none-ne-some h (sym (serve_stuck key capacity d (suc w) g (omega arith) q) ∙ e))
-      go (some k) q s old =
+      go None q s old = absurd (none-some h (sym (serve_stuck key capacity d (suc w) g (omega arith) q) ∙ e))
+      go (Some k) q s old =
           let r = old (suc w - batch capacity g k (suc w)) (next g k (suc w)) (omega (arith, batch_some key capacity d g k (suc w) s (omega arith)))
           (sym (serve_turn key capacity d (suc w) g k (omega arith) s) ∙ e) in
           (suc r.0, (k, omega arith, s, r.1))
 
-  pub greedy_to_batches : (need : ℕ → ℕ) (d : ℕ) (g h : List ℕ) → greedy_to key capacity need d g ≡ some h → (m : ℕ) × BatchesTo need d m g h
-  greedy_to_batches need zero g h e = (0, (refl, some-injective g h e))
+  pub greedy_to_batches : (need : ℕ → ℕ) (d : ℕ) (g h : List ℕ) → greedy_to key capacity need d g ≡ Some h → (m : ℕ) × BatchesTo need d m g h
+  greedy_to_batches need zero g h e = (0, (refl, same_Some g h e))
   greedy_to_batches need (suc d) g h e = go (greedy_to key capacity need d g) refl e (λ f q. greedy_to_batches need d g f q)
     where
-      go : (o : Option (List ℕ)) → greedy_to key capacity need d g ≡ o → after o (serve key capacity (suc d) (need d)) ≡ some h
-          → ((f : List ℕ) → greedy_to key capacity need d g ≡ some f → (m : ℕ) × BatchesTo need d m g f)
+      go : (o : Option (List ℕ)) → greedy_to key capacity need d g ≡ o → after o (serve key capacity (suc d) (need d)) ≡ Some h
+          → ((f : List ℕ) → greedy_to key capacity need d g ≡ Some f → (m : ℕ) × BatchesTo need d m g f)
           → (m : ℕ) × BatchesTo need (suc d) m g h
-      go none q e old = absurd (none-ne-some h e)
-      go (some f) q e old =
+      go None q e old = absurd (none-some h e)
+      go (Some f) q e old =
           let r = old f q in
           let t = serve_batches (suc d) (need d) (need d) f h (omega arith) e in
           (r.0 + t.0, (f, r.0, t.0, r.1, t.1, refl))

@@ -1,7 +1,6 @@
 -- What the rule of document 02, 2.3, has to give on a day: `Plans`; what a state of the trials of a big day has: `Stands`. What holds of the trials is
 -- in proofs/Drops. Assumes nothing.
-use Rattle.std.specs.Prelude.{◌≡◌, List, ℕ, ◌≤◌, length}
-use Rattle.std.proofs.Math.Option.{Option, none, some}
+use Rattle.std.specs.Prelude.{◌≡◌, List, ℕ, ◌≤◌, length, Option, None, Some}
 use Rattle.day.specs.Sums.{at}
 use Rattle.day.specs.Day.{Day, periods}
 use Rattle.day.specs.Plan.{Feasible, Optimal}
@@ -10,8 +9,8 @@ use Rattle.theory.specs.Store.{Loose}
 
 -- the plan of a day as a table, or nothing where no amounts keep the conditions
 abbrev pub Plans : Day → Option (List ℕ) → Type 0
-Plans d none = (x : ℕ → ℕ) → Feasible d x → ⊥
-Plans d (some plan) = (length plan ≡ periods d) × Optimal d (at plan)
+Plans d None = (x : ℕ → ℕ) → Feasible d x → ⊥
+Plans d (Some plan) = (length plan ≡ periods d) × Optimal d (at plan)
 
 -- The trials of a day whose stores can't bind.
 module _ (d : Day) (loose : Loose d) where

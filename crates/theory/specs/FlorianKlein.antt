@@ -1,9 +1,8 @@
 -- The equal path (report, section 3; Florian and Klein): where all capacities are c, a regeneration interval of the optimal plan is made in full
 -- loads and at most one fractional load, what its demand leaves over when it is divided by c. Row m is the plan of (m, N m), with its cost.
 -- Main statement: `florian_klein_cover`. Assumes nothing.
-use Rattle.std.specs.Prelude.{◌≡◌, refl, ◌⊎◌, ℕ, zero, suc, ◌+◌, ◌-◌, ◌%◌, ◌≤◌, ◌<◌}
+use Rattle.std.specs.Prelude.{◌≡◌, refl, ◌⊎◌, ℕ, zero, suc, ◌+◌, ◌-◌, ◌%◌, ◌≤◌, ◌<◌, Option}
 use Rattle.std.proofs.Common.{sym, ap₂, ◌∙◌, inl, inr, ⊎_elim, eq-or-lt_of_le, eq-zero-or-pos, arith}
-use Rattle.std.proofs.Math.Option.{Option}
 use Rattle.std.proofs.Math.Decide.{ℕ_discrete}
 use Rattle.day.specs.Sums.{sum_to}
 use Rattle.day.specs.Loads.{made_in}
@@ -103,8 +102,8 @@ florian_klein_cover M rising unlimited c m caps =
 
 -- With no capacity nothing is demanded, and every plan is all zeros.
 pub no_room : (M : Model) (n : ℕ) → Equal M 0 n → Covered M n → (m : ℕ) → m ≤ n → M.floor m ≡ 0
-no_room M n caps enough m h = omega (arith, enough m h, none m h)
+no_room M n caps enough m h = omega (arith, enough m h, None m h)
   where
     none : (j : ℕ) → j ≤ n → high M j ≡ 0
-    none zero g = refl
-    none (suc j) g = omega (arith, none j (omega arith), caps j g)
+    None zero g = refl
+    None (suc j) g = omega (arith, None j (omega arith), caps j g)

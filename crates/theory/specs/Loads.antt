@@ -1,9 +1,8 @@
 -- The regeneration intervals of the equal path by their loads: a state is how many full loads are made and whether the fractional one is.
 -- Main statements: `loads_to_right`, `loads_back`, `by_load_answers`. Assumes nothing.
-use Rattle.std.specs.Prelude.{◌≡◌, refl, [], ◌∷◌, ◌++◌}
+use Rattle.std.specs.Prelude.{◌≡◌, refl, [], ◌∷◌, ◌++◌, Option, None, Some}
 use Rattle.std.proofs.Math.Path.{sym, ap₂}
 use Rattle.std.proofs.Common.{ap, ◌∙◌, subst, inl, inr, ⊎_elim, eq-or-lt_of_le, le_of_suc-le-suc, div-add-mod', mod-lt}
-use Rattle.std.proofs.Math.Option.{Option, none, some}
 use Prim.Native.Nat.{ℕ, zero, suc, ◌+◌, ◌-◌, ◌*◌, ◌/◌, ◌%◌, ◌≤◌, ◌<◌, min}
 use Rattle.std.proofs.Math.Decide.{dec_le, ℕ_discrete}
 use native.Mathlib.Omega.{arith}
@@ -21,7 +20,7 @@ made c part j d = j * c + d * part
 
 -- a move that takes one of n loads away
 abbrev pub given : ℕ → Option Solution → Option Solution
-given zero o = none
+given zero o = None
 given (suc n) o = o
 
 module _ (M : Model) (l c part : ℕ) where
@@ -46,12 +45,12 @@ pub loads_next : (M : Model) (l c part k j d : ℕ)
 unfolding loads_to
 loads_next M l c part k j d = refl
 
-better_none : (o : Option Solution) → better o none ≡ o
-better_none none = refl
-better_none (some f) = refl
+better_none : (o : Option Solution) → better o None ≡ o
+better_none None = refl
+better_none (Some f) = refl
 
 -- tries that give nothing are skipped
-least_skip : (f : ℕ → Option Solution) (a b : ℕ) → a ≤ b → ((x : ℕ) → a < x → x ≤ b → f x ≡ none) → least f b ≡ least f a
+least_skip : (f : ℕ → Option Solution) (a b : ℕ) → a ≤ b → ((x : ℕ) → a < x → x ≤ b → f x ≡ None) → least f b ≡ least f a
 least_skip f a zero l h = let e : a ≡ 0 = omega arith in rw e refl
 least_skip f a (suc b) l h =
     ⊎_elim (λ (e : a ≡ suc b). rw e refl)
@@ -62,7 +61,7 @@ least_skip f a (suc b) l h =
     (eq-or-lt_of_le l)
 
 -- a last try after such
-least_last : (f : ℕ → Option Solution) (a b : ℕ) → a < b → ((x : ℕ) → a < x → x < b → f x ≡ none) → least f b ≡ better (least f a) (f b)
+least_last : (f : ℕ → Option Solution) (a b : ℕ) → a < b → ((x : ℕ) → a < x → x < b → f x ≡ None) → least f b ≡ better (least f a) (f b)
 least_last f a zero l h = absurd (omega arith)
 least_last f a (suc b) l h = ap (λ (o : Option Solution). better o (f (suc b))) (least_skip f a b (le_of_suc-le-suc l) (λ x u v. h x u (omega arith)))
 
@@ -73,13 +72,13 @@ begin_iff (no h) (yes b) to back = absurd (h (back b))
 begin_iff (no h) (no g) to back = refl
 
 extend_iff : {A B : Type 0} (d : Dec A) (e : Dec B) → (A → B) → (B → A) → (x q : ℕ) (o : Option Solution) → extend d x q o ≡ extend e x q o
-extend_iff (yes a) (yes b) to back x q none = refl
-extend_iff (yes a) (yes b) to back x q (some f) = refl
+extend_iff (yes a) (yes b) to back x q None = refl
+extend_iff (yes a) (yes b) to back x q (Some f) = refl
 extend_iff (yes a) (no h) to back x q o = absurd (h (to a))
 extend_iff (no h) (yes b) to back x q o = absurd (h (back b))
 extend_iff (no h) (no g) to back x q o = refl
 
-extend_not : {A : Type 0} (d : Dec A) (x q : ℕ) (o : Option Solution) → ¬ A → extend d x q o ≡ none
+extend_not : {A : Type 0} (d : Dec A) (x q : ℕ) (o : Option Solution) → ¬ A → extend d x q o ≡ None
 extend_not (yes a) x q o h = absurd (h a)
 extend_not (no g) x q o h = refl
 
@@ -104,7 +103,7 @@ module _ (M : Model) (l c part : ℕ) (less : part < c) where
       ∙ ap (λ (o : Option Solution). extend (both? (dec_le (M.floor (suc (l + k))) (M.floor l + X)) (load? c part X x)) x q o)
       (same ∙ ap (best_to (stages (runs M l (loads c part))) k) (sym e))
 
-  skipped : (k X x : ℕ) → ¬ Load c part X x → try k X x ≡ none
+  skipped : (k X x : ℕ) → ¬ Load c part X x → try k X x ≡ None
   skipped k X x h =
       extend_not (both? (dec_le (M.floor (suc (l + k))) (M.floor l + X)) (load? c part X x)) x _ _ (λ p. h p.1)
 
@@ -197,11 +196,11 @@ pub record Back (M : Model) (l c part k j d : ℕ) (f : Solution) : Type 0 where
   pub d' : ℕ
   pub before : Solution
   pub step : Step c part j d x j' d'
-  pub was : loads_to M l c part k j' d' ≡ some before
+  pub was : loads_to M l c part k j' d' ≡ Some before
   pub plan : f.plan ≡ before.plan ++ (x ∷ [])
 
 -- The interval is read back from its end.
-pub loads_back : (M : Model) (l c part k j d : ℕ) (f : Solution) → loads_to M l c part (suc k) j d ≡ some f → Back M l c part k j d f
+pub loads_back : (M : Model) (l c part k j d : ℕ) (f : Solution) → loads_to M l c part (suc k) j d ≡ Some f → Back M l c part k j d f
 loads_back M l c part k j d f e =
     ⊎_elim
     (λ p.
@@ -210,18 +209,18 @@ loads_back M l c part k j d f e =
     (λ q. some_full j refl q)
     (better_one _ (given j (moves M l c part k j d c (loads_to M l c part k (j - 1) d))) f (sym (loads_next M l c part k j d) ∙ e))
   where
-    idle : moves M l c part k j d 0 (loads_to M l c part k j d) ≡ some f → Back M l c part k j d f
+    idle : moves M l c part k j d 0 (loads_to M l c part k j d) ≡ Some f → Back M l c part k j d f
     idle p =
         let w = extend_one (dec_le (M.floor (suc (l + k))) (M.floor l + made c part j d)) 0 _ (loads_to M l c part k j d) f p in
         record { x = 0; j' = j; d' = d; before = w.0; step = stay; was = w.1; plan = w.2 }
 
-    some_part : (n : ℕ) → n ≡ d → given n (moves M l c part k j d part (loads_to M l c part k j (d - 1))) ≡ some f → Back M l c part k j d f
+    some_part : (n : ℕ) → n ≡ d → given n (moves M l c part k j d part (loads_to M l c part k j (d - 1))) ≡ Some f → Back M l c part k j d f
     some_part zero q p = let z : ◌≡◌ {A = ℕ} 0 1 = cc in absurd (omega arith)
     some_part (suc n) q p =
         let w = extend_one (dec_le (M.floor (suc (l + k))) (M.floor l + made c part j d)) part _ (loads_to M l c part k j (d - 1)) f p in
         record { x = part; j' = j; d' = d - 1; before = w.0; step = one_part (omega arith); was = w.1; plan = w.2 }
 
-    some_full : (n : ℕ) → n ≡ j → given n (moves M l c part k j d c (loads_to M l c part k (j - 1) d)) ≡ some f → Back M l c part k j d f
+    some_full : (n : ℕ) → n ≡ j → given n (moves M l c part k j d c (loads_to M l c part k (j - 1) d)) ≡ Some f → Back M l c part k j d f
     some_full zero q p = let z : ◌≡◌ {A = ℕ} 0 1 = cc in absurd (omega arith)
     some_full (suc n) q p =
         let w = extend_one (dec_le (M.floor (suc (l + k))) (M.floor l + made c part j d)) c _ (loads_to M l c part k (j - 1) d) f p in

@@ -1,8 +1,7 @@
 -- Recursion (5) for a model: the states are the totals made, and what it gives is the optimal plan.
 -- Main statements: `best_to_right`, `optimal_exists`, `optimal_unique`. Assumes nothing.
-use Rattle.std.specs.Prelude.{◌≡◌, refl, [], ℕ, suc, ◌+◌, ◌-◌, ◌*◌, ◌≤◌, ◌<◌}
+use Rattle.std.specs.Prelude.{◌≡◌, refl, [], ℕ, suc, ◌+◌, ◌-◌, ◌*◌, ◌≤◌, ◌<◌, Option, None, Some}
 use Rattle.std.proofs.Common.{sym, ◌∙◌, arith, ext_get_or}
-use Rattle.std.proofs.Math.Option.{Option, none, some}
 use Rattle.std.proofs.Math.Decide.{dec_le}
 use Rattle.day.specs.Sums.{at}
 use Rattle.theory.specs.Model.{Model, production, cost_to, FeasibleTo, OptimalTo}
@@ -47,9 +46,9 @@ module _ (M : Model) where
 
 -- the answer, where something reaches X, is a plan with its cost
 pub found : (M : Model) (i X : ℕ) (o : Option Solution) (y : ℕ → ℕ) → AnswerOf M i X o → FeasibleTo M i X y
-    → (f : Solution) × (o ≡ some f) × PlanOf M i X f
-found M i X none y a r = absurd (a y r)
-found M i X (some f) y a r = (f, refl, a)
+    → (f : Solution) × (o ≡ Some f) × PlanOf M i X f
+found M i X None y a r = absurd (a y r)
+found M i X (Some f) y a r = (f, refl, a)
 
 pub leads_optimal : (M : Model) (i X : ℕ) (f : Solution) → PlanOf M i X f → OptimalTo M i X (at f.plan)
 leads_optimal M i X f l = record { feasible = l.fits; first = l.first }

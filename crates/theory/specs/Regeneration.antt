@@ -1,9 +1,8 @@
 -- The plan of (m, N m) as the first of: the plan of (l, N l), and after it the first of the regeneration intervals of some kind from l to m.
 -- Main statements: `cover`, `row-right`. Assumes nothing.
-use Rattle.std.specs.Prelude.{◌≡◌, refl, List, ◌++◌, ℕ, zero, suc, ◌+◌, ◌-◌, ◌*◌, ◌≤◌, ◌<◌}
+use Rattle.std.specs.Prelude.{◌≡◌, refl, List, ◌++◌, ℕ, zero, suc, ◌+◌, ◌-◌, ◌*◌, ◌≤◌, ◌<◌, Option, None, Some}
 use Rattle.std.proofs.Common.{sym, ap, ◌∙◌, subst, add-zero, add-suc, arith, length-append, get_or-append-add}
 use Rattle.std.proofs.Math.Path.{fun_ext}
-use Rattle.std.proofs.Math.Option.{Option, none, some}
 use Rattle.std.proofs.Math.Decide.{dec_le, dec_lt}
 use Rattle.std.proofs.Math.ListN.{get_or-append}
 use Rattle.day.specs.Sums.{at, sum_to, sum_grows}
@@ -41,9 +40,9 @@ sum_tail y l (suc j) = rw (add-suc l j) (omega (arith, sum_tail y l j))
 
 -- one after the other
 abbrev pub glue : Option Solution → Option Solution → Option Solution
-glue none b = none
-glue (some f) none = none
-glue (some f) (some g) = some (record { cost = f.cost + g.cost; plan = f.plan ++ g.plan })
+glue None b = None
+glue (Some f) None = None
+glue (Some f) (Some g) = Some (record { cost = f.cost + g.cost; plan = f.plan ++ g.plan })
 
 module _ (M : Model) (rising : Rising M) (unlimited : Unlimited M) (l i : ℕ) (K : Kinds) where
   abbrev T : Totals
@@ -148,9 +147,9 @@ module _ (M : Model) (rising : Rising M) (unlimited : Unlimited M) (l i : ℕ) (
       → AnswerOf M l (M.floor l) a
       → Answers (Makes T i W) (λ x. costs T x i) i b
       → Answers Via (λ x. cost_to M x (l + i)) (l + i) (glue a b)
-  glue_answers none b la lb = λ y v. la y v.0
-  glue_answers (some f) none la lb = λ y v. lb (tail l y) v.1
-  glue_answers (some f) (some g) la lb = glue_leads f g la lb
+  glue_answers None b la lb = λ y v. la y v.0
+  glue_answers (Some f) None la lb = λ y v. lb (tail l y) v.1
+  glue_answers (Some f) (Some g) la lb = glue_leads f g la lb
 
 -- the candidate that is last empty at l, where the row of each l is known
 abbrev pub candidate : Model → (ℕ → ℕ → Kinds) → (ℕ → Option Solution) → ℕ → ℕ → Option Solution
@@ -170,8 +169,8 @@ module _ (M : Model) (rising : Rising M) (unlimited : Unlimited M) where
       → ((y : ℕ → ℕ) → Q y → FeasibleTo M m (M.floor m) y)
       → ((x : ℕ → ℕ) → OptimalTo M m (M.floor m) x → Q x)
       → Right M m o
-  covers m Q none a to best = λ y r. let w = optimal_exists M m (M.floor m) y r in a w.0 (best w.0 w.1)
-  covers m Q (some f) a to best =
+  covers m Q None a to best = λ y r. let w = optimal_exists M m (M.floor m) y r in a w.0 (best w.0 w.1)
+  covers m Q (Some f) a to best =
       record {
         each = a.each;
         fits = to (at f.plan) a.fits;

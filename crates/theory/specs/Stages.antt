@@ -1,9 +1,8 @@
 -- Recursion (5) over stages of any kind: in each an amount is chosen, which tells with the state after it the state before.
 -- It serves the full path (states are totals) and, inside a regeneration interval, the equal path.
 -- Main statement: `best_to_answers`. Assumes nothing.
-use Rattle.std.specs.Prelude.{◌≡◌, refl, List, [], ◌∷◌, ◌++◌, ◌⊎◌, length}
+use Rattle.std.specs.Prelude.{◌≡◌, refl, List, [], ◌∷◌, ◌++◌, ◌⊎◌, length, Option, None, Some}
 use Rattle.std.proofs.Common.{sym, ap, ◌∙◌, inl, inr, ⊎_elim, eq-or-lt_of_le, le_of_suc-le-suc, arith, length-append}
-use Rattle.std.proofs.Math.Option.{Option, none, some}
 use Prim.Native.Nat.{ℕ, zero, suc, ◌+◌, ◌≤◌, ◌<◌}
 use Rattle.std.proofs.Math.Decide.{dec_lt}
 use Rattle.std.proofs.Math.ListN.{get_or-append}
@@ -35,9 +34,9 @@ choose (yes _) a b = b
 choose (no _) a b = a
 
 abbrev pub better : Option Solution → Option Solution → Option Solution
-better none b = b
-better (some a) none = some a
-better (some a) (some b) = some (choose (dec_lt b.cost a.cost) a b)
+better None b = b
+better (Some a) None = Some a
+better (Some a) (Some b) = Some (choose (dec_lt b.cost a.cost) a b)
 
 -- the best of f 0 .. f m, of equals the first
 abbrev pub least : (ℕ → Option Solution) → ℕ → Option Solution
@@ -46,14 +45,14 @@ least f (suc m) = better (least f m) (f (suc m))
 
 -- no stage
 abbrev pub begin : {A : Type 0} → Dec A → Option Solution
-begin (yes _) = some (record { cost = 0; plan = [] })
-begin (no _) = none
+begin (yes _) = Some (record { cost = 0; plan = [] })
+begin (no _) = None
 
 -- one more stage, where it is allowed
 abbrev pub extend : {A : Type 0} → Dec A → ℕ → ℕ → Option Solution → Option Solution
-extend (no _) x c o = none
-extend (yes _) x c none = none
-extend (yes _) x c (some f) = some (record { cost = f.cost + c; plan = f.plan ++ (x ∷ []) })
+extend (no _) x c o = None
+extend (yes _) x c None = None
+extend (yes _) x c (Some f) = Some (record { cost = f.cost + c; plan = f.plan ++ (x ∷ []) })
 
 -- f is the first, by cost and then by size, of the amounts of n stages that are Q
 pub record Leads (Q : (ℕ → ℕ) → Type 0) (costs : (ℕ → ℕ) → ℕ) (n : ℕ) (f : Solution) : Type 0 where
@@ -64,8 +63,8 @@ pub record Leads (Q : (ℕ → ℕ) → Type 0) (costs : (ℕ → ℕ) → ℕ) 
 
 -- the answer is the first of those that are Q, or there is none
 abbrev pub Answers : ((ℕ → ℕ) → Type 0) → ((ℕ → ℕ) → ℕ) → ℕ → Option Solution → Type 0
-Answers Q costs n none = (y : ℕ → ℕ) → Q y → ⊥
-Answers Q costs n (some f) = Leads Q costs n f
+Answers Q costs n None = (y : ℕ → ℕ) → Q y → ⊥
+Answers Q costs n (Some f) = Leads Q costs n f
 
 module _ (M : Stages) where
   -- the amounts x lead through i stages to s
@@ -146,8 +145,8 @@ module _ (M : Stages) where
         → Answers (Reaches k (M.before k s x)) (spent k (M.before k s x)) k o
         → Answers Ends (spent (suc k) s) (suc k) (extend d x (M.stage k s x) o)
     extend_answers o small (no h) a = λ y r. h (rw r.1 at r.0.1)
-    extend_answers none small (yes h) a = λ y r. a y (earlier y r)
-    extend_answers (some f) small (yes h) a = extend_leads f small h a
+    extend_answers None small (yes h) a = λ y r. a y (earlier y r)
+    extend_answers (Some f) small (yes h) a = extend_leads f small h a
 
 -- those that are Q are those that are Q'
 pub answers_iff : {Q Q' : (ℕ → ℕ) → Type 0} (costs : (ℕ → ℕ) → ℕ) (n : ℕ) (o : Option Solution)
@@ -155,8 +154,8 @@ pub answers_iff : {Q Q' : (ℕ → ℕ) → Type 0} (costs : (ℕ → ℕ) → �
     → ((y : ℕ → ℕ) → Q' y → Q y)
     → Answers Q costs n o
     → Answers Q' costs n o
-answers_iff costs n none to from a = λ y q. a y (from y q)
-answers_iff costs n (some f) to from a =
+answers_iff costs n None to from a = λ y q. a y (from y q)
+answers_iff costs n (Some f) to from a =
     record { each = a.each; fits = to (at f.plan) a.fits; tells = a.tells; first = λ y q. a.first y (from y q) }
 
 -- the same costs in other words
@@ -164,8 +163,8 @@ pub answers_costs : {Q : (ℕ → ℕ) → Type 0} {costs costs' : (ℕ → ℕ)
     → ((y : ℕ → ℕ) → Q y → costs y ≡ costs' y)
     → Answers Q costs n o
     → Answers Q costs' n o
-answers_costs n none same a = a
-answers_costs n (some f) same a =
+answers_costs n None same a = a
+answers_costs n (Some f) same a =
     let e = same (at f.plan) a.fits in
     record {
       each = a.each;
@@ -225,11 +224,11 @@ module _ (P : (ℕ → ℕ) → Type 0) (costs : (ℕ → ℕ) → ℕ) (k : ℕ
       → Answers (UpTo m) costs (suc k) a
       → Answers (Just (suc m)) costs (suc k) b
       → Answers (UpTo (suc m)) costs (suc k) (better a b)
-  better_answers m none b la lb =
+  better_answers m None b la lb =
       answers_iff costs (suc k) b (λ y q. (q.0, omega arith)) (λ y q. ⊎_elim (λ e. e) (λ l. absurd (la y l)) (split m y q)) lb
-  better_answers m (some a) none la lb =
-      answers_iff costs (suc k) (some a) (λ y q. (q.0, omega arith)) (λ y q. ⊎_elim (λ e. absurd (lb y e)) (λ l. l) (split m y q)) la
-  better_answers m (some a) (some b) la lb = choose_leads m a b (dec_lt b.cost a.cost) la lb
+  better_answers m (Some a) None la lb =
+      answers_iff costs (suc k) (Some a) (λ y q. (q.0, omega arith)) (λ y q. ⊎_elim (λ e. absurd (lb y e)) (λ l. l) (split m y q)) la
+  better_answers m (Some a) (Some b) la lb = choose_leads m a b (dec_lt b.cost a.cost) la lb
 
   least_answers : (f : ℕ → Option Solution) (m : ℕ)
       → ((x : ℕ) → x ≤ m → Answers (Just x) costs (suc k) (f x))
@@ -253,21 +252,21 @@ module _ (M : Stages) where
       (λ x l. extend_answers M k s x (best_to M k (M.before k s x)) l (M.allowed? k s x) (best_to_answers k (M.before k s x))))
 
 -- the better of two is one of them
-pub better_one : (a b : Option Solution) (f : Solution) → better a b ≡ some f → (a ≡ some f) ⊎ (b ≡ some f)
-better_one none b f e = inr e
-better_one (some a) none f e = inl e
-better_one (some a) (some b) f e = go (dec_lt b.cost a.cost) e
+pub better_one : (a b : Option Solution) (f : Solution) → better a b ≡ Some f → (a ≡ Some f) ⊎ (b ≡ Some f)
+better_one None b f e = inr e
+better_one (Some a) None f e = inl e
+better_one (Some a) (Some b) f e = go (dec_lt b.cost a.cost) e
   where
-    go : {A : Type 0} (d : Dec A) → some (choose d a b) ≡ some f → (some a ≡ some f) ⊎ (some b ≡ some f)
+    go : {A : Type 0} (d : Dec A) → Some (choose d a b) ≡ Some f → (Some a ≡ Some f) ⊎ (Some b ≡ Some f)
     go (yes _) q = inr q
     go (no _) q = inl q
 
 -- what one more stage gives came from a solution before it
 pub extend_one : {A : Type 0} (d : Dec A) (x c : ℕ) (o : Option Solution) (f : Solution)
-    → extend d x c o ≡ some f
-    → (g : Solution) × (o ≡ some g) × (f.plan ≡ g.plan ++ (x ∷ []))
+    → extend d x c o ≡ Some f
+    → (g : Solution) × (o ≡ Some g) × (f.plan ≡ g.plan ++ (x ∷ []))
 extend_one (no _) x c o f e = let z : ◌≡◌ {A = ℕ} 0 1 = cc in absurd (omega arith)
-extend_one (yes _) x c none f e = let z : ◌≡◌ {A = ℕ} 0 1 = cc in absurd (omega arith)
-extend_one (yes _) x c (some g) f e =
+extend_one (yes _) x c None f e = let z : ◌≡◌ {A = ℕ} 0 1 = cc in absurd (omega arith)
+extend_one (yes _) x c (Some g) f e =
     let q : ◌≡◌ {A = Solution} (record { cost = g.cost + c; plan = g.plan ++ (x ∷ []) }) f = cc in
     (g, refl, sym (ap (λ (h : Solution). h.plan) q))

@@ -1,8 +1,8 @@
 -- Bounds on a day's sums from the widths of its tables.
 -- Main statements: `sums_low`, `weighed_signed`. Assumes nothing.
+use Rattle.std.specs.Prelude.{Option, None, Some}
 use Rattle.std.proofs.Common.{◌≡◌, refl, List, [], ◌∷◌, ℕ, zero, suc, ◌+◌, ◌*◌, ◌^◌, ◌≤◌, ◌<◌, length, le_trans, le_of_lt, arith, w16, w32, Fits}
 use Rattle.std.proofs.Math.Nat.{mul-le-mul_right, suc-mul}
-use Rattle.std.proofs.Math.Option.{Option, none, some}
 use Rattle.day.specs.declared.Refusal.{Refusal}
 use Rattle.day.specs.Sums.{at, sum_to}
 use Rattle.day.specs.Find.{find}
@@ -61,12 +61,12 @@ pub weighed_signed : (d : Day) (plan : List ℕ) → Wide d (at plan) → Signed
 weighed_signed d plan wide = go (weigh_refusal d plan) refl
   where
     judged : DayLimits max_total d → (f : Option ℕ) → Signed (Judged (verdict_at d (at plan) f))
-    judged l none = cost_low d (at plan) wide (omega (arith, l.small, l.used)) (periods d) l.limits.few
-    judged l (some k) = tt
+    judged l None = cost_low d (at plan) wide (omega (arith, l.small, l.used)) (periods d) l.limits.few
+    judged l (Some k) = tt
 
     go : (r : Option Refusal) → weigh_refusal d plan ≡ r → Signed (or_refused r (verdict_of d (at plan)))
-    go (some r) e = tt
-    go none e =
+    go (Some r) e = tt
+    go None e =
         judged
         (day_passed d (first_split (day_tests max_total d) (bad_slots (length plan) (periods d) ∷ []) e).0)
         (find (breaks d (at plan)) (periods d))

@@ -1,9 +1,8 @@
 -- What the weigher's two calls answer (document 01, "The weigher"; document 02, 2.1, 2.5), and the number of each rule.
 -- Main definitions: `Weighs`, `Compares`, the contracts of the calls; `weighed_figures`, `compared_figures`; `rule_number`.
 -- Main statements: `same_verdict`, `weighs_is`, `compares_is`, `compares`. Assumes nothing.
-use Rattle.std.specs.Prelude.{◌≡◌, refl, List, [], ◌∷◌, ◌++◌, ℕ, ◌-◌, length, get_or, ℤ, pos, ◌-ℤ◌}
+use Rattle.std.specs.Prelude.{◌≡◌, refl, List, [], ◌∷◌, ◌++◌, ℕ, ◌-◌, length, get_or, ℤ, pos, ◌-ℤ◌, Option, None, Some}
 use Rattle.std.proofs.Common.{sym, ap, ap₂, subst, ◌∙◌}
-use Rattle.std.proofs.Math.Option.{Option, none, some}
 use Rattle.day.specs.declared.Refusal.{Refusal}
 use Rattle.day.specs.Sums.{at}
 use Rattle.day.specs.Day.{Day, periods, max_total}
@@ -26,8 +25,8 @@ weigh_refusal d plan = first (day_tests max_total d ++ (bad_slots (length plan) 
 
 -- the first refusal in order, else the verdict on the plan
 abbrev pub or_refused : Option Refusal → Verdict → Weighed
-or_refused (some r) v = Refused r
-or_refused none v = Judged v
+or_refused (Some r) v = Refused r
+or_refused None v = Judged v
 
 abbrev pub weighed_of : Day → List ℕ → Weighed
 weighed_of d plan = or_refused (weigh_refusal d plan) (verdict_of d (at plan))
@@ -52,7 +51,7 @@ rule_number AboveStore = 104
 rule_number Over = 103
 
 abbrev pub broken_with : {A : Type 0} → Rule → ℕ → Figures A
-broken_with r i = record { number = rule_number r; period = i; values = none }
+broken_with r i = record { number = rule_number r; period = i; values = None }
 
 -- the answers in figures: a weighing gives cost and setups of a plan that holds, a comparison the difference
 abbrev pub verdict_figures : Verdict → Figures ℕ
@@ -71,13 +70,13 @@ compared_figures (compared.Difference v) = accepted_with (v ∷ [])
 -- what the weigher promises: the first refusal, by number and period; else the verdict on the plan, by its figures
 abbrev pub Weighs : Day → List ℕ → Weighed → Type 0
 Weighs d plan (Refused r) = Gives (weigh_refusal d plan) r
-Weighs d plan (Judged v) = (weigh_refusal d plan ≡ none) × (verdict_figures v ≡ verdict_figures (verdict_of d (at plan)))
+Weighs d plan (Judged v) = (weigh_refusal d plan ≡ None) × (verdict_figures v ≡ verdict_figures (verdict_of d (at plan)))
 
 -- and the comparison: the first refusal of both plans; else what their verdicts compare to
 abbrev pub ComparesAs : Option Refusal → Compared → Compared → Type 0
 ComparesAs o between (compared.Refused r) = Gives o r
-ComparesAs o between (compared.Broken r i) = (o ≡ none) × (compared_figures (compared.Broken r i) ≡ compared_figures between)
-ComparesAs o between (compared.Difference v) = (o ≡ none) × (compared_figures (compared.Difference v) ≡ compared_figures between)
+ComparesAs o between (compared.Broken r i) = (o ≡ None) × (compared_figures (compared.Broken r i) ≡ compared_figures between)
+ComparesAs o between (compared.Difference v) = (o ≡ None) × (compared_figures (compared.Difference v) ≡ compared_figures between)
 
 abbrev pub Compares : Day → (plan other : List ℕ) → Compared → Type 0
 Compares d plan other =
@@ -97,8 +96,8 @@ rule_back Over = refl
 
 -- the figures fix a verdict
 abbrev with_figures : Figures ℕ → Option (List ℕ) → Verdict
-with_figures f (some l) = Holds (record { cost = get_or l 0 0; setups = get_or l 1 0 })
-with_figures f none = Broken (rule_with f.number) f.period
+with_figures f (Some l) = Holds (record { cost = get_or l 0 0; setups = get_or l 1 0 })
+with_figures f None = Broken (rule_with f.number) f.period
 
 abbrev verdict_with : Figures ℕ → Verdict
 verdict_with f = with_figures f f.values
@@ -118,8 +117,8 @@ weighs_is d plan (Judged v) e = rw e.0 (ap Judged (same_verdict v (verdict_of d 
 
 -- they fix what two verdicts compare to
 abbrev between_figures : Figures ℤ → Option (List ℤ) → Compared
-between_figures f (some l) = compared.Difference (get_or l 0 (pos 0))
-between_figures f none = compared.Broken (rule_with f.number) f.period
+between_figures f (Some l) = compared.Difference (get_or l 0 (pos 0))
+between_figures f None = compared.Broken (rule_with f.number) f.period
 
 abbrev between_with : Figures ℤ → Compared
 between_with f = between_figures f f.values
@@ -134,8 +133,8 @@ between_back (Holds t) (Holds u) = refl
 
 -- so there is one answer that keeps the comparison's promise
 abbrev refused_or : Option Refusal → Compared → Compared
-refused_or (some r) c = compared.Refused r
-refused_or none c = c
+refused_or (Some r) c = compared.Refused r
+refused_or None c = c
 
 compares_one : (o : Option Refusal) (v w : Verdict) (c : Compared) → ComparesAs o (between_of v w) c → c ≡ refused_or o (between_of v w)
 compares_one o v w (compared.Refused r) g = rw (gives_is g) refl
@@ -143,9 +142,9 @@ compares_one o v w (compared.Broken r i) e = rw e.0 (sym (broken_back r i) ∙ (
 compares_one o v w (compared.Difference x) e = rw e.0 (ap between_with e.1 ∙ between_back v w)
 
 compare_refused : (o p : Option Refusal) (v w : Verdict) → refused_or (first (o ∷ p ∷ [])) (between_of v w) ≡ compare_of (or_refused o v) (or_refused p w)
-compare_refused (some r) p v w = refl
-compare_refused none (some r) v w = refl
-compare_refused none none v w = refl
+compare_refused (Some r) p v w = refl
+compare_refused None (Some r) v w = refl
+compare_refused None None v w = refl
 
 pub compares_is : (d : Day) (plan other : List ℕ) (c : Compared) → Compares d plan other c → c ≡ compare_of (weighed_of d plan) (weighed_of d other)
 compares_is d plan other c e =
@@ -156,11 +155,11 @@ compares_is d plan other c e =
 
 -- what two answers of the weigher compare to keeps it
 compares_as : (o p : Option Refusal) (v w : Verdict) → ComparesAs (first (o ∷ p ∷ [])) (between_of v w) (compare_of (or_refused o v) (or_refused p w))
-compares_as (some r) p v w = is_gives refl
-compares_as none (some r) v w = is_gives refl
-compares_as none none (Broken r i) w = (refl, refl)
-compares_as none none (Holds t) (Broken r i) = (refl, refl)
-compares_as none none (Holds t) (Holds u) = (refl, refl)
+compares_as (Some r) p v w = is_gives refl
+compares_as None (Some r) v w = is_gives refl
+compares_as None None (Broken r i) w = (refl, refl)
+compares_as None None (Holds t) (Broken r i) = (refl, refl)
+compares_as None None (Holds t) (Holds u) = (refl, refl)
 
 pub compares : (d : Day) (plan other : List ℕ) (a b : Weighed) (c : Compared) → Weighs d plan a → Weighs d other b → c ≡ compare_of a b
     → Compares d plan other c

@@ -4,9 +4,8 @@
 -- Main statements: `running_sums`, `running_kept`, for every i: where the first i periods break no rule, the walk runs with the sums through
 -- them, and with no others; `broken_stops`: the first period that breaks a rule stops it; `walk_verdict`: its verdict is the report's.
 -- Assumes nothing.
-use Rattle.std.specs.Prelude.{◌≡◌, refl, Bool, true, false, ℕ, zero, suc, ◌<◌, eqb}
+use Rattle.std.specs.Prelude.{◌≡◌, refl, Bool, true, false, ℕ, zero, suc, ◌<◌, eqb, Option, None, Some}
 use Rattle.std.proofs.Common.{sym, ◌∙◌, add-zero, arith}
-use Rattle.std.proofs.Math.Option.{Option, none, some}
 use Rattle.day.specs.Find.{or_here, find, none_found}
 use Rattle.day.specs.Day.{Day, periods}
 use Rattle.weigher.specs.declared.Rule.{Rule}
@@ -53,21 +52,21 @@ walk_of d x = end_of (walk_to d x (periods d))
 
 -- where it stands in the report's terms: it runs with the sums through i periods, or the first period that breaks a rule stopped it
 abbrev stands_at : Day → (ℕ → ℕ) → ℕ → Option ℕ → Walked
-stands_at d x i none = running (sums_to d x i)
-stands_at d x i (some k) = stopped (rule_at d x k) (suc k)
+stands_at d x i None = running (sums_to d x i)
+stands_at d x i (Some k) = stopped (rule_at d x k) (suc k)
 
 module _ (d : Day) (x : ℕ → ℕ) where
   walk_stands : (i : ℕ) → walk_to d x i ≡ stands_at d x i (find (breaks d x) i)
   walk_stands zero = rw add-zero refl
   walk_stands (suc k) = rw (walk_stands k) (go (find (breaks d x) k))
     where
-      ruled : (b : Bool) → ruled_in (suc k) (ruling_on b (rule_at d x k) (sums_to d x (suc k))) ≡ stands_at d x (suc k) (or_here none b k)
+      ruled : (b : Bool) → ruled_in (suc k) (ruling_on b (rule_at d x k) (sums_to d x (suc k))) ≡ stands_at d x (suc k) (or_here None b k)
       ruled true = refl
       ruled false = refl
 
       go : (o : Option ℕ) → turn_of d x k (stands_at d x k o) ≡ stands_at d x (suc k) (or_here o (breaks d x k) k)
-      go (some j) = refl
-      go none = rw (ruling_is d x k) (ruled (breaks d x k))
+      go (Some j) = refl
+      go None = rw (ruling_is d x k) (ruled (breaks d x k))
 
   -- where the first i periods break no rule, the running cost is sum (1) through period i, `cost_to d x i`; setups, A + X_i and R_i likewise
   pub running_sums : (i : ℕ) → ((k : ℕ) → k < i → Keeps d x k) → walk_to d x i ≡ running (sums_to d x i)
@@ -78,8 +77,8 @@ module _ (d : Day) (x : ℕ → ℕ) where
   running_kept i {s} e = go (find (breaks d x) i) refl (sym (walk_stands i) ∙ e)
     where
       go : (o : Option ℕ) → find (breaks d x) i ≡ o → stands_at d x i o ≡ running s → (s ≡ sums_to d x i) × ((k : ℕ) → k < i → Keeps d x k)
-      go (some k) f e = let z : ◌≡◌ {A = ℕ} 0 1 = cc in absurd (omega arith)
-      go none f e = (cc, λ k l. passed_keeps d x k (none_found (breaks d x) i f k l))
+      go (Some k) f e = let z : ◌≡◌ {A = ℕ} 0 1 = cc in absurd (omega arith)
+      go None f e = (cc, λ k l. passed_keeps d x k (none_found (breaks d x) i f k l))
 
   -- where period k + 1 is the first that breaks a rule, the walk stops there with that rule, and gives out no sum
   pub broken_stops : (r : Rule) (k i : ℕ) → FirstBroken d x r k → k < i → walk_to d x i ≡ stopped r (suc k)
@@ -90,5 +89,5 @@ module _ (d : Day) (x : ℕ → ℕ) where
   walk_verdict = rw (walk_stands (periods d)) (go (find (breaks d x) (periods d)))
     where
       go : (o : Option ℕ) → end_of (stands_at d x (periods d) o) ≡ verdict_at d x o
-      go none = refl
-      go (some k) = refl
+      go None = refl
+      go (Some k) = refl

@@ -1,9 +1,8 @@
 -- What a verdict says of a plan, by the report's conditions (2) to (4) and the store limit (document 02, 2.5), and that the weigher's verdict
 -- is the only right one.
 -- Main statements: `verdict_right`, `verdict_only`; of a plan that holds `holds_feasible`, `feasible_holds`. Assumes nothing.
-use Rattle.std.specs.Prelude.{◌≡◌, refl, Bool, true, false, ℕ, zero, suc, ◌+◌, ◌≤◌, ◌<◌, eqb, ltb}
+use Rattle.std.specs.Prelude.{◌≡◌, refl, Bool, true, false, ℕ, zero, suc, ◌+◌, ◌≤◌, ◌<◌, eqb, ltb, Option, None, Some}
 use Rattle.std.proofs.Common.{sym, ap, le_of_lt, le_trans, arith, ltb-true, ltb-false, eqb-true, lt-ltb, le-ltb, eq-eqb}
-use Rattle.std.proofs.Math.Option.{Option, none, some}
 use Rattle.std.proofs.lemmas.Bool.{eqb-false}
 use Rattle.day.specs.declared.Totals.{Totals}
 use Rattle.day.specs.Sums.{at, sum_to}
@@ -151,10 +150,10 @@ module _ (d : Day) (x : ℕ → ℕ) where
   kept_served zero h = omega arith
   kept_served (suc k) h = le_trans (due_least (eqb (suc k) (periods d)) _ _) (h k (omega arith)).served
 
-  pub none_broken : (n : ℕ) → ((k : ℕ) → k < n → Keeps d x k) → find (breaks d x) n ≡ none
+  pub none_broken : (n : ℕ) → ((k : ℕ) → k < n → Keeps d x k) → find (breaks d x) n ≡ None
   none_broken n h = nothing_found (breaks d x) n (λ k l. keeps_passed k (h k l))
 
-  pub broken_found : (r : Rule) (k n : ℕ) → FirstBroken d x r k → k < n → (find (breaks d x) n ≡ some k) × (rule_at d x k ≡ r)
+  pub broken_found : (r : Rule) (k n : ℕ) → FirstBroken d x r k → k < n → (find (breaks d x) n ≡ Some k) × (rule_at d x k ≡ r)
   broken_found r k n f l =
       let b = breaks_rule r k f.broken in
       (find_here (breaks d x) k n (none_broken k f.before) b.0 l, b.1)
@@ -168,8 +167,8 @@ module _ (d : Day) (x : ℕ → ℕ) where
       broke k f (broken r b t q) = record { inside = f.inside; broken = rw q b; before = λ j l. passed_keeps j (f.first j l) }
 
       go : (o : Option ℕ) → find (breaks d x) (periods d) ≡ o → Says d x (verdict_at d x o)
-      go none e = (all_feasible nonempty (λ k l. passed_keeps k (none_found (breaks d x) (periods d) e k l)), refl)
-      go (some k) e = broke k (some_found (breaks d x) (periods d) k e) (tested d x k)
+      go None e = (all_feasible nonempty (λ k l. passed_keeps k (none_found (breaks d x) (periods d) e k l)), refl)
+      go (Some k) e = broke k (some_found (breaks d x) (periods d) k e) (tested d x k)
 
   -- and no other is
   pub verdict_only : (v : Verdict) → Says d x v → v ≡ verdict_of d x

@@ -1,8 +1,7 @@
 -- The weigher's verdict on a plan, in the report's terms (document 01, "The weigher"; document 02, 2.1, 2.5; report, section 2).
 -- A plan is a function from periods to amounts, as in the crate day's Plan. Index k is period k + 1.
 -- Main definition: `verdict_of`. Assumes nothing.
-use Rattle.std.specs.Prelude.{Bool, true, false, ◌&&◌, ◌||◌, ℕ, suc, ◌+◌, eqb, ltb}
-use Rattle.std.proofs.Math.Option.{Option, none, some}
+use Rattle.std.specs.Prelude.{Bool, true, false, ◌&&◌, ◌||◌, ℕ, suc, ◌+◌, eqb, ltb, Option, None, Some}
 use Rattle.day.specs.declared.Totals.{Totals}
 use Rattle.day.specs.Sums.{at, sum_to}
 use Rattle.day.specs.Find.{find}
@@ -49,8 +48,8 @@ totals_of d x = record { cost = cost d x; setups = setups (periods d) x }
 
 -- the first period that breaks a rule decides
 abbrev pub verdict_at : Day → (ℕ → ℕ) → Option ℕ → Verdict
-verdict_at d x none = Holds (totals_of d x)
-verdict_at d x (some k) = Broken (rule_at d x k) (suc k)
+verdict_at d x None = Holds (totals_of d x)
+verdict_at d x (Some k) = Broken (rule_at d x k) (suc k)
 
 abbrev pub verdict_of : Day → (ℕ → ℕ) → Verdict
 verdict_of d x = verdict_at d x (find (breaks d x) (periods d))
