@@ -23,7 +23,8 @@ use Rattle.day.specs.Refusals.{number_of, period_of, refuse_at, anywhere, first,
 use Rattle.day.specs.Refusals.{bad_total, bad_opening, total_tests, day_tests}
 use Rattle.day.specs.Refusals.{bad_slots, most_to, short, shortage, FirstAt, differs, unequal, binds, binding, paid, paid_setup, tight, low_store}
 use Rattle.day.specs.Tests.{first_split, first_passed, first_one, first_two, not_refused, nowhere, neither}
-use Rattle.day.specs.Outcome.{Path, Sizes, Roomy, area_test, memory_tests, path_tests, refusal}
+use Rattle.day.specs.declared.Sizes.{Sizes}
+use Rattle.day.specs.Outcome.{Path, Roomy, area_test, memory_tests, path_tests, refusal}
 
 -- every table is as long as the demand table
 pub record SameLengths (d : Day) : Type 0 where

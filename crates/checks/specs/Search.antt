@@ -1,9 +1,8 @@
 -- A loop that looks for the first period in which a test holds: what it knows, a turn, what it answers there and at its end.
 -- Assumes nothing.
-use Rattle.std.specs.Prelude.{◌≡◌, refl, Bool, true, false, ℕ, ◌+◌, ◌≤◌, ◌<◌, None, Some}
+use Rattle.std.specs.Prelude.{◌≡◌, refl, Bool, true, false, ℕ, ◌+◌, ◌≤◌, ◌<◌, None, Some, Result, Ok, Err}
 use Rattle.std.proofs.Common.{add-one, arith}
 use Rattle.day.specs.declared.Refusal.{Refusal}
-use Rattle.day.specs.declared.Check.TheVariants.{Passed, Refused}
 use Rattle.day.specs.Find.{find, find_none, find_here}
 use Rattle.day.specs.Refusals.{refuse_at, checked}
 
@@ -24,8 +23,8 @@ module _ {P : ℕ → Bool} {n i : ℕ} (s : Searched P n i) where
   pub found_here : P i ≡ true → i < n → find P n ≡ Some i
   found_here t l = find_here P i n s.nothing t l
 
-  pub refused_here : (r : ℕ → Refusal) → P i ≡ true → i < n → Refused (r (i + 1)) ≡ checked (refuse_at r (find P n))
+  pub refused_here : (r : ℕ → Refusal) → P i ≡ true → i < n → Err (r (i + 1)) ≡ checked (refuse_at r (find P n))
   refused_here r t l = rw (add-one, found_here t l) refl
 
-  pub passed_all : (r : ℕ → Refusal) → n ≤ i → Passed ≡ checked (refuse_at r (find P n))
+  pub passed_all : (r : ℕ → Refusal) → n ≤ i → Ok tt ≡ checked (refuse_at r (find P n))
   passed_all r h = rw (searched_all h) refl

@@ -4,6 +4,7 @@
 use Rattle.std.specs.Prelude.{◌≡◌, refl, Bool, true, false, cond, List, ℕ, ◌+◌, ◌-◌, ◌*◌, ◌≤◌, ◌<◌, eqb, length}
 use Rattle.std.proofs.Common.{arith, eq-eqb, ne_eqb}
 use Rattle.day.specs.declared.Ends.{Ends}
+use Rattle.day.specs.declared.Entries.{Entries}
 use Rattle.day.specs.Sums.{at, sum_to}
 
 -- One entry a period. In the documents' words: need r, capacity c, start cost b, unit cost p, upkeep h, store limit s (document 02, 2.5).
@@ -48,6 +49,26 @@ ends_of d = ends_with d.opening d.closing
 -- the day with another table of needs
 abbrev pub with_demand : List ℕ → Day → Day
 with_demand needs d = day_of needs d.capacity d.setup d.unit d.holding d.store (ends_of d)
+
+-- each table of the day has an entry at index i
+pub record HasPeriod (d : Day) (i : ℕ) : Type 0 where
+  pub demand : i < length d.demand
+  pub capacity : i < length d.capacity
+  pub setup : i < length d.setup
+  pub unit : i < length d.unit
+  pub holding : i < length d.holding
+  pub store : i < length d.store
+
+-- and what they are
+abbrev pub entries_at : Day → ℕ → Entries
+entries_at d i = record {
+  demand = at d.demand i;
+  capacity = at d.capacity i;
+  setup = at d.setup i;
+  unit = at d.unit i;
+  holding = at d.holding i;
+  store = at d.store i;
+}
 
 -- n
 abbrev pub periods : Day → ℕ

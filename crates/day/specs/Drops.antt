@@ -12,7 +12,8 @@ use Rattle.day.specs.Plan.{cost, setups}
 use Rattle.day.specs.InTurn.{ServedTo}
 use Rattle.day.specs.Refusals.{Gives, first, no_trials}
 use Rattle.day.specs.Figures.{accepted_with, big_figures}
-use Rattle.day.specs.Outcome.{Memory, Sizes, sizes_of, refusal, Cleared}
+use Rattle.day.specs.declared.Sizes.{Sizes}
+use Rattle.day.specs.Outcome.{Memory, sizes_of, refusal, Cleared}
 use Rattle.day.specs.Paths.{big}
 use Rattle.day.specs.Ranges.{LeastCost}
 

@@ -1,39 +1,17 @@
 -- What a contract says of lent tables: the values that they hold when a call begins, and when it ends.
 -- Main definitions: `lent_day`, of a lent day; of tables that are lent one by one `day_before`, `tables_before`, `tables_lent`, `tables_after`; `memory_before`, `memory_after`, of a path that is lent no choice area
 -- `cells_before`, `cells_after`, and of a call that is lent no slots `areas_before`, `areas_after`. Assumes nothing.
-use Rattle.std.specs.Prelude.{List, [], ℕ, ◌<◌, length}
+use Rattle.std.specs.Prelude.{List, [], ℕ}
 use Rattle.std.specs.Borrow.{Bor, MutBor}
 use denote.Triple.Both.{Both}
 use Rattle.day.specs.declared.Ends.{Ends}
-use Rattle.day.specs.declared.Entries.{Entries}
-use Rattle.day.specs.declared.Day.{Day as LentDay}
-use Rattle.day.specs.Sums.{at}
+use Rattle.day.specs.declared.lent.Day.{Day as LentDay}
 use Rattle.day.specs.Day.{Day, day_of, no_ends, tables_of}
 use Rattle.day.specs.Outcome.{Memory, memory_of}
 
 -- the day that a lent one holds
 abbrev pub lent_day : LentDay → Day
 lent_day l = day_of l.demand.now l.capacity.now l.setup.now l.unit.now l.holding.now l.store.now l.ends
-
--- each of its tables has an entry at index i
-pub record HasPeriod (d : Day) (i : ℕ) : Type 0 where
-  pub demand : i < length d.demand
-  pub capacity : i < length d.capacity
-  pub setup : i < length d.setup
-  pub unit : i < length d.unit
-  pub holding : i < length d.holding
-  pub store : i < length d.store
-
--- and what they are
-abbrev pub entries_at : Day → ℕ → Entries
-entries_at d i = record {
-  demand = at d.demand i;
-  capacity = at d.capacity i;
-  setup = at d.setup i;
-  unit = at d.unit i;
-  holding = at d.holding i;
-  store = at d.store i;
-}
 
 -- a slice that is lent to be read, as a contract's `ensures` has it: at entry and at exit
 abbrev pub Lent : Type 0

@@ -21,7 +21,8 @@ pub mod Loads
 pub mod Ranges
 -- Big days: trials that forbid one period more, and the call that gives the best so far.
 pub mod Drops
--- Lent tables and memory at both moments of a call, as contracts speak of them.
+-- What the types of lent tables say; lent tables and memory at both moments of a call, as contracts speak of them.
+pub mod Widths
 pub mod Lent
 -- The marked days: a plain search over all plans, the table, its theorem.
 pub mod Search

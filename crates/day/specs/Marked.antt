@@ -8,7 +8,8 @@ use Rattle.day.specs.Sums.{at}
 use Rattle.day.specs.Day.{Day, tables_of, periods, max_total, max_store}
 use Rattle.day.specs.Plan.{Feasible, Optimal, cost, setups}
 use Rattle.day.specs.Refusals.{period_of, refuse, or_next, first, FirstShort, paid_setup, low_store}
-use Rattle.day.specs.Outcome.{Sizes, Path, Roomy, refusal}
+use Rattle.day.specs.declared.Sizes.{Sizes}
+use Rattle.day.specs.Outcome.{Path, Roomy, refusal}
 use Rattle.day.specs.Search.{both}
 
 -- what a row claims of its day: its plan, with cost and setups; what some other plan costs; or the period of refusal 7

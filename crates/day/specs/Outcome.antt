@@ -4,6 +4,7 @@
 use Rattle.std.specs.Prelude.{◌≡◌, List, [], ◌∷◌, ◌++◌, ℕ, ◌≤◌, length, drop, replicate, Option, None, Result, Ok, Err}
 use Rattle.std.proofs.Common.{◌∙◌, le-ltb}
 use Rattle.day.specs.declared.Refusal.{Refusal}
+use Rattle.day.specs.declared.Sizes.{Sizes}
 use Rattle.day.specs.declared.Totals.{Totals}
 use Rattle.day.specs.Sums.{at}
 use Rattle.day.specs.Day.{Day, periods, total}
@@ -22,11 +23,6 @@ abbrev pub memory_of : (costs choices slots : List ℕ) → Memory
 memory_of costs choices slots = record { costs = costs; choices = choices; slots = slots }
 
 -- how many cells these are
-pub record Sizes : Type 0 where
-  pub costs : ℕ
-  pub choices : ℕ
-  pub slots : ℕ
-
 abbrev pub sizes : (costs choices slots : ℕ) → Sizes
 sizes costs choices slots = record { costs = costs; choices = choices; slots = slots }
 

@@ -9,7 +9,8 @@ use Rattle.day.specs.Day.{Day, periods, total, with_demand, max_total}
 use Rattle.day.specs.Plan.{Optimal, cost}
 use Rattle.day.specs.Refusals.{Gives, first, pair_tests, total_tests, opened, reversed, shortage}
 use Rattle.day.specs.Figures.{accepted_with, bounds_figures}
-use Rattle.day.specs.Outcome.{Memory, Sizes, sizes_of, area_test, Cleared}
+use Rattle.day.specs.declared.Sizes.{Sizes}
+use Rattle.day.specs.Outcome.{Memory, sizes_of, area_test, Cleared}
 use Rattle.day.specs.Paths.{full}
 
 -- e has no higher need, start, unit cost, upkeep or Z than d, and no lower capacity or store limit, in any place

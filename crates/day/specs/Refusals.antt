@@ -2,6 +2,7 @@
 -- A call's first refusal in order is `first` of a list of these; laws of such lists are in `Tests`. Conditions 10 to 13 and 20 are in `File`.
 -- Assumes nothing.
 use Rattle.std.specs.Prelude.{◌≡◌, Bool, true, false, not, ◌||◌, List, [], ◌∷◌, ◌++◌, ℕ, suc, ◌+◌, ◌-◌, ◌<◌, eqb, ltb, length, Option, None, Some, Result, Ok, Err}
+use Rattle.day.specs.declared.Entries.{Entries}
 use Rattle.day.specs.declared.Refusal.{Refusal}
 use Rattle.day.specs.declared.Refusal.TheVariants.{PeriodCount, TableLength, AboveLimit, TotalDemand, ShortArea, FewSlots, Shortage}
 use Rattle.day.specs.declared.Refusal.TheVariants.{UnequalCapacities, BindingCapacity}
@@ -10,7 +11,7 @@ use Rattle.day.specs.declared.Refusal.TheVariants.{OpeningInventory, ReversedRan
 use Rattle.day.specs.Sums.{at, capped_to}
 use Rattle.day.specs.Find.{find}
 use Rattle.day.specs.Day.{Day, periods, max_periods, max_demand, max_capacity, max_setup, max_rate, max_half_rate, max_store}
-use Rattle.day.specs.Day.{with_demand, demand_to, required, total, net_to}
+use Rattle.day.specs.Day.{entries_at, with_demand, demand_to, required, total, net_to}
 use Rattle.day.specs.Plan.{KeepsTo}
 
 -- the documents' number of a refusal
@@ -106,14 +107,17 @@ bad_lengths d =
     TableLength
 
 -- 3: a value above its limit; a capacity or a store limit, of 16 bits, never is
+abbrev pub above : Entries → Bool
+above p =
+    ltb max_demand p.demand
+    || ltb max_capacity p.capacity
+    || ltb max_setup p.setup
+    || ltb max_rate p.unit
+    || ltb max_half_rate p.holding
+    || ltb max_store p.store
+
 abbrev pub above_limit : Day → ℕ → Bool
-above_limit d k =
-    ltb max_demand (at d.demand k)
-    || ltb max_capacity (at d.capacity k)
-    || ltb max_setup (at d.setup k)
-    || ltb max_rate (at d.unit k)
-    || ltb max_half_rate (at d.holding k)
-    || ltb max_store (at d.store k)
+above_limit d k = above (entries_at d k)
 
 abbrev pub bad_value : Day → Option Refusal
 bad_value d = refuse_at AboveLimit (find (above_limit d) (periods d))

@@ -1,8 +1,9 @@
 -- Entries of tables and sums over the first periods.
 -- Index k is the report's period k + 1, and `sum_to f i` is the sum over the report's periods 1 to i.
 -- Assumes nothing.
-use Rattle.std.specs.Prelude.{◌≡◌, refl, List, [], ◌∷◌, ℕ, zero, suc, ◌+◌, ◌-◌, ◌*◌, ◌≤◌, ◌<◌, min, get_or, length, drop}
+use Rattle.std.specs.Prelude.{◌≡◌, refl, List, [], ◌∷◌, ℕ, zero, suc, ◌+◌, ◌-◌, ◌*◌, ◌≤◌, ◌<◌, min, get_or, length, drop, sum}
 use Rattle.std.proofs.Common.{sym, ap, ap₂, ◌∙◌, ⊎_elim, suc-le-suc, eq-or-lt_of_le, le_of_suc-le-suc, add-one, arith, drop-drop}
+use Rattle.std.proofs.lemmas.List.Sums.{sum_by-cons}
 use Rattle.std.proofs.Math.Arith.{le-zero}
 
 -- entry k of a table, 0 past its end
@@ -48,6 +49,21 @@ sum_ext f g (suc n) h = omega (arith, sum_ext f g n (λ k l. h k (omega arith)),
 pub sum_grows : (f : ℕ → ℕ) (i n : ℕ) → i ≤ n → sum_to f i ≤ sum_to f n
 sum_grows f i zero h = rw (le-zero h) (omega arith)
 sum_grows f i (suc n) h = ⊎_elim (λ (e : i ≡ suc n). rw e (omega arith)) (λ l. omega (arith, sum_grows f i n (le_of_suc-le-suc l))) (eq-or-lt_of_le h)
+
+-- a sum with its first term in front
+pub sum_first : (f : ℕ → ℕ) (n : ℕ) → sum_to f (suc n) ≡ f 0 + sum_to (λ k. f (suc k)) n
+sum_first f zero = omega arith
+sum_first f (suc n) = omega (arith, sum_first f n)
+
+-- the sum over a whole table is that of its entries
+pub sum_to-sum : (l : List ℕ) → sum_to (at l) (length l) ≡ sum l
+sum_to-sum [] = refl
+sum_to-sum (x ∷ l) = sum_first (at (x ∷ l)) (length l) ∙ (ap (λ (n : ℕ). x + n) (sum_to-sum l) ∙ sym (sum_by-cons (λ (n : ℕ). n) x l))
+
+-- terms that are at most `top`
+pub sum_low : (f : ℕ → ℕ) (top n : ℕ) → ((k : ℕ) → f k ≤ top) → sum_to f n ≤ top * n
+sum_low f top zero h = omega arith
+sum_low f top (suc n) h = omega (arith, sum_low f top n h, h n)
 
 -- f 0, .. f (n - 1) as a table
 abbrev pub list_of : (ℕ → ℕ) → ℕ → List ℕ

@@ -1,10 +1,14 @@
 //! The types that every call answers with. What they mean is in specs/.
 #![tactic(auto)]
 
+mod lent;
+
 ghost use Rattle.std.specs.Prelude.{◌≡◌};
-ghost use Rattle.day.specs.Day.{periods};
-ghost use Rattle.day.specs.Lent.{lent_day, entries_at, HasPeriod};
+ghost use Rattle.day.specs.Day.{periods, entries_at, with_demand, HasPeriod};
+ghost use Rattle.day.specs.Lent.{lent_day, day_before};
 ghost use Rattle.day.specs.Refusals.{number_of, period_of};
+
+pub use lent::Day;
 
 // Why a call is refused, with the period that it names, where it names one.
 // `number_of` and `period_of` give the documents' number and period.
@@ -105,19 +109,6 @@ pub struct Ends {
     pub closing: u16,
 }
 
-// A day as a call is lent it: its tables, with one entry a period, and its ends. In the documents' words: need r, capacity c, start cost b, unit
-// cost p, upkeep h, store limit s (document 02, 2.5).
-#[derive(Clone, Copy)]
-pub struct Day<'a> {
-    pub demand: &'a [u16],
-    pub capacity: &'a [u16],
-    pub setup: &'a [u32],
-    pub unit: &'a [u32],
-    pub holding: &'a [u32],
-    pub store: &'a [u16],
-    pub ends: Ends,
-}
-
 // The entries of one period.
 #[derive(Clone, Copy)]
 pub struct Entries {
@@ -130,6 +121,43 @@ pub struct Entries {
 }
 
 impl<'a> Day<'a> {
+    pub fn new(
+        demand: &'a [u16],
+        capacity: &'a [u16],
+        setup: &'a [u32],
+        unit: &'a [u32],
+        holding: &'a [u32],
+        store: &'a [u16],
+        ends: Ends,
+    ) -> Day<'a>
+        ensures { lent_day result ≡ day_before demand capacity setup unit holding store ends }
+    {
+        Day {
+            demand,
+            capacity,
+            setup,
+            unit,
+            holding,
+            store,
+            ends,
+        }
+    }
+
+    // The day with another table of needs.
+    pub fn with_demand(self, needs: &'a [u16]) -> Day<'a>
+        ensures { lent_day result ≡ with_demand needs.entry.now (lent_day self.entry) }
+    {
+        Day::new(
+            needs,
+            self.capacity,
+            self.setup,
+            self.unit,
+            self.holding,
+            self.store,
+            self.ends,
+        )
+    }
+
     // n
     pub fn periods(self) -> usize
         ensures { result ≡ periods (lent_day self.entry) }
@@ -151,6 +179,14 @@ impl<'a> Day<'a> {
             store: self.store[i],
         }
     }
+}
+
+// How many cells a caller lends: of the cost area, of the choice area, answer slots.
+#[derive(Clone, Copy)]
+pub struct Sizes {
+    pub costs: usize,
+    pub choices: usize,
+    pub slots: usize,
 }
 
 // The station and the day that a file is for, in days since 1 January 2000 (document 02, 2.12: the pair).

@@ -3,28 +3,28 @@
 //! store limits let be made by the end of each period.
 #![tactic(auto)]
 
-ghost use Rattle.std.specs.Prelude.{◌≡◌, [], ◌≤◌, length};
-ghost use Rattle.day.specs.Day.{day_of, required};
+ghost use Rattle.std.specs.Prelude.{◌≡◌, ◌≤◌, length};
+ghost use Rattle.day.specs.Day.{periods, required};
+ghost use Rattle.day.specs.Lent.{lent_day};
 ghost use Rattle.theory.specs.Net.{net_needs, rates_of, NetFits, HalfRates, NetTables};
 ghost use Rattle.theory.specs.Store.{ceilings_of};
 
-use day::Ends;
+use day::Day;
 
 // The net need of every period.
-fn fill_needs(demand: &[u16], net: &mut [u16], ends: Ends)
-    requires net_len { length net.old ≡ length demand.now }
-    requires net_fits { NetFits (day_of demand.now [] [] [] [] [] ends) }
-    ensures { net.new ≡ net_needs (day_of demand.now [] [] [] [] [] ends) }
+fn fill_needs(day: Day, net: &mut [u16])
+    requires net_len { length net.old ≡ periods (lent_day day) }
+    requires net_fits { NetFits (lent_day day) }
+    ensures { net.new ≡ net_needs (lent_day day.entry) }
 {
+    let n = day.periods();
     let mut demanded: u64 = 0;
     let mut made: u64 = 0;
-    let mut i = 0;
-    while i < demand.len() {
-        demanded += demand[i] as u64;
-        let next = checks::net_to(demanded, i + 1 == demand.len(), ends);
+    for i in 0..n {
+        demanded += day.demand[i] as u64;
+        let next = checks::net_to(demanded, i + 1 == n, day.ends);
         net[i] = (next - made) as u16;
         made = next;
-        i += 1;
     }
 }
 
@@ -35,42 +35,38 @@ fn fill_rates(holding: &[u32], rates: &mut [u32])
     ensures { rates.new ≡ rates_of holding.now }
 {
     let mut next: u32 = 0;
-    let mut i = holding.len();
-    while 0 < i {
-        i -= 1;
+    for i in (0..holding.len()).rev() {
         rates[i] = holding[i] + next;
         next = holding[i];
     }
 }
 
 // The net needs and the rates of a day.
-pub fn fill(demand: &[u16], holding: &[u32], net: &mut [u16], rates: &mut [u32], ends: Ends)
-    requires net_len { length net.old ≡ length demand.now }
-    requires rates_len { length rates.old ≡ length holding.now }
-    requires net_fits { NetFits (day_of demand.now [] [] [] [] [] ends) }
-    requires half_rates { HalfRates holding.now }
-    ensures { NetTables (day_of demand.now [] [] [] holding.now [] ends) net.new rates.new }
+pub fn fill(day: Day, net: &mut [u16], rates: &mut [u32])
+    requires net_len { length net.old ≡ periods (lent_day day) }
+    requires rates_len { length rates.old ≡ length day.holding.now }
+    requires net_fits { NetFits (lent_day day) }
+    requires half_rates { HalfRates day.holding.now }
+    ensures { NetTables (lent_day day.entry) net.new rates.new }
 {
-    fill_needs(demand, net, ends);
-    fill_rates(holding, rates);
+    fill_needs(day, net);
+    fill_rates(day.holding, rates);
 }
 
 // The most that may have been made after every period: R + s − A, and never more than T.
-pub fn fill_ceilings(demand: &[u16], store: &[u16], ceilings: &mut [u16], ends: Ends)
-    requires ceilings_len { length ceilings.old ≡ length demand.now }
-    requires store_len { length store.now ≡ length demand.now }
-    requires net_fits { NetFits (day_of demand.now [] [] [] [] [] ends) }
-    requires opening_bound { ends.opening ≤ required (day_of demand.now [] [] [] [] [] ends) }
-    ensures { ceilings.new ≡ ceilings_of (day_of demand.now [] [] [] [] store.now ends) }
+pub fn fill_ceilings(day: Day, ceilings: &mut [u16])
+    requires ceilings_len { length ceilings.old ≡ periods (lent_day day) }
+    requires store_len { length day.store.now ≡ periods (lent_day day) }
+    requires net_fits { NetFits (lent_day day) }
+    requires opening_bound { day.ends.opening ≤ required (lent_day day) }
+    ensures { ceilings.new ≡ ceilings_of (lent_day day.entry) }
 {
-    let total = checks::total(demand, ends);
-    let opening = ends.opening as u64;
+    let total = checks::total(day);
+    let opening = day.ends.opening as u64;
     let mut demanded: u64 = 0;
-    let mut i = 0;
-    while i < demand.len() {
-        demanded += demand[i] as u64;
-        let limit = demanded + (store[i] as u64);
-        ceilings[i] = checks::smaller(total, checks::beyond(limit, opening)) as u16;
-        i += 1;
+    for i in 0..day.periods() {
+        demanded += day.demand[i] as u64;
+        let limit = demanded + (day.store[i] as u64);
+        ceilings[i] = total.min(limit.saturating_sub(opening)) as u16;
     }
 }

@@ -2,7 +2,8 @@
 use Rattle.std.specs.Prelude.{◌≡◌, refl, ℕ}
 use Rattle.day.specs.Day.{Day, periods, total}
 use Rattle.day.specs.Refusals.{bad_areas}
-use Rattle.day.specs.Outcome.{Path, Sizes, area_test}
+use Rattle.day.specs.declared.Sizes.{Sizes}
+use Rattle.day.specs.Outcome.{Path, area_test}
 use Rattle.path_checks.specs.declared.Needed.{Needed}
 
 -- what a path needs for n periods in which T is made

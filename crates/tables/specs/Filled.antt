@@ -6,8 +6,8 @@ use Rattle.std.proofs.Common.{ap, ◌∙◌, le_of_suc-le-suc, add-one, arith, t
 use Rattle.std.proofs.Math.ListN.{get_or-append}
 use Rattle.day.specs.Sums.{at, list_of, at-list_of, length-list_of}
 use Rattle.day.specs.declared.Ends.{Ends}
+use Rattle.day.specs.declared.Entries.{Entries}
 use Rattle.day.specs.Day.{Day, day_of, tables_of}
-use Rattle.tables.specs.declared.Numbers.{Numbers}
 
 -- each table has at least n cells
 pub record Cells (n : ℕ) (tables : Day) : Type 0 where
@@ -55,7 +55,7 @@ pub with_front : (f : ℕ → ℕ) (n : ℕ) (l : List ℕ) → take n (with_fir
 with_front f n l = take_at (list_of f n) (drop n l) n (length-list_of f n)
 
 -- tables whose first k cells take the numbers p 0, .. p (k - 1)
-abbrev pub with_numbers : (ℕ → Numbers) → ℕ → Day → Day
+abbrev pub with_numbers : (ℕ → Entries) → ℕ → Day → Day
 with_numbers p k tables =
     tables_of
     (with_first (λ i. (p i).demand) k tables.demand)
@@ -66,7 +66,7 @@ with_numbers p k tables =
     (with_first (λ i. (p i).store) k tables.store)
 
 -- cell k of each table takes a period's number
-abbrev pub stored : ℕ → Numbers → Day → Day
+abbrev pub stored : ℕ → Entries → Day → Day
 stored k p tables =
     tables_of
     (set tables.demand k p.demand)
@@ -109,7 +109,7 @@ pub record SameCells (before after : Day) : Type 0 where
   pub holding : length after.holding ≡ length before.holding
   pub store : length after.store ≡ length before.store
 
-same_cells : (p : ℕ → Numbers) (k : ℕ) (before after : Day) → after ≡ with_numbers p k before → Cells k before → SameCells before after
+same_cells : (p : ℕ → Entries) (k : ℕ) (before after : Day) → after ≡ with_numbers p k before → Cells k before → SameCells before after
 same_cells p k before after e w =
     rw e
     (record {
@@ -122,7 +122,7 @@ same_cells p k before after e w =
     })
 
 -- one period more
-numbers_more : (p : ℕ → Numbers) (k : ℕ) (before : Day) → Cells (suc k) before
+numbers_more : (p : ℕ → Entries) (k : ℕ) (before : Day) → Cells (suc k) before
     → stored k (p k) (with_numbers p k before) ≡ with_numbers p (suc k) before
 numbers_more p k before w =
     rw (
@@ -136,12 +136,12 @@ numbers_more p k before w =
     refl
 
 -- a loop that fills the tables for n periods has put the first k there
-pub record Filled (p : ℕ → Numbers) (n : ℕ) (before : Day) (k : ℕ) (after : Day) : Type 0 where
+pub record Filled (p : ℕ → Entries) (n : ℕ) (before : Day) (k : ℕ) (after : Day) : Type 0 where
   pub done : k ≤ n
   pub tables : after ≡ with_numbers p k before
   pub cells : SameCells before after
 
-pub filled_none : (p : ℕ → Numbers) (n : ℕ) (demand capacity setup unit holding store : List ℕ)
+pub filled_none : (p : ℕ → Entries) (n : ℕ) (demand capacity setup unit holding store : List ℕ)
     → let tables = tables_of demand capacity setup unit holding store in Filled p n tables 0 tables
 filled_none p n demand capacity setup unit holding store = record {
   done = omega arith;
@@ -149,7 +149,7 @@ filled_none p n demand capacity setup unit holding store = record {
   cells = record { demand = refl; capacity = refl; setup = refl; unit = refl; holding = refl; store = refl };
 }
 
-module _ (p : ℕ → Numbers) (n : ℕ) (before : Day) (k : ℕ) (after : Day) (w : Filled p n before k after) (l : k < n) (c : Cells n before) where
+module _ (p : ℕ → Entries) (n : ℕ) (before : Day) (k : ℕ) (after : Day) (w : Filled p n before k after) (l : k < n) (c : Cells n before) where
   -- the cells of period k + 1 are there
   pub cells_here : Cells (k + 1) after
   cells_here = record {

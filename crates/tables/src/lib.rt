@@ -6,21 +6,13 @@ ghost use Rattle.day.specs.Day.{tables_of};
 ghost use Rattle.day.specs.Lent.{tables_lent, tables_after};
 ghost use Rattle.tables.specs.Filled.{Cells, stored};
 
-// The numbers of one period.
-#[derive(Clone, Copy)]
-pub struct Numbers {
-    pub demand: u16,
-    pub capacity: u16,
-    pub setup: u32,
-    pub unit: u32,
-    pub holding: u32,
-    pub store: u16,
-}
+use day::Entries;
 
-// One cell of each table takes a period's number.
+// One cell of each table takes a period's number. The tables come one by one: of a struct of `&mut` slices each call would have to say, field by
+// field, that it hands the same references back.
 pub fn put(
     k: usize,
-    numbers: Numbers,
+    p: Entries,
     demand: &mut [u16],
     capacity: &mut [u16],
     setup: &mut [u32],
@@ -29,20 +21,14 @@ pub fn put(
     store: &mut [u16],
 )
     requires { Cells (k + 1) (tables_of demand.old capacity.old setup.old unit.old holding.old store.old) }
-    ensures { tables_after demand capacity setup unit holding store ≡ stored k numbers (tables_lent demand capacity setup unit holding store) }
+    ensures { tables_after demand capacity setup unit holding store ≡ stored k p (tables_lent demand capacity setup unit holding store) }
 {
-    demand[k] = numbers.demand;
-    capacity[k] = numbers.capacity;
-    setup[k] = numbers.setup;
-    unit[k] = numbers.unit;
-    holding[k] = numbers.holding;
-    store[k] = numbers.store;
-}
-
-fn least(a: usize, b: usize) -> usize
-    ensures { result ≡ min a b }
-{
-    if a < b { a } else { b }
+    demand[k] = p.demand;
+    capacity[k] = p.capacity;
+    setup[k] = p.setup;
+    unit[k] = p.unit;
+    holding[k] = p.holding;
+    store[k] = p.store;
 }
 
 // How many cells each table has at least.
@@ -56,8 +42,5 @@ pub fn shortest(
 ) -> usize
     ensures { result ≡ min demand (min capacity (min setup (min unit (min holding store)))) }
 {
-    least(
-        demand,
-        least(capacity, least(setup, least(unit, least(holding, store)))),
-    )
+    demand.min(capacity.min(setup.min(unit.min(holding.min(store)))))
 }

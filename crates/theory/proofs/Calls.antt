@@ -3,12 +3,10 @@
 -- `full_refused_first`, `full_cheapest_first`; `free_in_turn_ends`, `free_in_turn` (document 02, 2.3: the rule).
 -- Assumes nothing.
 use Rattle.std.proofs.lemmas.Option.{none-some}
-use Rattle.std.specs.Prelude.{◌≡◌, refl, [], ◌∷◌, ◌↔◌, ℕ, ◌<◌, None}
+use Rattle.std.specs.Prelude.{◌≡◌, refl, [], ◌∷◌, ◌↔◌, ℕ, ◌<◌, None, Result, Ok, Err}
 use Rattle.std.proofs.Common.{sym, ◌∙◌, arith}
 use Rattle.day.specs.declared.Refusal.{Refusal}
 use Rattle.day.specs.declared.Totals.{Totals}
-use Rattle.day.specs.declared.Answer.{Answer}
-use Rattle.day.specs.declared.Answer.TheVariants.{Refused, Planned}
 use Rattle.day.specs.Sums.{at}
 use Rattle.day.specs.Day.{Day, periods, total, max_total}
 use Rattle.day.specs.Plan.{Feasible}
@@ -37,17 +35,17 @@ module _ (P : Path) (d : Day) (m : Memory) (limits : DayLimits P.limit d) (room 
       ∙ (first_passed (day_tests P.limit d) (shortage d ∷ []) (day_passes d limits) ∙ first_one (shortage d))
 
   -- Demand 2: the answer is a plan exactly if some amounts keep the conditions.
-  pub planned_iff : (r : Answer) (after : Memory) → Runs P d m r after → IsPlan r ↔ ((x : ℕ → ℕ) × Feasible d x)
-  planned_iff (Refused q) after runs =
+  pub planned_iff : (r : Result Totals Refusal) (after : Memory) → Runs P d m r after → IsPlan r ↔ ((x : ℕ → ℕ) × Feasible d x)
+  planned_iff (Err q) after runs =
       (λ empty. absurd empty, λ w. none-some q (sym ((shortage_iff d (limits_fit limits)).1 w) ∙ (sym only_shortage ∙ gives_is runs.0)))
-  planned_iff (Planned t) after runs = (λ _. (at after.slots, runs.1.plan.feasible), λ _. tt)
+  planned_iff (Ok t) after runs = (λ _. (at after.slots, runs.1.plan.feasible), λ _. tt)
 
   -- Demand 2: otherwise it is refusal 7 with the first period for which no amounts up to it keep the conditions through it.
-  pub refused_first : (q : Refusal) (after : Memory) → Runs P d m (Refused q) after → FirstShort d q
+  pub refused_first : (q : Refusal) (after : Memory) → Runs P d m (Err q) after → FirstShort d q
   refused_first q after runs = shortage_names d (limits_fit limits) q (sym only_shortage ∙ gives_is runs.0)
 
 -- so it is with the answer's own cost
-pub cheapest_first : (P : Path) (d : Day) (m : Memory) (t : Totals) (after : Memory) → Runs P d m (Planned t) after
+pub cheapest_first : (P : Path) (d : Day) (m : Memory) (t : Totals) (after : Memory) → Runs P d m (Ok t) after
     → CheapestFirst d (at after.slots) t.cost
 cheapest_first P d m t after runs y f =
     let q = runs.1.plan.first y f in
@@ -56,18 +54,18 @@ cheapest_first P d m t after runs y f =
 
 -- the full path, which has no test of its own
 module _ (d : Day) (m : Memory) (limits : DayLimits max_total d) (room : Roomy full d (sizes_of m)) where
-  pub full_planned_iff : (r : Answer) (after : Memory) → Runs full d m r after → IsPlan r ↔ ((x : ℕ → ℕ) × Feasible d x)
+  pub full_planned_iff : (r : Result Totals Refusal) (after : Memory) → Runs full d m r after → IsPlan r ↔ ((x : ℕ → ℕ) × Feasible d x)
   full_planned_iff = planned_iff full d m limits room refl
 
-  pub full_refused_first : (q : Refusal) (after : Memory) → Runs full d m (Refused q) after → FirstShort d q
+  pub full_refused_first : (q : Refusal) (after : Memory) → Runs full d m (Err q) after → FirstShort d q
   full_refused_first = refused_first full d m limits room refl
 
-pub full_cheapest_first : (d : Day) (m : Memory) (t : Totals) (after : Memory) → Runs full d m (Planned t) after
+pub full_cheapest_first : (d : Day) (m : Memory) (t : Totals) (after : Memory) → Runs full d m (Ok t) after
     → CheapestFirst d (at after.slots) t.cost
 full_cheapest_first = cheapest_first full
 
 -- Document 02, 2.3: an accepted day of the free path has no setup cost, and stores that can't bind;
-module _ (d : Day) (m : Memory) (t : Totals) (after : Memory) (runs : Runs free d m (Planned t) after) where
+module _ (d : Day) (m : Memory) (t : Totals) (after : Memory) (runs : Runs free d m (Ok t) after) where
   ok : Admitted free d (sizes_of m)
   ok = admitted free d (sizes_of m) runs.0
 

@@ -1,11 +1,10 @@
 -- Document 02, 2.6, of the equal path itself, over its contract: how many full-load periods its plan has.
 -- Main statements: `equal_run_loads`, of each run; `day_divided`, `equal_day_loads`: a day is divided into runs, and the answer's totals are the sums over
 -- them; `equal_no_loads`, of capacity 0. Assumes nothing.
-use Rattle.std.specs.Prelude.{◌≡◌, refl, ◌⊎◌, ℕ, zero, suc, ◌+◌, ◌%◌, ◌≤◌, ◌<◌, ltb}
+use Rattle.std.specs.Prelude.{◌≡◌, refl, ◌⊎◌, ℕ, zero, suc, ◌+◌, ◌%◌, ◌≤◌, ◌<◌, ltb, Ok}
 use Rattle.std.proofs.Common.{sym, ap, ap₂, ◌∙◌, subst, inl, inr, ⊎_elim, eq-zero-or-pos, arith, lt-ltb}
 use Rattle.day.specs.declared.Totals.{Totals}
 use Rattle.day.specs.declared.Loads.{Loads}
-use Rattle.day.specs.declared.EqualAnswer.TheVariants.{Planned}
 use Rattle.day.specs.Sums.{at, sum_to, sum_grows, below}
 use Rattle.day.specs.Day.{Day, periods, net_to, net_before, net_end}
 use Rattle.day.specs.Plan.{inventory}
@@ -73,7 +72,7 @@ module _ (d : Day) (x : ℕ → ℕ) where
       go (suc k) e = ended k (under k (omega arith)) (omega arith) (inl e)
 
 -- An accepted call, with the plan and the loads that it answers with.
-module _ (d : Day) (m : Memory) (t : Totals) (l : Loads) (after : Memory) (call : EqualRuns d m (Planned t l) after) where
+module _ (d : Day) (m : Memory) (t : Totals) (l : Loads) (after : Memory) (call : EqualRuns d m (Ok (t, l)) after) where
   abbrev x : ℕ → ℕ
   x = at after.slots
 

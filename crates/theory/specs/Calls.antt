@@ -1,16 +1,16 @@
 -- What demands 2 and 3 say of a path's answer. Main definitions: `IsPlan`, `CheapestFirst`. That the paths keep to it is in proofs/Calls.
 -- Assumes nothing.
-use Rattle.std.specs.Prelude.{◌≡◌, ◌⊎◌, ℕ, ◌≤◌, ◌<◌}
-use Rattle.day.specs.declared.Answer.{Answer}
-use Rattle.day.specs.declared.Answer.TheVariants.{Refused, Planned}
+use Rattle.std.specs.Prelude.{◌≡◌, ◌⊎◌, ℕ, ◌≤◌, ◌<◌, Result, Ok, Err}
+use Rattle.day.specs.declared.Refusal.{Refusal}
+use Rattle.day.specs.declared.Totals.{Totals}
 use Rattle.day.specs.Day.{Day, periods}
 use Rattle.day.specs.Plan.{Feasible, cost}
 use Rattle.theory.specs.Order.{LastSmaller}
 
 -- the answer is a plan
-abbrev pub IsPlan : Answer → Type 0
-IsPlan (Refused r) = ⊥
-IsPlan (Planned t) = Unit {0}
+abbrev pub IsPlan : Result Totals Refusal → Type 0
+IsPlan (Err r) = ⊥
+IsPlan (Ok t) = Unit {0}
 
 -- Demand 3, in its words, of amounts x and what they are said to cost: every other plan that keeps the rules costs at least as much,
 -- and one that costs the same has the larger amount in the last period where the two differ.

@@ -12,7 +12,7 @@ use Rattle.theory.specs.Recursion.{both?}
 use Rattle.theory.specs.Reachable.{high, Covered}
 use Rattle.theory.specs.Exchange.{Fractional, Regeneration, interval_one}
 use Rattle.theory.specs.FullLoads.{FewParts, few_loads}
-use Rattle.theory.specs.Candidates.{Some}
+use Rattle.theory.specs.Candidates.{OneOf}
 use Rattle.theory.specs.Regeneration.{Kinds, tail, sum_tail, Right, Fits, cover}
 
 -- nothing, a full load, or the fractional load, which comes on top of full loads
@@ -95,15 +95,15 @@ module _ (M : Model) (rising : Rising M) (unlimited : Unlimited M) (c m : ℕ) (
 
 -- What answers the plans whose intervals are made by loads answers all plans of (m + 1, N (m + 1)): what a loop over l ends with.
 pub florian_klein_cover : (M : Model) → Rising M → Unlimited M → (c m : ℕ) → Equal M c (suc m) → (o : Option Solution)
-    → Answers (Some (λ l. Fits M (by_loads M c l (suc m)) (suc m) l) (suc m)) (λ x. cost_to M x (suc m)) (suc m) o → Right M (suc m) o
+    → Answers (OneOf (λ l. Fits M (by_loads M c l (suc m)) (suc m) l) (suc m)) (λ x. cost_to M x (suc m)) (suc m) o → Right M (suc m) o
 florian_klein_cover M rising unlimited c m caps =
     cover M rising unlimited (by_loads M c) (suc m) (omega arith)
     (λ x b l run k h. run_loads M rising unlimited c (suc m) caps x b l run k h)
 
 -- With no capacity nothing is demanded, and every plan is all zeros.
 pub no_room : (M : Model) (n : ℕ) → Equal M 0 n → Covered M n → (m : ℕ) → m ≤ n → M.floor m ≡ 0
-no_room M n caps enough m h = omega (arith, enough m h, None m h)
+no_room M n caps enough m h = omega (arith, enough m h, nothing m h)
   where
-    none : (j : ℕ) → j ≤ n → high M j ≡ 0
-    None zero g = refl
-    None (suc j) g = omega (arith, None j (omega arith), caps j g)
+    nothing : (j : ℕ) → j ≤ n → high M j ≡ 0
+    nothing zero g = refl
+    nothing (suc j) g = omega (arith, nothing j (omega arith), caps j g)

@@ -38,13 +38,10 @@ problem_by needs rates d = problem_with needs d.capacity d.setup d.unit rates
 abbrev pub problem_of : Day → Problem
 problem_of d = problem_by (net_needs d) (rates_of d.holding) d
 
--- the two tables as they are filled in: a day's demands, upkeep and ends decide them
-pub record FilledFrom (demand holding : List ℕ) (ends : Ends) (net rate : List ℕ) : Type 0 where
-  pub needs : net ≡ net_needs (day_of demand [] [] [] [] [] ends)
-  pub rates : rate ≡ rates_of holding
-
-abbrev pub NetTables : Day → (net rates : List ℕ) → Type 0
-NetTables d net rates = FilledFrom d.demand d.holding (ends_of d) net rates
+-- the two tables as they are filled in
+pub record NetTables (d : Day) (net rate : List ℕ) : Type 0 where
+  pub needs : net ≡ net_needs d
+  pub rates : rate ≡ rates_of d.holding
 
 -- what tests 1 and 14 leave: there is a period, and A ≤ R + Z
 pub record Fits (d : Day) : Type 0 where
@@ -61,8 +58,7 @@ pub record NetFits (d : Day) : Type 0 where
 abbrev pub HalfRates : List ℕ → Type 0
 HalfRates holding = (k : ℕ) → at holding k ≤ max_half_rate
 
--- of a day's demands and ends alone, as the function has it that fills the net needs
-limits_net : {limit : ℕ} {d : Day} → limit ≤ max_capacity → DayLimits limit d → NetFits (day_of d.demand [] [] [] [] [] (ends_of d))
+limits_net : {limit : ℕ} {d : Day} → limit ≤ max_capacity → DayLimits limit d → NetFits d
 limits_net low g = record { nonempty = g.limits.nonempty; few = g.limits.few; small = omega (arith, g.small) }
 
 pub limits_fit : {limit : ℕ} {d : Day} → DayLimits limit d → Fits d
@@ -150,7 +146,7 @@ module _ (d : Day) where
   pub limits_fill : {limit : ℕ} → limit ≤ max_capacity → DayLimits limit d
       → let front : List ℕ = take (n - 0) (replicate max_periods 0) in
       (length front ≡ length d.demand)
-      × ((length front ≡ length d.holding) × (NetFits (day_of d.demand [] [] [] [] [] (ends_of d)) × HalfRates d.holding))
+      × ((length front ≡ length d.holding) × (NetFits d × HalfRates d.holding))
   limits_fill low g =
       let l = g.limits in
       let size = length-take-le (n - 0) (replicate {A = ℕ} max_periods 0) (omega (arith, l.few, length-replicate {A = ℕ} max_periods 0)) in
@@ -159,7 +155,7 @@ module _ (d : Day) where
   -- and what filling the ceilings asks
   pub limits_ceilings : DayLimits max_total d
       → (length (take (n - 0) (replicate {A = ℕ} max_periods 0)) ≡ length d.demand)
-      × ((length d.store ≡ length d.demand) × (NetFits (day_of d.demand [] [] [] [] [] (ends_of d)) × (d.opening ≤ required d)))
+      × ((length d.store ≡ length d.demand) × (NetFits d × (d.opening ≤ required d)))
   limits_ceilings g = ((limits_fill (omega arith) g).0, (g.limits.lengths.store, (limits_net (omega arith) g, g.used)))
 
   pub bounded : DayLimits max_total d → Bounded (problem_of d)

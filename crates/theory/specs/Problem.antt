@@ -6,6 +6,7 @@ use Rattle.std.proofs.Common.{arith}
 use Rattle.std.proofs.Math.ListN.{get_or-eq_default}
 use Rattle.day.specs.Sums.{at, sum_to, sum_grows}
 use Rattle.day.specs.Day.{max_periods, max_demand, max_capacity, max_setup, max_rate, max_total}
+use Rattle.theory.specs.declared.Problem.{Problem as LentProblem}
 use Rattle.theory.specs.Model.{Model, Rising, Unlimited}
 use Rattle.theory.specs.Reachable.{high, high_open, Covered}
 
@@ -20,6 +21,10 @@ pub record Problem : Type 0 where
 -- the problem that five tables hold
 abbrev pub problem_with : (demand capacity setup unit holding : List ℕ) → Problem
 problem_with demand capacity setup unit holding = record { demand = demand; capacity = capacity; setup = setup; unit = unit; holding = holding }
+
+-- and a lent one
+abbrev pub lent_problem : LentProblem → Problem
+lent_problem l = problem_with l.demand.now l.capacity.now l.setup.now l.unit.now l.holding.now
 
 -- n
 abbrev pub periods : Problem → ℕ

@@ -14,7 +14,7 @@ use Rattle.theory.specs.Totals.{Totals, stages, Makes, costs, totals_answers}
 use Rattle.theory.specs.Recursion.{both?, PlanOf, AnswerOf, optimal_exists}
 use Rattle.theory.specs.Cut.{cost_ext, feasible_ext, feasible_less, floor_grows}
 use Rattle.theory.specs.Exchange.{Regeneration, last_run}
-use Rattle.theory.specs.Candidates.{Some}
+use Rattle.theory.specs.Candidates.{OneOf}
 
 -- which amounts an interval may have: `Kind k X x`, where after its period k it has made X, and x in that period
 pub record Kinds : Type 1 where
@@ -232,8 +232,8 @@ module _ (M : Model) (rising : Rising M) (unlimited : Unlimited M) where
         )
 
     -- Then what answers the plans that fit answers all plans of (m, N m): what a loop over l ends with.
-    pub cover : 0 < m → Shaped → (o : Option Solution) → Answers (Some (λ l. Fits M (K l m) m l) m) (λ x. cost_to M x m) m o → Right M m o
+    pub cover : 0 < m → Shaped → (o : Option Solution) → Answers (OneOf (λ l. Fits M (K l m) m l) m) (λ x. cost_to M x m) m o → Right M m o
     cover pos shape o a =
-        covers m (Some (λ l. Fits M (K l m) m l) m) o a
+        covers m (OneOf (λ l. Fits M (K l m) m l) m) o a
         (λ y q. fits_feasible q.0 q.1 y q.2)
         (λ x b. let w = last_run M rising (M.floor m) x m pos b.feasible in (w.0, w.1.ahead, run_fits shape x b w.0 w.1))

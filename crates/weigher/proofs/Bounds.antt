@@ -7,21 +7,19 @@ use Rattle.day.specs.declared.Refusal.{Refusal}
 use Rattle.day.specs.Sums.{at, sum_to}
 use Rattle.day.specs.Find.{find}
 use Rattle.day.specs.Day.{Day, periods, demand_to, max_periods, max_capacity, max_total, max_sum}
+use Rattle.day.specs.Widths.{Widths}
 use Rattle.day.specs.Plan.{inventory, cost_at, cost_to, setup_at}
 use Rattle.day.specs.Refusals.{day_tests, bad_slots}
 use Rattle.day.specs.Tests.{first_split}
 use Rattle.checks.specs.Passed.{DayLimits, day_passed}
 use Rattle.terms.specs.Low.{paid_low, making_low, setup_low}
-use Rattle.weigher.specs.declared.Weighed.TheVariants.{Judged}
 use Rattle.weigher.specs.Verdict.{breaks, verdict_at, verdict_of}
-use Rattle.weigher.specs.Answers.{weigh_refusal, or_refused, weighed_of}
+use Rattle.weigher.specs.Answers.{weigh_refusal, judged, or_refused, weighed_of}
 use Rattle.weigher.specs.Walk.{sums_to, Room, Signed}
 
--- every entry fits its table's width
+-- every entry fits its table's width, and every amount 16 bits
 pub record Wide (d : Day) (x : ℕ → ℕ) : Type 0 where
-  pub setup : (k : ℕ) → Fits w32 (at d.setup k)
-  pub unit : (k : ℕ) → Fits w32 (at d.unit k)
-  pub holding : (k : ℕ) → Fits w32 (at d.holding k)
+  pub tables : Widths d.demand d.capacity d.setup d.unit d.holding d.store
   pub amount : (k : ℕ) → Fits w16 (x k)
 
 -- terms of a day's periods, each at most `top`
@@ -43,8 +41,8 @@ module _ (d : Day) (x : ℕ → ℕ) (wide : Wide d x) (low : d.opening < 2 ^ 16
       term k l =
           omega (
             arith,
-            making_low _ _ (x k) (le_of_lt (wide.setup k).fits) (le_of_lt (wide.unit k).fits) (le_of_lt (wide.amount k).fits),
-            paid_low _ (inventory d x k + inventory d x (suc k)) (wide.holding k).fits
+            making_low _ _ (x k) (le_of_lt (wide.tables.setup k).fits) (le_of_lt (wide.tables.unit k).fits) (le_of_lt (wide.amount k).fits),
+            paid_low _ (inventory d x k + inventory d x (suc k)) (wide.tables.holding k).fits
                 (omega (arith, supplied_low k (omega arith), supplied_low (suc k) (omega arith))),
           )
 
@@ -60,13 +58,13 @@ module _ (d : Day) (x : ℕ → ℕ) (wide : Wide d x) (low : d.opening < 2 ^ 16
 pub weighed_signed : (d : Day) (plan : List ℕ) → Wide d (at plan) → Signed (weighed_of d plan)
 weighed_signed d plan wide = go (weigh_refusal d plan) refl
   where
-    judged : DayLimits max_total d → (f : Option ℕ) → Signed (Judged (verdict_at d (at plan) f))
-    judged l None = cost_low d (at plan) wide (omega (arith, l.small, l.used)) (periods d) l.limits.few
-    judged l (Some k) = tt
+    signed : DayLimits max_total d → (f : Option ℕ) → Signed (judged (verdict_at d (at plan) f))
+    signed l None = cost_low d (at plan) wide (omega (arith, l.small, l.used)) (periods d) l.limits.few
+    signed l (Some k) = tt
 
     go : (r : Option Refusal) → weigh_refusal d plan ≡ r → Signed (or_refused r (verdict_of d (at plan)))
     go (Some r) e = tt
     go None e =
-        judged
+        signed
         (day_passed d (first_split (day_tests max_total d) (bad_slots (length plan) (periods d) ∷ []) e).0)
         (find (breaks d (at plan)) (periods d))

@@ -1,3 +1,4 @@
 -- Laws that several functions' proofs cite.
 pub mod Bounds
 pub mod Walking
+pub mod Faults

@@ -5,12 +5,11 @@ use Rattle.std.proofs.Math.Arith.{le-zero}
 use Rattle.day.specs.Sums.{sum_to}
 use Rattle.day.specs.Day.{Day, periods, demand_to}
 use Rattle.weigher.specs.declared.Rule.{Rule}
-use Rattle.weigher.specs.declared.Verdict.TheVariants.{Broken}
 use Rattle.weigher.specs.declared.Sums.{Sums}
-use Rattle.weigher.specs.declared.Ruling.{Ruling}
-use Rattle.weigher.specs.declared.Ruling.TheVariants.{Kept, Broke}
+use Rattle.std.specs.Prelude.{Ok, Err}
 use Rattle.weigher.specs.Theorems.{kept_served}
-use Rattle.weigher.specs.Walk.{sums_to, ruling_at, ruling_is}
+use Rattle.weigher.specs.Verdict.{breach}
+use Rattle.weigher.specs.Walk.{Ruling, sums_to, ruling_at, ruling_is}
 use Rattle.weigher.specs.Running.{running, stopped, ruled_in, walk_to, end_of, walk_of, running_kept}
 
 -- the walk over the first i periods runs, with the sums s
@@ -38,8 +37,8 @@ module _ {d : Day} {x : ℕ → ℕ} {i : ℕ} {s : Sums} (w : Walking d x i s) 
   walking_turn : {o : Ruling} → o ≡ ruling_at d x i → walk_to d x (suc i) ≡ ruled_in (suc i) o
   walking_turn e = rw (w.runs, walking_sums, ruling_is d x i, e) refl
 
-  pub walking_more : {o : Ruling} {t : Sums} → i < periods d → o ≡ ruling_at d x i → o ≡ Kept t → Walking d x (suc i) t
+  pub walking_more : {o : Ruling} {t : Sums} → i < periods d → o ≡ ruling_at d x i → o ≡ Ok t → Walking d x (suc i) t
   walking_more l e f = record { inside = l; runs = walking_turn e ∙ ap (ruled_in (suc i)) f }
 
-  pub walking_broken : {o : Ruling} {r : Rule} → i < periods d → o ≡ ruling_at d x i → o ≡ Broke r → Broken r (suc i) ≡ walk_of d x
+  pub walking_broken : {o : Ruling} {r : Rule} → i < periods d → o ≡ ruling_at d x i → o ≡ Err r → Err (breach r (suc i)) ≡ walk_of d x
   walking_broken l e f = sym (ap end_of (stopped_stays d x (suc i) (periods d) (walking_turn e ∙ ap (ruled_in (suc i)) f) l))

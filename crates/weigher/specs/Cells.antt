@@ -1,6 +1,6 @@
 -- A plan's cells past the day's last period are not read (document 01, refusal 6).
 -- Main statement: `cells_past_unread`. Assumes nothing.
-use Rattle.std.specs.Prelude.{◌≡◌, refl, List, [], ◌∷◌, ◌++◌, ℕ, zero, suc, ◌≤◌, ◌<◌, ltb, length}
+use Rattle.std.specs.Prelude.{◌≡◌, refl, List, [], ◌∷◌, ◌++◌, ℕ, zero, suc, ◌≤◌, ◌<◌, ltb, length, Ok, Err}
 use Rattle.std.proofs.Common.{sym, ap, ap₂, ◌∙◌, arith, length-append, le-ltb}
 use Rattle.std.proofs.Math.Decide.{dec_le}
 use Rattle.std.proofs.Math.ListN.{get_or-append}
@@ -13,11 +13,9 @@ use Rattle.day.specs.Refusals.{refuse, first, day_tests}
 use Rattle.day.specs.Figures.{accepted_with}
 use Rattle.weigher.specs.declared.Rule.{Rule}
 use Rattle.weigher.specs.declared.Rule.TheVariants.{AboveCapacity, Short, AboveStore, Over}
-use Rattle.weigher.specs.declared.Verdict.{Verdict}
-use Rattle.weigher.specs.declared.Verdict.TheVariants.{Holds, Broken}
-use Rattle.weigher.specs.Verdict.{verdict_of}
+use Rattle.weigher.specs.Verdict.{Verdict, verdict_of}
 use Rattle.weigher.specs.Answers.{or_refused, weighed_of}
-use Rattle.weigher.specs.Theorems.{Keeps, Breaks, Says, verdict_right, verdict_only}
+use Rattle.weigher.specs.Theorems.{Keeps, Breaks, Says, SaysBroken, verdict_right, verdict_only}
 
 -- only the amounts in the day's periods count
 module _ (d : Day) (x y : ℕ → ℕ) (same : (k : ℕ) → k < periods d → x k ≡ y k) where
@@ -43,18 +41,21 @@ module _ (d : Day) (x y : ℕ → ℕ) (same : (k : ℕ) → k < periods d → x
   verdict_alike : 1 ≤ periods d → verdict_of d x ≡ verdict_of d y
   verdict_alike nonempty = verdict_only d y (verdict_of d x) (go (verdict_of d x) (verdict_right d x nonempty))
     where
-      go : (v : Verdict) → Says d x v → Says d y v
-      go (Holds t) (f, c) = (
-        kept_alike d (periods d) x y same f,
-        c ∙ ap₂ (λ (a b : ℕ). accepted_with (a ∷ b ∷ [])) (cost_alike d x y same) (sum_ext _ _ (periods d) (λ k l. ap setup_at (same k l))),
-      )
-      go (Broken r zero) s = s
-      go (Broken r (suc k)) s =
+      broke : (r : Rule) (i : ℕ) → SaysBroken d x r i → SaysBroken d y r i
+      broke r zero s = s
+      broke r (suc k) s =
           record {
             inside = s.inside;
             broken = breaks_alike r k s.inside s.broken;
             before = λ j l. keeps_alike j (omega (arith, s.inside)) (s.before j l);
           }
+
+      go : (v : Verdict) → Says d x v → Says d y v
+      go (Ok t) (f, c) = (
+        kept_alike d (periods d) x y same f,
+        c ∙ ap₂ (λ (a b : ℕ). accepted_with (a ∷ b ∷ [])) (cost_alike d x y same) (sum_ext _ _ (periods d) (λ k l. ap setup_at (same k l))),
+      )
+      go (Err b) s = broke b.rule b.period s
 
 -- a plan's cells past the last period are not read; a day without periods is refused, whatever the plan
 pub cells_past_unread : (d : Day) (plan more : List ℕ) → periods d ≤ length plan → weighed_of d (plan ++ more) ≡ weighed_of d plan

@@ -4,19 +4,15 @@
 -- Main statements: `running_sums`, `running_kept`, for every i: where the first i periods break no rule, the walk runs with the sums through
 -- them, and with no others; `broken_stops`: the first period that breaks a rule stops it; `walk_verdict`: its verdict is the report's.
 -- Assumes nothing.
-use Rattle.std.specs.Prelude.{◌≡◌, refl, Bool, true, false, ℕ, zero, suc, ◌<◌, eqb, Option, None, Some}
+use Rattle.std.specs.Prelude.{◌≡◌, refl, Bool, true, false, ℕ, zero, suc, ◌<◌, eqb, Option, None, Some, Ok, Err}
 use Rattle.std.proofs.Common.{sym, ◌∙◌, add-zero, arith}
 use Rattle.day.specs.Find.{or_here, find, none_found}
-use Rattle.day.specs.Day.{Day, periods}
+use Rattle.day.specs.Day.{Day, entries_at, periods}
 use Rattle.weigher.specs.declared.Rule.{Rule}
-use Rattle.weigher.specs.declared.Verdict.{Verdict}
-use Rattle.weigher.specs.declared.Verdict.TheVariants.{Holds, Broken}
 use Rattle.weigher.specs.declared.Sums.{Sums}
-use Rattle.weigher.specs.declared.Ruling.{Ruling}
-use Rattle.weigher.specs.declared.Ruling.TheVariants.{Kept, Broke}
-use Rattle.weigher.specs.Verdict.{breaks, rule_at, verdict_at, verdict_of}
+use Rattle.weigher.specs.Verdict.{Verdict, breach, breaks, rule_at, verdict_at, verdict_of}
 use Rattle.weigher.specs.Theorems.{Keeps, FirstBroken, passed_keeps, none_broken, broken_found}
-use Rattle.weigher.specs.Walk.{sums_to, ruling_on, ruling_of, entries_at, ruling_is}
+use Rattle.weigher.specs.Walk.{Ruling, sums_to, ruling_on, ruling_of, ruling_is}
 
 -- where the walk stands: it runs, with its sums; or it stopped, with the rule that a period broke, and has no sums
 pub data Walked : Type 0 where
@@ -29,8 +25,8 @@ start_of d = record { cost = 0; setups = 0; supplied = d.opening; demanded = 0 }
 
 -- where a period's ruling leads
 abbrev pub ruled_in : (period : ℕ) → Ruling → Walked
-ruled_in i (Kept s) = running s
-ruled_in i (Broke r) = stopped r i
+ruled_in i (Ok s) = running s
+ruled_in i (Err r) = stopped r i
 
 -- the turn of period k + 1
 abbrev pub turn_of : Day → (ℕ → ℕ) → ℕ → Walked → Walked
@@ -44,8 +40,8 @@ walk_to d x (suc k) = turn_of d x k (walk_to d x k)
 
 -- its verdict after the last
 abbrev pub end_of : Walked → Verdict
-end_of (running s) = Holds (record { cost = s.cost; setups = s.setups })
-end_of (stopped r i) = Broken r i
+end_of (running s) = Ok (record { cost = s.cost; setups = s.setups })
+end_of (stopped r i) = Err (breach r i)
 
 abbrev pub walk_of : Day → (ℕ → ℕ) → Verdict
 walk_of d x = end_of (walk_to d x (periods d))

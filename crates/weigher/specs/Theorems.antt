@@ -1,7 +1,7 @@
 -- What a verdict says of a plan, by the report's conditions (2) to (4) and the store limit (document 02, 2.5), and that the weigher's verdict
 -- is the only right one.
 -- Main statements: `verdict_right`, `verdict_only`; of a plan that holds `holds_feasible`, `feasible_holds`. Assumes nothing.
-use Rattle.std.specs.Prelude.{◌≡◌, refl, Bool, true, false, ℕ, zero, suc, ◌+◌, ◌≤◌, ◌<◌, eqb, ltb, Option, None, Some}
+use Rattle.std.specs.Prelude.{◌≡◌, refl, Bool, true, false, ℕ, zero, suc, ◌+◌, ◌≤◌, ◌<◌, eqb, ltb, Option, None, Some, Ok, Err}
 use Rattle.std.proofs.Common.{sym, ap, le_of_lt, le_trans, arith, ltb-true, ltb-false, eqb-true, lt-ltb, le-ltb, eq-eqb}
 use Rattle.std.proofs.lemmas.Bool.{eqb-false}
 use Rattle.day.specs.declared.Totals.{Totals}
@@ -13,9 +13,7 @@ use Rattle.day.specs.Figures.{first_value, second_value}
 use Rattle.day.specs.Outcome.{Counts}
 use Rattle.weigher.specs.declared.Rule.{Rule}
 use Rattle.weigher.specs.declared.Rule.TheVariants.{AboveCapacity, Short, AboveStore, Over}
-use Rattle.weigher.specs.declared.Verdict.{Verdict}
-use Rattle.weigher.specs.declared.Verdict.TheVariants.{Holds, Broken}
-use Rattle.weigher.specs.Verdict.{above_at, short_at, above_store_at, breaks, rule_at, totals_of, verdict_at, verdict_of}
+use Rattle.weigher.specs.Verdict.{Verdict, breach, above_at, short_at, above_store_at, breaks, rule_at, totals_of, verdict_at, verdict_of}
 
 -- period k + 1 keeps (4), (2), the store limit, and, where it is the last, (3)
 pub record Keeps (d : Day) (x : ℕ → ℕ) (k : ℕ) : Type 0 where
@@ -41,10 +39,13 @@ pub record FirstBroken (d : Day) (x : ℕ → ℕ) (r : Rule) (k : ℕ) : Type 0
   pub before : (j : ℕ) → j < k → Keeps d x j
 
 -- what a verdict says; periods are counted from 1
+abbrev pub SaysBroken : Day → (ℕ → ℕ) → Rule → (period : ℕ) → Type 0
+SaysBroken d x r zero = ⊥
+SaysBroken d x r (suc k) = FirstBroken d x r k
+
 abbrev pub Says : Day → (ℕ → ℕ) → Verdict → Type 0
-Says d x (Holds t) = Feasible d x × Counts d x t
-Says d x (Broken r zero) = ⊥
-Says d x (Broken r (suc k)) = FirstBroken d x r k
+Says d x (Ok t) = Feasible d x × Counts d x t
+Says d x (Err b) = SaysBroken d x b.rule b.period
 
 -- what is to be covered is R + Z in period n; what covers R, and R + Z in period n, covers it
 due_last : (d : Day) (k : ℕ) → suc k ≡ periods d → due_to d (suc k) ≡ demand_to d (suc k) + d.closing
@@ -172,13 +173,16 @@ module _ (d : Day) (x : ℕ → ℕ) where
 
   -- and no other is
   pub verdict_only : (v : Verdict) → Says d x v → v ≡ verdict_of d x
-  verdict_only (Holds t) s = rw (none_broken (periods d) (feasible_keeps s.0), ← first_value s.1, ← second_value s.1) refl
-  verdict_only (Broken r zero) s = absurd s
-  verdict_only (Broken r (suc k)) s = let b = broken_found r k (periods d) s s.inside in rw (b.0, b.1) refl
+  verdict_only (Ok t) s = rw (none_broken (periods d) (feasible_keeps s.0), ← first_value s.1, ← second_value s.1) refl
+  verdict_only (Err b) s = go b.rule b.period s
+    where
+      go : (r : Rule) (i : ℕ) → SaysBroken d x r i → Err (breach r i) ≡ verdict_of d x
+      go r zero s = absurd s
+      go r (suc k) s = let b = broken_found r k (periods d) s s.inside in rw (b.0, b.1) refl
 
   -- it is "holds" exactly if the plan keeps (2) to (4) and the store limit, with sum (1) and the count of amounts above 0
-  pub holds_feasible : 1 ≤ periods d → (t : Totals) → verdict_of d x ≡ Holds t → Feasible d x × Counts d x t
+  pub holds_feasible : 1 ≤ periods d → (t : Totals) → verdict_of d x ≡ Ok t → Feasible d x × Counts d x t
   holds_feasible nonempty t e = rw e at (verdict_right nonempty)
 
-  pub feasible_holds : Feasible d x → verdict_of d x ≡ Holds (totals_of d x)
-  feasible_holds f = sym (verdict_only (Holds (totals_of d x)) (f, refl))
+  pub feasible_holds : Feasible d x → verdict_of d x ≡ Ok (totals_of d x)
+  feasible_holds f = sym (verdict_only (Ok (totals_of d x)) (f, refl))

@@ -1,16 +1,22 @@
 -- The weigher's verdict on a plan, in the report's terms (document 01, "The weigher"; document 02, 2.1, 2.5; report, section 2).
 -- A plan is a function from periods to amounts, as in the crate day's Plan. Index k is period k + 1.
 -- Main definition: `verdict_of`. Assumes nothing.
-use Rattle.std.specs.Prelude.{Bool, true, false, ◌&&◌, ◌||◌, ℕ, suc, ◌+◌, eqb, ltb, Option, None, Some}
+use Rattle.std.specs.Prelude.{Bool, true, false, ◌&&◌, ◌||◌, ℕ, suc, ◌+◌, eqb, ltb, Option, None, Some, Result, Ok, Err}
 use Rattle.day.specs.declared.Totals.{Totals}
 use Rattle.day.specs.Sums.{at, sum_to}
 use Rattle.day.specs.Find.{find}
 use Rattle.day.specs.Day.{Day, periods, due_to}
 use Rattle.day.specs.Plan.{inventory, cost, setups}
+use Rattle.weigher.specs.declared.Breach.{Breach}
 use Rattle.weigher.specs.declared.Rule.{Rule}
 use Rattle.weigher.specs.declared.Rule.TheVariants.{AboveCapacity, Short, AboveStore, Over}
-use Rattle.weigher.specs.declared.Verdict.{Verdict}
-use Rattle.weigher.specs.declared.Verdict.TheVariants.{Holds, Broken}
+
+-- that a plan holds, with its totals; or the rule that it breaks first, with the period
+abbrev pub Verdict : Type 0
+Verdict = Result Totals Breach
+
+abbrev pub breach : Rule → (period : ℕ) → Breach
+breach r i = record { rule = r; period = i }
 
 -- the amount is above the capacity
 abbrev pub above_at : Day → (ℕ → ℕ) → ℕ → Bool
@@ -48,8 +54,8 @@ totals_of d x = record { cost = cost d x; setups = setups (periods d) x }
 
 -- the first period that breaks a rule decides
 abbrev pub verdict_at : Day → (ℕ → ℕ) → Option ℕ → Verdict
-verdict_at d x None = Holds (totals_of d x)
-verdict_at d x (Some k) = Broken (rule_at d x k) (suc k)
+verdict_at d x None = Ok (totals_of d x)
+verdict_at d x (Some k) = Err (breach (rule_at d x k) (suc k))
 
 abbrev pub verdict_of : Day → (ℕ → ℕ) → Verdict
 verdict_of d x = verdict_at d x (find (breaks d x) (periods d))

@@ -1,30 +1,31 @@
 -- What the walk over a day's periods carries from one to the next, and what one period does to it.
 -- Main statement: `ruling_is`: where a period breaks no rule, the sums are then those through it. Assumes nothing.
-use Rattle.std.specs.Prelude.{◌≡◌, refl, Bool, true, false, ◌&&◌, ◌||◌, List, ℕ, suc, ◌+◌, ◌-◌, ◌*◌, ◌^◌, ◌≤◌, ◌<◌, eqb, ltb, length}
+use Rattle.std.specs.Prelude.{◌≡◌, refl, Bool, true, false, ◌&&◌, ◌||◌, List, ℕ, suc, ◌+◌, ◌-◌, ◌*◌, ◌^◌, ◌≤◌, ◌<◌, eqb, ltb, length, Result, Ok, Err}
 use Rattle.std.proofs.Common.{add_assoc, arith}
 use Rattle.day.specs.Sums.{at, sum_to}
-use Rattle.day.specs.Day.{Day, periods, due_of, demand_to, max_periods, max_sum}
+use Rattle.day.specs.Day.{Day, entries_at, periods, due_of, demand_to, max_periods, max_sum}
 use Rattle.day.specs.Plan.{making, cost_to, Feasible, setup_at, setups}
-use Rattle.day.specs.Outcome.{Sizes, Path}
+use Rattle.day.specs.declared.Entries.{Entries}
+use Rattle.day.specs.declared.Sizes.{Sizes}
+use Rattle.day.specs.declared.Totals.{Totals}
+use Rattle.day.specs.Outcome.{Path}
 use Rattle.checks.specs.Passed.{SameLengths, Admitted}
+use Rattle.weigher.specs.declared.Fault.{Fault}
 use Rattle.weigher.specs.declared.Rule.{Rule}
-use Rattle.weigher.specs.declared.Verdict.TheVariants.{Holds, Broken}
-use Rattle.weigher.specs.declared.Weighed.{Weighed}
-use Rattle.weigher.specs.declared.Weighed.TheVariants.{Refused, Judged}
-use Rattle.weigher.specs.declared.Entries.{Entries}
 use Rattle.weigher.specs.declared.Sums.{Sums}
-use Rattle.weigher.specs.declared.Ruling.{Ruling}
-use Rattle.weigher.specs.declared.Ruling.TheVariants.{Kept, Broke}
 use Rattle.weigher.specs.Verdict.{breaks, rule_of, rule_at}
 
 -- the sums through the first i periods: sum (1), setups, A + X_i and R_i
 abbrev pub sums_to : Day → (ℕ → ℕ) → ℕ → Sums
 sums_to d x i = record { cost = cost_to d x i; setups = setups i x; supplied = d.opening + sum_to x i; demanded = demand_to d i }
 
--- a broken rule, or the sums
+-- what a period does: the sums through it, or the rule that it breaks
+abbrev pub Ruling : Type 0
+Ruling = Result Sums Rule
+
 abbrev pub ruling_on : Bool → Rule → Sums → Ruling
-ruling_on true r s = Broke r
-ruling_on false r s = Kept s
+ruling_on true r s = Err r
+ruling_on false r s = Ok s
 
 -- what period k + 1 does: the rule that it breaks, or the sums through it
 abbrev pub ruling_at : Day → (ℕ → ℕ) → ℕ → Ruling
@@ -48,17 +49,6 @@ ruling_of p x last s closing =
     let above_store = ltb p.store (t.supplied - t.demanded) in
     let over = last && ltb due t.supplied in
     ruling_on (above || short || above_store || over) (rule_of above short above_store) t
-
--- the entries of period k + 1
-abbrev pub entries_at : Day → ℕ → Entries
-entries_at d k = record {
-  demand = at d.demand k;
-  capacity = at d.capacity k;
-  setup = at d.setup k;
-  unit = at d.unit k;
-  holding = at d.holding k;
-  store = at d.store k;
-}
 
 -- from the sums before a period, its entries give what the report says of it
 pub ruling_is : (d : Day) (x : ℕ → ℕ) (k : ℕ)
@@ -104,7 +94,6 @@ pub record NextPeriod (d : Day) (plan : List ℕ) (i : ℕ) (s : Sums) : Type 0 
   pub served : demand_to d i ≤ d.opening + sum_to (at plan) i
 
 -- the cost that an answer holds, where it holds one, fits a signed 64-bit number
-abbrev pub Signed : Weighed → Type 0
-Signed (Refused r) = Unit {0}
-Signed (Judged (Broken r i)) = Unit {0}
-Signed (Judged (Holds t)) = t.cost < 2 ^ 63
+abbrev pub Signed : Result Totals Fault → Type 0
+Signed (Ok t) = t.cost < 2 ^ 63
+Signed (Err f) = Unit {0}

@@ -4,14 +4,15 @@
 
 ghost use Rattle.std.specs.Prelude.{◌≡◌, ◌^◌, ◌<◌, pos, ◌-ℤ◌};
 ghost use Rattle.day.specs.Sums.{at};
-ghost use Rattle.day.specs.Day.{day_of};
-ghost use Rattle.day.specs.Lent.{day_before};
+ghost use Rattle.day.specs.Lent.{lent_day};
+ghost use Rattle.day.specs.Refusals.{checked};
+ghost use Rattle.weigher.specs.declared.Fault.TheVariants.{Refused as refused, Broken as broken};
 ghost use Rattle.weigher.specs.Verdict.{totals_of};
-ghost use Rattle.weigher.specs.Answers.{Weighs, Compares, compare_of, rule_number};
-ghost use Rattle.weigher.specs.Walk.{ruling_of, ruling_at, Room, Weighable, FeasiblePlan, NextPeriod, Signed};
+ghost use Rattle.weigher.specs.Answers.{Weighs, Compares, weigh_refusal, rule_number};
+ghost use Rattle.weigher.specs.Walk.{ruling_of, ruling_at, Room, Weighable, FeasiblePlan, NextPeriod};
 ghost use Rattle.weigher.specs.Running.{walk_of};
 
-use day::{Check, Ends, Refusal, Totals};
+use day::{Day, Entries, Refusal, Totals};
 
 // The rules that a plan can break, in the order in which one period is judged.
 #[derive(Clone, Copy)]
@@ -24,28 +25,6 @@ pub enum Rule {
     AboveStore,
     // The inventory after the last period is above the closing one (document 01: charge over at the end).
     Over,
-}
-
-// What weighing says of a plan: it keeps every rule, or the first that it breaks, with the period.
-#[derive(Clone, Copy)]
-pub enum Verdict {
-    Holds(Totals),
-    Broken(Rule, u16),
-}
-
-// What the weigher answers.
-#[derive(Clone, Copy)]
-pub enum Weighed {
-    Refused(Refusal),
-    Judged(Verdict),
-}
-
-// What the comparison of two plans answers.
-#[derive(Clone, Copy)]
-pub enum Compared {
-    Refused(Refusal),
-    Broken(Rule, u16),
-    Difference(i64),
 }
 
 impl Rule {
@@ -61,15 +40,34 @@ impl Rule {
     }
 }
 
-// One period's entries.
+// The first rule that a plan breaks, with the period.
 #[derive(Clone, Copy)]
-struct Entries {
-    demand: u16,
-    capacity: u16,
-    setup: u32,
-    unit: u32,
-    holding: u32,
-    store: u16,
+pub struct Breach {
+    pub rule: Rule,
+    pub period: u16,
+}
+
+// Why the weigher gives no figures: the call is refused, or a plan breaks a rule.
+#[derive(Clone, Copy)]
+pub enum Fault {
+    Refused(Refusal),
+    Broken(Breach),
+}
+
+impl From<Refusal> for Fault {
+    ghost from_gives = { λ r f. f ≡ refused r };
+
+    fn from(r: Refusal) -> Fault {
+        Fault::Refused(r)
+    }
+}
+
+impl From<Breach> for Fault {
+    ghost from_gives = { λ b f. f ≡ broken b };
+
+    fn from(b: Breach) -> Fault {
+        Fault::Broken(b)
+    }
 }
 
 // The sums through the periods judged so far. What was made is counted on top of the opening inventory: A + X, so that the
@@ -82,15 +80,8 @@ struct Sums {
     demanded: u64,
 }
 
-// What one period does: the sums through it, or the rule that it breaks.
-#[derive(Clone, Copy)]
-enum Ruling {
-    Kept(Sums),
-    Broke(Rule),
-}
-
 // One period: its rules in their order, then its terms of sum (1) in the report's, which stands beside them at `walk`.
-fn judge(p: Entries, amount: u16, last: bool, s: Sums, closing: u16) -> Ruling
+fn judge(p: Entries, amount: u16, last: bool, s: Sums, closing: u16) -> Result<Sums, Rule>
     requires { Room s }
     ensures { result ≡ ruling_of p amount last s closing }
 {
@@ -100,10 +91,10 @@ fn judge(p: Entries, amount: u16, last: bool, s: Sums, closing: u16) -> Ruling
     let above_capacity = p.capacity < amount;
     let short = supplied < due;
     if above_capacity {
-        return Ruling::Broke(Rule::AboveCapacity);
+        return Err(Rule::AboveCapacity);
     }
     if short {
-        return Ruling::Broke(Rule::Short);
+        return Err(Rule::Short);
     }
     // Neither is below 0: no period so far is short.
     let before = s.supplied - s.demanded;
@@ -111,16 +102,16 @@ fn judge(p: Entries, amount: u16, last: bool, s: Sums, closing: u16) -> Ruling
     let above_store = (p.store as u64) < left;
     let over = last && due < supplied;
     if above_store {
-        return Ruling::Broke(Rule::AboveStore);
+        return Err(Rule::AboveStore);
     }
     if over {
-        return Ruling::Broke(Rule::Over);
+        return Err(Rule::Over);
     }
     let making = terms::making_cost(p.setup, p.unit, amount as u64);
     let upkeep = terms::holding_cost(p.holding, before + left);
     let cost = s.cost + making + upkeep;
     let setups = s.setups + terms::setup_of(amount);
-    Ruling::Kept(Sums {
+    Ok(Sums {
         cost,
         setups,
         supplied,
@@ -129,30 +120,17 @@ fn judge(p: Entries, amount: u16, last: bool, s: Sums, closing: u16) -> Ruling
 }
 
 // The period at index i: from the sums through the periods before it to those through it, or to the rule that it breaks (`ruling_at`).
-fn advance(
-    demand: &[u16],
-    capacity: &[u16],
-    setup: &[u32],
-    unit: &[u32],
-    holding: &[u32],
-    store: &[u16],
-    plan: &[u16],
-    i: usize,
-    s: Sums,
-    ends: Ends,
-) -> Ruling
-    requires { NextPeriod (day_of demand.now capacity.now setup.now unit.now holding.now store.now ends) plan.now i s }
-    ensures { result ≡ ruling_at (day_before demand capacity setup unit holding store ends) (at plan.now) i }
+fn advance(day: Day, plan: &[u16], i: usize, s: Sums) -> Result<Sums, Rule>
+    requires { NextPeriod (lent_day day) plan.now i s }
+    ensures { result ≡ ruling_at (lent_day day.entry) (at plan.now) i }
 {
-    let p = Entries {
-        demand: demand[i],
-        capacity: capacity[i],
-        setup: setup[i],
-        unit: unit[i],
-        holding: holding[i],
-        store: store[i],
-    };
-    judge(p, plan[i], i + 1 == demand.len(), s, ends.closing)
+    judge(
+        day.entries(i),
+        plan[i],
+        i + 1 == day.periods(),
+        s,
+        day.ends.closing,
+    )
 }
 
 // The verdict, period by period. Sum (1) of the report, with upkeep as in document 02, 2.2, beside the code that adds it up:
@@ -166,94 +144,56 @@ fn advance(
 //         p_i(x_i)                          making = making_cost(p.setup, p.unit, amount)
 //         h_i × (I_(i−1) + I_i)             upkeep = holding_cost(p.holding, before + left)
 //         the sum through period i          cost = s.cost + making + upkeep
-fn walk(
-    demand: &[u16],
-    capacity: &[u16],
-    setup: &[u32],
-    unit: &[u32],
-    holding: &[u32],
-    store: &[u16],
-    plan: &[u16],
-    ends: Ends,
-) -> Verdict
-    requires { Weighable (day_of demand.now capacity.now setup.now unit.now holding.now store.now ends) plan.now }
-    ensures { result ≡ walk_of (day_before demand capacity setup unit holding store ends) (at plan.now) }
+fn walk(day: Day, plan: &[u16]) -> Result<Totals, Breach>
+    requires { Weighable (lent_day day) plan.now }
+    ensures { result ≡ walk_of (lent_day day.entry) (at plan.now) }
 {
     let mut s = Sums {
         cost: 0,
         setups: 0,
-        supplied: ends.opening as u64,
+        supplied: day.ends.opening as u64,
         demanded: 0,
     };
-    let mut i = 0;
-    while i < demand.len() {
-        match advance(
-            demand, capacity, setup, unit, holding, store, plan, i, s, ends,
-        ) {
-            Ruling::Broke(rule) => {
-                return Verdict::Broken(rule, (i + 1) as u16);
-            }
-            Ruling::Kept(t) => {
-                s = t;
+    for i in 0..day.periods() {
+        match advance(day, plan, i, s) {
+            Ok(through) => s = through,
+            Err(rule) => {
+                let period = (i + 1) as u16;
+                return Err(Breach { rule, period });
             }
         }
-        i += 1;
     }
-    Verdict::Holds(Totals {
+    Ok(Totals {
         cost: s.cost,
         setups: s.setups,
     })
 }
 
 // The totals of a plan that keeps every rule.
-pub fn totals(
-    demand: &[u16],
-    capacity: &[u16],
-    setup: &[u32],
-    unit: &[u32],
-    holding: &[u32],
-    store: &[u16],
-    plan: &[u16],
-    ends: Ends,
-) -> Totals
-    requires { FeasiblePlan (day_of demand.now capacity.now setup.now unit.now holding.now store.now ends) plan.now }
-    ensures { result ≡ totals_of (day_before demand capacity setup unit holding store ends) (at plan.now) }
+pub fn totals(day: Day, plan: &[u16]) -> Totals
+    requires { FeasiblePlan (lent_day day) plan.now }
+    ensures { result ≡ totals_of (lent_day day.entry) (at plan.now) }
 {
-    match walk(demand, capacity, setup, unit, holding, store, plan, ends) {
-        Verdict::Holds(t) => t,
-        Verdict::Broken(_, _) => Totals { cost: 0, setups: 0 },
+    walk(day, plan).unwrap()
+}
+
+// 1, 2, 3, 4, 14, 6
+fn tests(day: Day, plan: &[u16]) -> Result<(), Refusal>
+    ensures { result ≡ checked (weigh_refusal (lent_day day.entry) plan.now) }
+{
+    checks::day(day, checks::MAX_TOTAL)?;
+    if plan.len() < day.periods() {
+        return Err(Refusal::FewSlots);
     }
+    Ok(())
 }
 
 // Weighs a plan. Cells of it past the last period are not read.
-pub fn weigh(
-    demand: &[u16],
-    capacity: &[u16],
-    setup: &[u32],
-    unit: &[u32],
-    holding: &[u32],
-    store: &[u16],
-    plan: &[u16],
-    ends: Ends,
-) -> Weighed
-    ensures { Weighs (day_before demand capacity setup unit holding store ends) plan.now result }
+pub fn weigh(day: Day, plan: &[u16]) -> Result<Totals, Fault>
+    ensures { Weighs (lent_day day.entry) plan.now result }
 {
-    if let Check::Refused(r) = checks::day(
-        demand,
-        capacity,
-        setup,
-        unit,
-        holding,
-        store,
-        ends,
-        checks::MAX_TOTAL,
-    ) {
-        return Weighed::Refused(r);
-    }
-    if plan.len() < demand.len() {
-        return Weighed::Refused(Refusal::FewSlots);
-    }
-    Weighed::Judged(walk(demand, capacity, setup, unit, holding, store, plan, ends))
+    tests(day, plan)?;
+    Ok(walk(day, plan)?)
 }
 
 // One cost less another.
@@ -264,41 +204,13 @@ fn difference(a: u64, b: u64) -> i64
     (a as i64) - (b as i64)
 }
 
-// How two answers of the weigher compare.
-fn comparison(a: Weighed, b: Weighed) -> Compared
-    requires { Signed a × Signed b }
-    ensures { result ≡ compare_of a b }
-{
-    match a {
-        Weighed::Refused(r) => Compared::Refused(r),
-        Weighed::Judged(v) => match b {
-            Weighed::Refused(r) => Compared::Refused(r),
-            Weighed::Judged(w) => match v {
-                Verdict::Broken(rule, period) => Compared::Broken(rule, period),
-                Verdict::Holds(t) => match w {
-                    Verdict::Broken(rule, period) => Compared::Broken(rule, period),
-                    Verdict::Holds(u) => Compared::Difference(difference(t.cost, u.cost)),
-                },
-            },
-        },
-    }
-}
-
 // Weighs two plans of one day: the first plan's cost less the second's, below zero where the first is cheaper.
-pub fn compare(
-    demand: &[u16],
-    capacity: &[u16],
-    setup: &[u32],
-    unit: &[u32],
-    holding: &[u32],
-    store: &[u16],
-    plan: &[u16],
-    other: &[u16],
-    ends: Ends,
-) -> Compared
-    ensures { Compares (day_before demand capacity setup unit holding store ends) plan.now other.now result }
+pub fn compare(day: Day, plan: &[u16], other: &[u16]) -> Result<i64, Fault>
+    ensures { Compares (lent_day day.entry) plan.now other.now result }
 {
-    let first = weigh(demand, capacity, setup, unit, holding, store, plan, ends);
-    let second = weigh(demand, capacity, setup, unit, holding, store, other, ends);
-    comparison(first, second)
+    tests(day, plan)?;
+    tests(day, other)?;
+    let first = walk(day, plan)?;
+    let second = walk(day, other)?;
+    Ok(difference(first.cost, second.cost))
 }

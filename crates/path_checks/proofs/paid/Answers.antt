@@ -6,7 +6,6 @@ use Rattle.day.specs.Sums.{at}
 use Rattle.checks.specs.Search.{refused_here}
 use Rattle.path_checks.proofs.paid.Goals as goal
 
-pub returns-then-charged : goal.returns-then-charged
-returns-then-charged c =
-    let above = lt-ltb 0 (at c.args.setup.now c.loop-i.i) (omega arith) in
-    refused_here c.loop-i.invariant PaidSetup above c.loop-i-test.true
+pub returns-then-setup-gt0 : goal.returns-then-setup-gt0
+returns-then-setup-gt0 c =
+    refused_here c.loop-i.invariant PaidSetup (lt-ltb 0 (at c.args.day.setup.now c.loop-i.i) (omega arith)) (omega arith)

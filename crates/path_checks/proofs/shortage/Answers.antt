@@ -3,7 +3,8 @@ use Rattle.std.proofs.Common.{◌≡◌, refl, true, [], ℕ, suc, ◌+◌, ◌�
 use borrow.Author.Tests.{lt-ltb, le-ltb}
 use Rattle.day.specs.declared.Refusal.TheVariants.{Shortage}
 use Rattle.day.specs.Sums.{at}
-use Rattle.day.specs.Day.{Day, day_of, demand_to, net_to}
+use Rattle.day.specs.Lent.{lent_day}
+use Rattle.day.specs.Day.{Day, demand_to, net_to}
 use Rattle.day.specs.Refusals.{most_to, short}
 use Rattle.checks.specs.Search.{refused_here}
 use Rattle.path_checks.proofs.shortage.Goals as goal
@@ -19,15 +20,15 @@ short_made d i room l =
 
 pub returns-then-overfull : goal.returns-then-overfull
 returns-then-overfull c =
-    let d = day_of c.args.demand.now c.args.capacity.now [] [] [] c.args.store.now c.args.ends in
+    let d = lent_day c.args.day in
     let i = c.loop-i.i in
     let summed : c.loop-i.demanded + at d.demand i ≡ demand_to d (suc i) = omega arith in
-    let reached : c.smaller-most.result ≡ most_to d (suc i) = omega (arith, c.smaller-most.ensures, c.beyond.ensures, c.loop-i.invariant.2.is, summed) in
+    let reached : c.min-most.result ≡ most_to d (suc i) = omega (arith, c.min-most.ensures, c.saturating_sub.ensures, c.loop-i.invariant.2.is, summed) in
     refused_here c.loop-i.invariant.0 Shortage
     (elim c.then-overfull.branch [
       | then-overfull-via-then-overfull w ↦ short_store d i (omega arith)
       | then-overfull-via-else-overfull+then-most-net_to w ↦
-          let net : w.net_to.result ≡ net_to d (suc i) = rw (add-one, summed) at w.net_to.ensures in
+          let net : w.net_to.result ≡ net_to d (suc i) = rw (add-one, summed, c.periods-n.ensures) at w.net_to.ensures in
           short_made d i (omega arith) (omega arith)
     ])
     (omega arith)

@@ -7,14 +7,14 @@ pub advance-requires : goal.advance-requires
 advance-requires c =
     record {
       weighable = c.requires;
-      inside = c.loop-i-test.true;
+      inside = omega arith;
       opening = omega arith;
       sums = walking_sums c.loop-i.invariant;
       served = walking_served c.loop-i.invariant;
     }
 
-pub returns-in-Broke : goal.returns-in-Broke
-returns-in-Broke c = rw add-one (walking_broken c.loop-i.invariant c.loop-i-test.true c.advance.ensures c.in-Broke.is)
+pub returns-in-Err : goal.returns-in-Err
+returns-in-Err c = rw add-one (walking_broken c.loop-i.invariant (omega arith) c.advance.ensures c.in-Err.is)
 
 pub loop-i-preserved : goal.loop-i-preserved
-loop-i-preserved c = rw add-one (walking_more c.loop-i.invariant c.loop-i-test.true c.advance.ensures c.in-Kept.is)
+loop-i-preserved c = rw add-one (walking_more c.loop-i.invariant (omega arith) c.advance.ensures c.in-Ok.is)

@@ -1,22 +1,29 @@
--- The tests of the day and the plan's length join to the first refusal; a plan that passes them is walked.
-use Rattle.std.specs.Prelude.{None}
-use Rattle.std.proofs.Common.{◌≡◌, refl, ap, ◌∙◌, [], ◌∷◌, length}
-use borrow.Author.Tests.{le-ltb}
+-- The tests give the first refusal; a plan that passes them is walked.
+use Rattle.std.specs.Prelude.{Ok, Err}
+use Rattle.std.proofs.Common.{refl, sym, subst}
 use Rattle.day.specs.Sums.{at}
-use Rattle.day.specs.Day.{day_of, periods, max_total}
-use Rattle.day.specs.Refusals.{first, day_tests, bad_slots}
-use Rattle.day.specs.Tests.{passed, first_passed, first_one}
-use Rattle.weigher.specs.Verdict.{verdict_of}
-use Rattle.weigher.specs.Answers.{weigh_refusal, verdict_figures}
-use Rattle.weigher.specs.Running.{walk_verdict}
+use Rattle.day.specs.Lent.{lent_day}
+use Rattle.day.specs.Tests.{passed, refused, is_gives}
+use Rattle.weigher.specs.Answers.{Weighs, weigh_refusal}
+use Rattle.weigher.proofs.Faults.{from_refused, from_broken, walked}
 use Rattle.weigher.proofs.weigh.Goals as goal
+
+pub returns-in_err-tests : goal.returns-in_err-tests
+returns-in_err-tests c =
+    let d = lent_day c.args.day in
+    let plan = c.args.plan.now in
+    subst (Weighs d plan) (sym (from_refused c.from_residual.result _ c.from_residual.ensures.1))
+    (is_gives (refused (weigh_refusal d plan) c.tests.ensures c.in_err-tests.was))
+
+pub returns-in_err-walk : goal.returns-in_err-walk
+returns-in_err-walk c =
+    let d = lent_day c.args.day in
+    let plan = c.args.plan.now in
+    subst (Weighs d plan) (sym (from_broken c.from_residual-in_err-walk.result _ c.from_residual-in_err-walk.ensures.1))
+    (passed (weigh_refusal d plan) c.tests.ensures c.in_ok-tests.was, rw (walked d (at plan) c.walk.ensures c.in_err-walk.was) refl)
 
 pub returns : goal.returns
 returns c =
-    let a = c.args in
-    let d = day_of a.demand.now a.capacity.now a.setup.now a.unit.now a.holding.now a.store.now a.ends in
-    let last = bad_slots (length a.plan.now) (periods d) in
-    let tested : first (day_tests max_total d) ≡ None = passed (first (day_tests max_total d)) c.day.ensures c.in_default.is in
-    let decides : weigh_refusal d a.plan.now ≡ last = first_passed (day_tests max_total d) (last ∷ []) tested ∙ first_one last in
-    let judged : c.walk.result ≡ verdict_of d (at a.plan.now) = c.walk.ensures ∙ walk_verdict d (at a.plan.now) in
-    (decides ∙ rw (le-ltb _ _ c.if-plan-demand.false) refl, ap verdict_figures judged)
+    let d = lent_day c.args.day in
+    let plan = c.args.plan.now in
+    (passed (weigh_refusal d plan) c.tests.ensures c.in_ok-tests.was, rw (walked d (at plan) c.walk.ensures c.in_ok-walk.was) refl)
