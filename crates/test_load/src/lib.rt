@@ -17,14 +17,14 @@ use tables::Numbers;
 pub fn next_seed(seed: u32) -> u32
     ensures { result ≡ next_seed seed }
 {
-    ((1664525 * (seed as u64) + 1013904223) % 4294967296) as u32
+    seed.wrapping_mul(1664525).wrapping_add(1013904223)
 }
 
 // What a draw takes of the seed that it has set: the upper 16 bits.
 pub fn upper(seed: u32) -> u16
     ensures { result ≡ upper seed }
 {
-    (seed / 65536) as u16
+    (seed >> 16) as u16
 }
 
 // One period of a test load, and the seed after its draws.
@@ -35,6 +35,7 @@ struct Drawn {
 }
 
 // The five draws of a period, from the seed before them.
+#[tactic(auto, unfolding(crate::specs::Periods::drawn_from))]
 fn draw(seed: u32) -> Drawn
     ensures { result ≡ drawn_from seed }
 {
@@ -50,7 +51,7 @@ fn draw(seed: u32) -> Drawn
             setup: (upper(c) % 30001) as u32,
             unit: (upper(d) % 1201) as u32,
             holding: (upper(e) % 21) as u32,
-            store: 65535,
+            store: u16::MAX,
         },
         seed: e,
     }
@@ -72,13 +73,11 @@ fn draw_periods(
         ≡ with_load seed n (tables_lent demand capacity setup unit holding store) }
 {
     let mut at = seed;
-    let mut k = 0;
-    while k < n {
+    for k in 0..n {
         let drawn = draw(at);
         let numbers = drawn.numbers;
         tables::put(k, numbers, demand, capacity, setup, unit, holding, store);
         at = drawn.seed;
-        k += 1;
     }
 }
 
