@@ -1,31 +1,15 @@
--- How text comes to stand in a buffer: a copy byte by byte, and a number's digits.
--- Main statements: `pasted_put`, `number_put`. Assumes nothing.
-use Rattle.std.specs.Prelude.{◌≡◌, refl, List, [], ◌∷◌, ◌++◌, ℕ, zero, suc, ◌+◌, ◌-◌, ◌^◌, ◌≤◌, ◌<◌, ltb, length, take}
-use Rattle.std.proofs.Common.{sym, ap, ◌∙◌, add-one, arith, lt-ltb, le-ltb, get_or-take, length-take-le, take_all}
-use Rattle.std.proofs.Math.Nat.{pow-le-pow_right}
+-- What std prints of a number is its decimal digits; a sum over a part of a table.
+-- Main statements: `decimal_is`, `part_total`. Assumes nothing.
+use Rattle.std.specs.Prelude.{◌≡◌, refl, List, [], ◌∷◌, ◌++◌, ℕ, zero, suc, ◌+◌, ◌-◌, ◌/◌, ◌%◌, ◌^◌, ◌≤◌, ◌<◌, ltb, length, take}
+use Rattle.std.proofs.Common.{sym, ap, ◌∙◌, arith, lt-ltb, le-ltb, get_or-take, length-take-le}
+use Rattle.std.proofs.Math.Nat.{pow-le-pow_right, pow-suc}
 use Rattle.std.proofs.Math.Decide.{dec_lt}
-use Rattle.std.proofs.Math.Seq.{paste}
-use Rattle.std.proofs.lemmas.List.Edits.{length-paste, take-paste, drop-paste}
+use Rattle.std.specs.Fmt.{decimal as printed}
+use Rattle.std.proofs.lemmas.Fmt.{decimal_by_steps}
 use Rattle.lines.specs.Digits.{last_digits, IsDigitCount}
 use Rattle.day.specs.Sums.{at, sum_to, sum_ext}
-use Rattle.day.specs.Day.{Day}
-use Rattle.day.specs.Plan.{inventory}
 use Rattle.day.specs.Find.{find_here, nothing_found}
-use Rattle.lines.specs.Text.{places, places_of, decimal, labelled, line_end, line_of, period_line, amount_line, Put, PutWithin, line_bytes, put_put}
-
--- all of a text, copied
-pub pasted_put : (line : List ℕ) (place : ℕ) (text : List ℕ) → place + length text ≤ length line
-    → Put line place text (paste line place text (length text)) (place + length text)
-pasted_put line place text h =
-    record {
-      front =
-          take-paste line place text (length text) (omega arith) (omega arith)
-          ∙ ap (λ (t : List ℕ). take place line ++ t) (take_all (length text) text (omega arith));
-      end = refl;
-      inside = omega (arith, length-paste line place text (length text) h (omega arith));
-      size = length-paste line place text (length text) h (omega arith);
-      rest = drop-paste line place text (length text) (omega arith) (omega arith);
-    }
+use Rattle.lines.specs.Text.{places, places_of, decimal}
 
 -- a 64-bit number has at most 20 digits
 pub few_digits : (n k : ℕ) → IsDigitCount 10 n k → n < 2 ^ 64 → k ≤ 20
@@ -51,15 +35,37 @@ places_are n (suc k) f h =
         let top : 10 ^ k ≤ n = rw e at (f.2 (omega arith)) in
         omega (arith, pow-le-pow_right {n = 10} (omega arith) {i = suc j} {j = k} l)
 
--- digits that were put after a word are the number in decimal
-pub number_put : {before between after : List ℕ} {place start next : ℕ} {word : List ℕ} (n k : ℕ) (text : List ℕ)
-    → IsDigitCount 10 n k → n < 2 ^ 64 → text ≡ last_digits 10 k n → length text ≤ k
-    → Put before place word between start
-    → Put between start text after next
-    → PutWithin (length word + 20) before place (labelled word n) after next
-number_put n k text f h is size p q =
-    let e : text ≡ decimal n = is ∙ ap (λ (j : ℕ). last_digits 10 j n) (sym (places_are n k f (few_digits n k f h))) in
-    record { put = rw e at (put_put p q); few = omega (arith, few_digits n k f h, p.end, q.end) }
+-- a text is the digits of a number
+record Digits (n : ℕ) (text : List ℕ) : Type 0 where
+  places : ℕ
+  count : IsDigitCount 10 n places
+  is : text ≡ last_digits 10 places n
+
+one_digit : (n : ℕ) → n < 10 → Digits n ((48 + n) ∷ [])
+one_digit n h =
+    let low : n % 10 ≡ n = omega arith in
+    record { places = 1; count = (omega arith, omega arith, omega arith); is = rw low refl }
+
+-- a digit more behind those of a tenth
+count_more : (n k : ℕ) → 10 ≤ n → IsDigitCount 10 (n / 10) k → IsDigitCount 10 n (suc k)
+count_more n zero h d = absurd (omega (arith, d.0))
+count_more n (suc zero) h d = (omega arith, omega (arith, d.1), omega arith)
+count_more n (suc (suc j)) h d =
+    let less : suc (suc j) - 1 ≡ suc j = omega arith in
+    let one_less : suc (suc (suc j)) - 1 ≡ suc (suc j) = omega arith in
+    let low : 10 ^ suc j ≤ n / 10 = rw less at (d.2 (omega arith)) in
+    (omega arith, omega (arith, d.1, pow-suc 10 (suc (suc j))), λ _. rw one_less (omega (arith, pow-suc 10 (suc j), low)))
+
+digit_more : (n : ℕ) (text : List ℕ) → 10 ≤ n → Digits (n / 10) text → Digits n (text ++ ((48 + n % 10) ∷ []))
+digit_more n text h d =
+    record { places = suc d.places; count = count_more n d.places h d.count; is = ap (λ (t : List ℕ). t ++ ((48 + n % 10) ∷ [])) d.is }
+
+-- what std prints of a number is the number in decimal
+pub decimal_is : (n : ℕ) → n < 2 ^ 64 → printed n ≡ decimal n
+unfolding decimal
+decimal_is n h =
+    let d = decimal_by_steps Digits one_digit digit_more n h in
+    d.is ∙ ap (λ (k : ℕ). last_digits 10 k n) (sym (places_are n d.places d.count (few_digits n d.places d.count h)))
 
 -- the sum of the first i entries, as that of a part
 pub part_total : (l : List ℕ) (i r : ℕ) → i ≤ length l → r ≡ sum_to (at (take (i - 0) l)) (length (take (i - 0) l)) → r ≡ sum_to (at l) i
@@ -68,20 +74,3 @@ part_total l i r h is =
     let size : length (take (i - 0) l) ≡ i = rw e (length-take-le i l h) in
     is ∙ ap (sum_to (at (take (i - 0) l))) size
     ∙ sum_ext (at (take (i - 0) l)) (at l) i (λ k b. get_or-take (i - 0) l k 0 (omega arith))
-
--- a period's line is its amount's
-pub amount_put : {before after : List ℕ} {place next : ℕ} (d : Day) (x : ℕ → ℕ) (i left : ℕ) → left ≡ inventory d x (i + 1)
-    → PutWithin line_bytes before place (period_line (i + 1) (x i) left) after next
-    → PutWithin line_bytes before place (amount_line d x i) after next
-amount_put d x i left e p = rw (e, add-one) at p
-
--- a line of three labelled numbers
-pub three_put : {t₀ t₁ t₂ t₃ t₄ : List ℕ} {i₀ i₁ i₂ i₃ i₄ : ℕ} (a b c : List ℕ) (x y z : ℕ)
-    → length a + (length b + length c) ≤ 35
-    → PutWithin (length a + 20) t₀ i₀ (labelled a x) t₁ i₁
-    → PutWithin (length b + 20) t₁ i₁ (labelled b y) t₂ i₂
-    → PutWithin (length c + 20) t₂ i₂ (labelled c z) t₃ i₃
-    → Put t₃ i₃ line_end t₄ i₄
-    → PutWithin line_bytes t₀ i₀ (line_of ((a, x) ∷ (b, y) ∷ (c, z) ∷ [])) t₄ i₄
-three_put a b c x y z h p q r e =
-    record { put = put_put p.put (put_put q.put (put_put r.put e)); few = omega (arith, p.few, q.few, r.few, e.end) }

@@ -1,79 +1,55 @@
-//! Lines of text, each put at a place of a lent buffer that has room for a line there.
+//! Lines of text, each a string with room for the longest of its kind.
 #![tactic(auto)]
 
-mod decimal;
-
-ghost use Rattle.std.specs.Prelude.{◌≡◌, ◌+◌, ◌≤◌, length, [], ◌∷◌};
+ghost use Rattle.std.specs.Prelude.{◌≡◌, ◌+◌, ◌≤◌, [], ◌++◌, length};
 ghost use Rattle.day.specs.Sums.{at};
 ghost use Rattle.day.specs.Day.{day_of};
 ghost use Rattle.day.specs.Plan.{inventory as left};
-ghost use Rattle.lines.specs.Text.{line_bytes, margin_bytes, labelled, line_of, plan_line, amount_line, refusal_line, played_line, margin_refusal_line};
-ghost use Rattle.lines.specs.Text.{Put, PutWithin, HavePeriods};
+ghost use Rattle.lines.specs.Text.{labelled, line_of, labels, line_room, text_bytes, plan_line, amount_line, refusal_line, played_line, margin_refusal_line};
+ghost use Rattle.lines.specs.Text.{HavePeriods};
 
+use arrayvec::ArrayString;
 use day::{Ends, Refusal};
+use itoa::Buffer;
 
-// Puts text at a place of the line, and answers the place after it.
-fn put(line: &mut [u8], place: usize, text: &[u8]) -> usize
-    requires { place + length text.now ≤ length line.old }
-    ensures { Put line.old place text.now line.new result }
+/// A line of a plan.
+pub type Line = ArrayString<96>;
+
+/// The line of a margin.
+pub type MarginLine = ArrayString<123>;
+
+/// A text, with room for 97 lines of a plan.
+pub type Text = ArrayString<9312>;
+
+// Puts a word and a number in decimal behind a text.
+fn put<const CAP: usize>(text: &mut ArrayString<CAP>, word: &str, n: u64)
+    requires { length text.old.bytes + (length word.now + 20) ≤ CAP }
+    ensures said { text.new.bytes ≡ text.old.bytes ++ labelled word.now n }
+    ensures few { length text.new.bytes ≤ length text.old.bytes + (length word.now + 20) }
 {
-    let mut i = 0;
-    while i < text.len() {
-        line[place + i] = text[i];
-        i += 1;
+    text.push_str(word);
+    text.push_str(Buffer::new().format(n));
+}
+
+// A line: words, each with a number in decimal, and the line's end.
+fn line<const CAP: usize>(parts: &[(&str, u64)]) -> ArrayString<CAP>
+    requires room { line_room (labels parts.now) ≤ CAP }
+    requires few { CAP ≤ text_bytes }
+    ensures { result.bytes ≡ line_of (labels parts.now) }
+{
+    let mut text = ArrayString::new();
+    for &(word, n) in parts {
+        put(&mut text, word, n);
     }
-    place + i
-}
-
-// Puts a word and a number in decimal.
-fn put_labelled(line: &mut [u8], place: usize, word: &[u8], n: u64) -> usize
-    requires { place + length word.now + 20 ≤ length line.old }
-    ensures { PutWithin (length word.now + 20) line.old place (labelled word.now n) line.new result }
-{
-    let mut digits = [0u8; 20];
-    let k = decimal::put(n, &mut digits);
-    let start = put(line, place, word);
-    put(line, start, &digits[..k])
-}
-
-// A line of three labelled numbers.
-fn three(
-    text: &mut [u8],
-    place: usize,
-    a: &[u8],
-    x: u64,
-    b: &[u8],
-    y: u64,
-    c: &[u8],
-    z: u64,
-) -> usize
-    requires line_bytes_in_bounds { place + line_bytes ≤ length text.old }
-    requires c_len_bound { length a.now + (length b.now + length c.now) ≤ 35 }
-    ensures { PutWithin line_bytes text.old place
-        (line_of ((a.now, x) ∷ (b.now, y) ∷ (c.now, z) ∷ []))
-        text.new result }
-{
-    let first = put_labelled(text, place, a, x);
-    let second = put_labelled(text, first, b, y);
-    let third = put_labelled(text, second, c, z);
-    put(text, third, b"\n")
+    text.push('\n');
+    text
 }
 
 // The first line of a plan.
-pub fn plan_line(n: u64, cost: u64, setups: u64, text: &mut [u8], place: usize) -> usize
-    requires { place + line_bytes ≤ length text.old }
-    ensures { PutWithin line_bytes text.old place (plan_line n cost setups) text.new result }
+pub fn plan_line(n: u64, cost: u64, setups: u64) -> Line
+    ensures { result.bytes ≡ plan_line n cost setups }
 {
-    three(
-        text,
-        place,
-        b"periods ",
-        n,
-        b" cost ",
-        cost,
-        b" starts ",
-        setups,
-    )
+    line(&[("periods ", n), (" cost ", cost), (" starts ", setups)])
 }
 
 // The inventory left after the first i periods.
@@ -81,87 +57,50 @@ fn inventory(demand: &[u16], plan: &[u16], i: usize, ends: Ends) -> u64
     requires { HavePeriods demand.now plan.now i }
     ensures { result ≡ left (day_of demand.now [] [] [] [] [] ends) (at plan.now) i }
 {
-    let there = checks::summed(&plan[0..i]) + (ends.opening as u64);
-    let needed = checks::summed(&demand[0..i]);
-    if there < needed { 0 } else { there - needed }
+    let there = checks::summed(&plan[0..i]) + u64::from(ends.opening);
+    there.saturating_sub(checks::summed(&demand[0..i]))
 }
 
 // The period at index i of a plan: its amount, and the inventory left after it.
-pub fn amount_line(
-    demand: &[u16],
-    plan: &[u16],
-    i: usize,
-    text: &mut [u8],
-    place: usize,
-    ends: Ends,
-) -> usize
-    requires have_periods { HavePeriods demand.now plan.now (i + 1) }
-    requires line_bytes_in_bounds { place + line_bytes ≤ length text.old }
-    ensures { PutWithin line_bytes text.old place
-        (amount_line (day_of demand.now [] [] [] [] [] ends) (at plan.now) i)
-        text.new result }
+pub fn amount_line(demand: &[u16], plan: &[u16], i: usize, ends: Ends) -> Line
+    requires { HavePeriods demand.now plan.now (i + 1) }
+    ensures { result.bytes ≡ amount_line (day_of demand.now [] [] [] [] [] ends) (at plan.now) i }
 {
     let left = inventory(demand, plan, i + 1, ends);
-    three(
-        text,
-        place,
-        b"",
-        (i + 1) as u64,
-        b" made ",
-        plan[i] as u64,
-        b" left ",
-        left,
-    )
+    let made = u64::from(plan[i]);
+    line(&[("", (i + 1) as u64), (" made ", made), (" left ", left)])
 }
 
-// A refusal.
-pub fn refusal_line(refusal: Refusal, text: &mut [u8], place: usize) -> usize
-    requires { place + line_bytes ≤ length text.old }
-    ensures { PutWithin line_bytes text.old place (refusal_line refusal) text.new result }
+// A refusal, which is the whole text where it stands.
+pub fn refusal_line(refusal: Refusal) -> Text
+    ensures { result.bytes ≡ refusal_line refusal }
 {
-    let a = put_labelled(text, place, b"refused ", refusal.number() as u64);
-    let b = put_labelled(text, a, b" period ", refusal.period() as u64);
-    put(text, b, b"\n")
+    let number = u64::from(refusal.number());
+    let period = u64::from(refusal.period());
+    line(&[("refused ", number), (" period ", period)])
 }
 
 // A margin with the cost of its plan, and what that missed and spilled when it was played.
-pub fn played_line(
-    margin: u64,
-    cost: u64,
-    lost: u64,
-    disposed: u64,
-    text: &mut [u8],
-    place: usize,
-) -> usize
-    requires { place + margin_bytes ≤ length text.old }
-    ensures { PutWithin margin_bytes text.old place (played_line margin cost lost disposed) text.new result }
+pub fn played_line(margin: u64, cost: u64, lost: u64, disposed: u64) -> MarginLine
+    ensures { result.bytes ≡ played_line margin cost lost disposed }
 {
-    let first = put_labelled(text, place, b"margin ", margin);
-    three(
-        text,
-        first,
-        b" cost ",
-        cost,
-        b" missed ",
-        lost,
-        b" spilled ",
-        disposed,
-    )
+    line(&[
+        ("margin ", margin),
+        (" cost ", cost),
+        (" missed ", lost),
+        (" spilled ", disposed),
+    ])
 }
 
 // A margin whose day is refused.
-pub fn margin_refusal_line(margin: u64, refusal: Refusal, text: &mut [u8], place: usize) -> usize
-    requires { place + margin_bytes ≤ length text.old }
-    ensures { PutWithin margin_bytes text.old place (margin_refusal_line margin refusal) text.new result }
+pub fn margin_refusal_line(margin: u64, refusal: Refusal) -> MarginLine
+    ensures { result.bytes ≡ margin_refusal_line margin refusal }
 {
-    three(
-        text,
-        place,
-        b"margin ",
-        margin,
-        b" refused ",
-        refusal.number() as u64,
-        b" period ",
-        refusal.period() as u64,
-    )
+    let number = u64::from(refusal.number());
+    let period = u64::from(refusal.period());
+    line(&[
+        ("margin ", margin),
+        (" refused ", number),
+        (" period ", period),
+    ])
 }

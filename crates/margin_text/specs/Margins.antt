@@ -1,6 +1,5 @@
 -- What `margins` prints for a day and a file of actual needs (document 02, 2.11): a refusal's line, or a line for each margin.
--- Main definitions: `with_margin`, `needs_in`, `needs_tests`; `SaysMargin`, one line; `SaysMarginsOf`; `PrintedDay`, the contract of the text.
--- Assumes nothing.
+-- Main definitions: `with_margin`, `needs_in`, `needs_tests`; `SaysMargin`, one line; `SaysMarginsOf`, the contract of the text. Assumes nothing.
 use Rattle.std.specs.Prelude.{◌≡◌, not, cond, List, [], ◌∷◌, ◌++◌, ℕ, zero, suc, ◌+◌, ◌*◌, eqb, ltb, length}
 use Rattle.std.proofs.Math.Option.{Option, none, some}
 use Rattle.day.specs.declared.Refusal.{Refusal}
@@ -13,7 +12,7 @@ use Rattle.day.specs.File.{number2}
 use Rattle.day.specs.Outcome.{refusal}
 use Rattle.day.specs.Paths.{full}
 use Rattle.play.specs.Play.{flows_of}
-use Rattle.lines.specs.Text.{refusal_line, played_line, margin_refusal_line, Put, Prints}
+use Rattle.lines.specs.Text.{refusal_line, played_line, margin_refusal_line}
 use Rattle.program_plan.specs.Areas.{lent}
 
 -- the margins are 0 to 15
@@ -82,11 +81,3 @@ SaysAll none d actual text = SaysMargins d actual margins text
 -- what is printed for a day that has passed 1, 2 and 3, and the bytes of a file of actual needs
 abbrev pub SaysMarginsOf : (needs : List ℕ) → Day → List ℕ → Type 0
 SaysMarginsOf needs d = SaysAll (first (needs_tests needs d)) d (at (needs_in needs (periods d)))
-
--- such a text was put at a buffer's front, and is r bytes long; later bytes stay
-abbrev pub PrintedDay : (needs : List ℕ) → Day → (before after : List ℕ) → ℕ → Type 0
-PrintedDay needs d before after r = Prints (SaysMarginsOf needs d) (λ text. Put before 0 text after r)
-
--- room for all lines
-abbrev pub text_bytes : ℕ
-text_bytes = 1968

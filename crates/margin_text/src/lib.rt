@@ -1,4 +1,4 @@
-//! The text that `margins` prints for a day and a file of actual needs (document 02, 2.11), put into a lent buffer.
+//! The text that `margins` prints for a day and a file of actual needs (document 02, 2.11).
 #![tactic(auto)]
 
 ghost use Rattle.std.specs.Prelude.{◌≡◌, ◌+◌, ◌*◌, ◌≤◌, ◌<◌, length};
@@ -6,12 +6,16 @@ ghost use Rattle.day.specs.Sums.{at};
 ghost use Rattle.day.specs.Day.{day_of, max_demand, max_periods};
 ghost use Rattle.day.specs.Lent.{day_before};
 ghost use Rattle.checks.specs.Passed.{Limits};
-ghost use Rattle.lines.specs.Text.{margin_bytes, Put, PutWithin, Prints};
-ghost use Rattle.margin_text.specs.Margins.{margins, raised, raised_needs, needs_in, SaysDayLine, SaysMargin, SaysMargins, PrintedDay, text_bytes};
+ghost use Rattle.margin_text.specs.Margins.{margins, raised, raised_needs, needs_in, SaysDayLine, SaysMargin, SaysMargins, SaysMarginsOf};
 ghost use Rattle.margin_text.specs.Laws.{LowNeeds};
 
+use arrayvec::ArrayVec;
 use day::{Answer, Check, Ends, Refusal};
 use dayfile::layout;
+use lines::{MarginLine, Text};
+
+// A need for each period.
+type Needs = ArrayVec<u16, 96>;
 
 const MARGINS: u16 = 16;
 
@@ -20,37 +24,35 @@ fn raised(margin: u16, need: u16) -> u16
     requires { (margin < margins) × (need ≤ max_demand) }
     ensures { result ≡ raised margin need }
 {
-    if need > 0 {
-        return need + margin;
-    }
-    need
+    if need > 0 { need + margin } else { need }
 }
 
 // The needs of a day with a margin.
-fn raise(margin: u16, demand: &[u16], needs: &mut [u16])
+fn raise(margin: u16, demand: &[u16]) -> Needs
     requires margin_lt_margins { margin < margins }
     requires low_needs { LowNeeds demand.now }
-    requires needs_len { length needs.old ≡ length demand.now }
-    ensures { needs.new ≡ raised_needs margin demand.now }
+    ensures needs { result.items ≡ raised_needs margin demand.now }
+    ensures len { length result.items ≡ length demand.now }
 {
-    let mut i = 0;
-    while i < demand.len() {
-        needs[i] = raised(margin, demand[i]);
-        i += 1;
+    let mut needs = Needs::new();
+    for need in demand {
+        needs.push(raised(margin, *need));
     }
+    needs
 }
 
 // The actual needs in a file of two bytes each.
-fn decode(file: &[u8], needs: &mut [u16])
-    requires file_len { length file.now ≡ 2 * length needs.old }
-    requires needs_len_bound { length needs.old ≤ max_periods }
-    ensures { needs.new ≡ needs_in file.now (length needs.old) }
+fn decode(file: &[u8], n: usize) -> Needs
+    requires file_len { length file.now ≡ 2 * n }
+    requires n_bound { n ≤ max_periods }
+    ensures needs { result.items ≡ needs_in file.now n }
+    ensures len { length result.items ≡ n }
 {
-    let mut i = 0;
-    while i < needs.len() {
-        needs[i] = layout::number2(file, 2 * i) as u16;
-        i += 1;
+    let mut needs = Needs::new();
+    for i in 0..n {
+        needs.push(layout::number2(file, 2 * i) as u16);
     }
+    needs
 }
 
 // The line of a day whose needs have the margin.
@@ -63,23 +65,19 @@ fn day_line(
     holding: &[u32],
     store: &[u16],
     actual: &[u16],
-    text: &mut [u8],
-    place: usize,
     ends: Ends,
-) -> usize
-    requires actual_len { length actual.now ≡ length demand.now }
-    requires margin_bytes_in_bounds { place + margin_bytes ≤ length text.old }
-    ensures { Prints (SaysDayLine (day_before demand capacity setup unit holding store ends) (at actual.now) margin)
-        (λ line. PutWithin margin_bytes text.old place line text.new result) }
+) -> MarginLine
+    requires { length actual.now ≡ length demand.now }
+    ensures { SaysDayLine (day_before demand capacity setup unit holding store ends) (at actual.now) margin result.bytes }
 {
     let mut slots = [0u16; 96];
     match program_plan::plan(
         demand, capacity, setup, unit, holding, store, &mut slots, ends,
     ) {
-        Answer::Refused(r) => lines::margin_refusal_line(margin, r, text, place),
+        Answer::Refused(r) => lines::margin_refusal_line(margin, r),
         Answer::Planned(totals) => {
             let p = play::run(&slots, actual, store, ends.opening);
-            lines::played_line(margin, totals.cost, p.lost, p.disposed, text, place)
+            lines::played_line(margin, totals.cost, p.lost, p.disposed)
         }
     }
 }
@@ -94,31 +92,23 @@ fn margin_line(
     holding: &[u32],
     store: &[u16],
     actual: &[u16],
-    text: &mut [u8],
-    place: usize,
     ends: Ends,
-) -> usize
+) -> MarginLine
     requires margin_lt_margins { margin < margins }
     requires low_needs { LowNeeds demand.now }
     requires actual_len { length actual.now ≡ length demand.now }
-    requires margin_bytes_in_bounds { place + margin_bytes ≤ length text.old }
-    ensures { Prints (SaysMargin (day_before demand capacity setup unit holding store ends) (at actual.now) margin)
-        (λ line. PutWithin margin_bytes text.old place line text.new result) }
+    ensures { SaysMargin (day_before demand capacity setup unit holding store ends) (at actual.now) margin result.bytes }
 {
-    let mut table = [0u16; 96];
-    let needs = &mut table[0..demand.len()];
-    raise(margin, demand, needs);
+    let needs = raise(margin, demand);
     day_line(
-        margin as u64,
-        needs,
+        u64::from(margin),
+        &needs,
         capacity,
         setup,
         unit,
         holding,
         store,
         actual,
-        text,
-        place,
         ends,
     )
 }
@@ -132,24 +122,20 @@ fn margin_lines(
     holding: &[u32],
     store: &[u16],
     actual: &[u16],
-    text: &mut [u8],
     ends: Ends,
-) -> usize
+) -> Text
     requires low_needs { LowNeeds demand.now }
     requires actual_len { length actual.now ≡ length demand.now }
-    requires text_bytes_in_bounds { text_bytes ≤ length text.old }
-    ensures { Prints (SaysMargins (day_before demand capacity setup unit holding store ends) (at actual.now) margins)
-        (λ lines. Put text.old 0 lines text.new result) }
+    ensures { SaysMargins (day_before demand capacity setup unit holding store ends) (at actual.now) margins result.bytes }
 {
-    let mut next = 0;
-    let mut margin = 0;
-    while margin < MARGINS {
-        next = margin_line(
-            margin, demand, capacity, setup, unit, holding, store, actual, text, next, ends,
+    let mut text = Text::new();
+    for margin in 0..MARGINS {
+        let line = margin_line(
+            margin, demand, capacity, setup, unit, holding, store, actual, ends,
         );
-        margin += 1;
+        text.push_str(&line);
     }
-    next
+    text
 }
 
 // The text of a day that has passed 1, 2 and 3: 2 and 3 on the actual needs, then the lines.
@@ -161,24 +147,18 @@ pub fn day_text(
     holding: &[u32],
     store: &[u16],
     file: &[u8],
-    text: &mut [u8],
     ends: Ends,
-) -> usize
-    requires limits { Limits (day_of demand.now capacity.now setup.now unit.now holding.now store.now ends) }
-    requires text_bytes_in_bounds { text_bytes ≤ length text.old }
-    ensures { PrintedDay file.now (day_before demand capacity setup unit holding store ends) text.old text.new result }
+) -> Text
+    requires { Limits (day_of demand.now capacity.now setup.now unit.now holding.now store.now ends) }
+    ensures { SaysMarginsOf file.now (day_before demand capacity setup unit holding store ends) result.bytes }
 {
     let n = demand.len();
     if file.len() != 2 * n {
-        return lines::refusal_line(Refusal::TableLength, text, 0);
+        return lines::refusal_line(Refusal::TableLength);
     }
-    let mut table = [0u16; 96];
-    let actual = &mut table[0..n];
-    decode(file, actual);
-    if let Check::Refused(r) = checks::values(actual, capacity, setup, unit, holding, store) {
-        return lines::refusal_line(r, text, 0);
+    let actual = decode(file, n);
+    if let Check::Refused(r) = checks::values(&actual, capacity, setup, unit, holding, store) {
+        return lines::refusal_line(r);
     }
-    margin_lines(
-        demand, capacity, setup, unit, holding, store, actual, text, ends,
-    )
+    margin_lines(demand, capacity, setup, unit, holding, store, &actual, ends)
 }

@@ -1,5 +1,5 @@
 -- What `dayplan` prints for a day (document 01, "Marked days"): a refusal's line, or the lines of the day's plan.
--- Main definitions: `SaysPlanOf`; `PrintedDay`, the contract of the text. Assumes nothing.
+-- Main definition: `SaysPlanOf`, the contract of the text. Assumes nothing.
 use Rattle.std.specs.Prelude.{◌≡◌, List, [], ◌++◌, ℕ, zero, suc}
 use Rattle.std.proofs.Math.Option.{Option, none, some}
 use Rattle.day.specs.declared.Refusal.{Refusal}
@@ -7,7 +7,7 @@ use Rattle.day.specs.Day.{Day, periods}
 use Rattle.day.specs.Plan.{Optimal, cost, setups}
 use Rattle.day.specs.Outcome.{refusal}
 use Rattle.day.specs.Paths.{full}
-use Rattle.lines.specs.Text.{plan_line, amount_line, refusal_line, Put, Prints}
+use Rattle.lines.specs.Text.{plan_line, amount_line, refusal_line}
 use Rattle.program_plan.specs.Areas.{lent}
 
 -- a line for each of the first k periods of a plan
@@ -33,11 +33,3 @@ Says none d text = SaysPlan d text
 -- text says a day's plan, by the full path with the program's areas
 abbrev pub SaysPlanOf : Day → List ℕ → Type 0
 SaysPlanOf d = Says (refusal full d lent) d
-
--- such a text was put at a buffer's front, and is r bytes long; later bytes stay
-abbrev pub PrintedDay : Day → (before after : List ℕ) → ℕ → Type 0
-PrintedDay d before after r = Prints (SaysPlanOf d) (λ text. Put before 0 text after r)
-
--- room for 97 lines
-abbrev pub text_bytes : ℕ
-text_bytes = 9312

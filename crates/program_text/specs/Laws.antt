@@ -1,6 +1,6 @@
 -- What the reading's answer tells, and the text that it leads to. Main statements: `input_refused`, `input_taken`, `taken_limits`; `file_refused`,
 -- `file_taken`. Assumes nothing.
-use Rattle.std.specs.Prelude.{◌≡◌, refl, List, [], ◌∷◌, ◌++◌, ℕ, ◌-◌, ◌≤◌, ◌<◌, length, replicate}
+use Rattle.std.specs.Prelude.{◌≡◌, refl, List, [], ◌∷◌, ◌++◌, ℕ, ◌≤◌, ◌<◌, length, replicate}
 use Rattle.std.proofs.Common.{sym, ap, subst, ◌∙◌, arith, lt-ltb, le-ltb}
 use Rattle.std.proofs.Math.Option.{Option, none, some}
 use Rattle.std.proofs.lemmas.List.{length-replicate}
@@ -22,9 +22,9 @@ use Rattle.dayfile.specs.Answers.{file_tests, bad_read, ReadingAs, Reading}
 use Rattle.dayfile.specs.Passed.{each_passed, read_given}
 use Rattle.dayfile.specs.Layout.{day_lengths, day_in_front}
 use Rattle.dayfile_reader.specs.Tables.{read_passed}
-use Rattle.lines.specs.Text.{refusal_line, Put, Prints}
+use Rattle.lines.specs.Text.{refusal_line}
 use Rattle.program_text.specs.declared.Program.{Program}
-use Rattle.program_text.specs.Text.{expected_in, too_long, bad_input, Inputs, PrintedAnswer, SaysDay, PrintedText}
+use Rattle.program_text.specs.Text.{expected_in, too_long, bad_input, Inputs, SaysDay, PrintedText}
 
 -- the length is tested first
 pub long_input : (expected : Expected) (s : List ℕ) (tables : Day) → 1837 < length s → Inputs expected s tables (Read.Refused WrongEnd) tables
@@ -54,21 +54,11 @@ input_refused expected s after answer refused e r =
     let q = subst (λ (a : ReadAnswer). Inputs expected s blank_day a after) e r in
     subst (λ (k : ℕ). bad_input expected s k ≡ some refused) blank_shortest (gives_is q.0)
 
--- its line
-pub answer_refused : (answer : ReadAnswer) (refused : Refusal) {text later : List ℕ} {r : ℕ} → answer ≡ Read.Refused refused
-    → Put text 0 (refusal_line refused) later r
-    → PrintedAnswer answer text later r
-answer_refused answer refused e p = rw e p
-
-pub answer_accepted : (answer : ReadAnswer) (n : ℕ) (ends : Ends) (text later : List ℕ) (r : ℕ) → answer ≡ Read.Periods n ends
-    → PrintedAnswer answer text later r
-answer_accepted answer n ends text later r e = rw e tt
-
--- an accepted file: no test refuses, it has at most 96 periods, and its day stands at the tables' front; a part from 0 to n has n - 0 cells
+-- an accepted file: no test refuses, it has at most 96 periods, and its day stands at the tables' front
 pub record Taken (expected : Expected) (s : List ℕ) (after : Day) (n : ℕ) (ends : Ends) : Type 0 where
   pub passed : bad_input expected s 96 ≡ none
   pub few : n ≤ max_periods
-  pub day : first_of (n - 0) after ends ≡ day_in s
+  pub day : first_of n after ends ≡ day_in s
 
 pub input_taken : (expected : Expected) (s : List ℕ) (after : Day) (answer : ReadAnswer) (n : ℕ) (ends : Ends)
     → answer ≡ Read.Periods n ends → Inputs expected s blank_day answer after
@@ -76,17 +66,16 @@ pub input_taken : (expected : Expected) (s : List ℕ) (after : Day) (answer : R
 input_taken expected s after answer n ends e r =
     let q = subst (λ (a : ReadAnswer). Inputs expected s blank_day a after) e r in
     let given = read_given s n ends q.1 in
-    let cells : n - 0 ≡ n = omega arith in
     let read = (first_two (too_long s) (bad_read expected s (shortest blank_day)) q.0).1 in
     record {
       passed = subst (λ (k : ℕ). bad_input expected s k ≡ none) blank_shortest q.0;
       few = omega (arith, (read_passed expected s blank_day read).few, first_value q.1);
-      day = rw cells (day_in_front s n ends blank_day after given.0 given.1 q.2);
+      day = day_in_front s n ends blank_day after given.0 given.1 q.2;
     }
 
 -- such a day has passed 1, 2 and 3
 pub taken_limits : {expected : Expected} {s : List ℕ} {after : Day} {n : ℕ} {ends : Ends} → Taken expected s after n ends
-    → Limits (first_of (n - 0) after ends)
+    → Limits (first_of n after ends)
 taken_limits {expected} {s} w =
     let read = (first_two (too_long s) (bad_read expected s 96) w.passed).1 in
     let each = each_passed (file_tests expected s ++ (bad_slots 96 (periods_in s) ∷ bad_value (day_in s) ∷ [])) read in
@@ -95,19 +84,14 @@ taken_limits {expected} {s} w =
     subst Limits (sym w.day) (tables_passed (day_in s) passed)
 
 -- the text of a refused file is its refusal's line
-pub file_refused : (program : Program) (s needs id : List ℕ) {answer : ReadAnswer} {refused : Refusal} {text later : List ℕ} {r : ℕ}
-    → answer ≡ Read.Refused refused
+pub file_refused : (program : Program) (s needs id : List ℕ) {refused : Refusal} {text : List ℕ}
     → bad_input (expected_in id) s 96 ≡ some refused
-    → PrintedAnswer answer text later r
-    → PrintedText program s needs id text later r
-file_refused program s needs id {refused = refused} e first p =
-    let put : Put _ 0 (refusal_line refused) _ _ = rw e at p in
-    rw first (record { text = refusal_line refused; says = refl; put = put })
+    → text ≡ refusal_line refused
+    → PrintedText program s needs id text
+file_refused program s needs id first is = rw first is
 
 -- and of an accepted one what the program says of its day
-pub file_taken : (program : Program) (s needs id : List ℕ) {tables : Day} {n : ℕ} {ends : Ends} {text later : List ℕ} {r : ℕ}
-    → Taken (expected_in id) s tables n ends
-    → Prints (SaysDay program needs (first_of (n - 0) tables ends)) (λ lines. Put text 0 lines later r)
-    → PrintedText program s needs id text later r
-file_taken program s needs id {text = text} {later} {r} w p =
-    rw w.passed (subst (λ (d : Day). Prints (SaysDay program needs d) (λ lines. Put text 0 lines later r)) w.day p)
+pub file_taken : (program : Program) (s needs id text : List ℕ) {tables : Day} {n : ℕ} {ends : Ends} → Taken (expected_in id) s tables n ends
+    → SaysDay program needs (first_of n tables ends) text
+    → PrintedText program s needs id text
+file_taken program s needs id text w says = rw w.passed (subst (λ (d : Day). SaysDay program needs d text) w.day says)

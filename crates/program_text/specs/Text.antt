@@ -12,9 +12,8 @@ use Rattle.day.specs.Refusals.{refuse, first}
 use Rattle.day.specs.File.{stamp_kind, body_length, stamp_of, day_in}
 use Rattle.tables.specs.Filled.{shortest}
 use Rattle.dayfile.specs.declared.ReadAnswer.{ReadAnswer}
-use Rattle.dayfile.specs.declared.ReadAnswer.TheVariants.{Refused, Periods}
 use Rattle.dayfile.specs.Answers.{bad_read, ReadingAs}
-use Rattle.lines.specs.Text.{refusal_line, Put, Prints}
+use Rattle.lines.specs.Text.{refusal_line}
 use Rattle.plan_text.specs.Text.{SaysPlanOf}
 use Rattle.margin_text.specs.Margins.{SaysMarginsOf}
 use Rattle.program_text.specs.declared.Program.{Program}
@@ -36,11 +35,6 @@ bad_input expected s cells = first (too_long s ∷ bad_read expected s cells ∷
 abbrev pub Inputs : Expected → List ℕ → Day → ReadAnswer → Day → Type 0
 Inputs expected s before = ReadingAs (bad_input expected s (shortest before)) s before
 
--- the line of a refused file; what is given for an accepted one is free
-abbrev pub PrintedAnswer : ReadAnswer → List ℕ → List ℕ → ℕ → Type 0
-PrintedAnswer (Refused r) before after next = Put before 0 (refusal_line r) after next
-PrintedAnswer (Periods n ends) before after next = Unit {0}
-
 -- what the program says of a day: `dayplan` its plan, `margins` each margin's cost, missed and spilled, against the bytes of actual needs; or a refusal
 abbrev pub SaysDay : Program → (needs : List ℕ) → Day → List ℕ → Type 0
 SaysDay Dayplan needs d = SaysPlanOf d
@@ -51,7 +45,6 @@ abbrev pub SaysFile : Option Refusal → Program → (needs : List ℕ) → Day 
 SaysFile (some r) program needs d text = text ≡ refusal_line r
 SaysFile none program needs d text = SaysDay program needs d text
 
--- such a text was put at a buffer's front, and is r bytes long; later bytes stay
-abbrev pub PrintedText : Program → (file needs id : List ℕ) → (before after : List ℕ) → ℕ → Type 0
-PrintedText program s needs id before after r =
-    Prints (SaysFile (bad_input (expected_in id) s 96) program needs (day_in s)) (λ text. Put before 0 text after r)
+-- text is what the program prints for a file
+abbrev pub PrintedText : Program → (file needs id text : List ℕ) → Type 0
+PrintedText program s needs id = SaysFile (bad_input (expected_in id) s 96) program needs (day_in s)

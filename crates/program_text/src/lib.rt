@@ -1,16 +1,18 @@
 //! The text that a program prints for a day file: the line of its refusal, or what the program says of its day.
 #![tactic(auto)]
 
-ghost use Rattle.std.specs.Prelude.{◌≡◌, ◌≤◌, length};
+mod running;
+
+ghost use Rattle.std.specs.Prelude.{◌≡◌};
 ghost use Rattle.day.specs.Day.{day_of};
 ghost use Rattle.day.specs.Lent.{day_before, tables_lent, tables_after};
 ghost use Rattle.checks.specs.Passed.{Limits};
-ghost use Rattle.lines.specs.Text.{line_bytes, Put, Prints};
-ghost use Rattle.plan_text.specs.Text.{text_bytes};
-ghost use Rattle.program_text.specs.Text.{expected_in, Inputs, PrintedAnswer, SaysDay, PrintedText};
+ghost use Rattle.program_text.specs.Text.{expected_in, Inputs, SaysDay, PrintedText};
 
 use day::{Ends, Expected, Refusal};
 use dayfile::{ReadAnswer, layout};
+use lines::Text;
+pub use running::run;
 
 // The programs that read a day file.
 #[derive(Clone, Copy)]
@@ -51,17 +53,6 @@ fn read(
     )
 }
 
-// The line of a file that is refused.
-fn refused_text(answer: ReadAnswer, text: &mut [u8]) -> usize
-    requires { line_bytes ≤ length text.old }
-    ensures { PrintedAnswer answer text.old text.new result }
-{
-    match answer {
-        ReadAnswer::Refused(r) => lines::refusal_line(r, text, 0),
-        ReadAnswer::Periods(_, _) => 0,
-    }
-}
-
 // What the program says of a day.
 fn day_text(
     program: Program,
@@ -72,33 +63,24 @@ fn day_text(
     holding: &[u32],
     store: &[u16],
     needs: &[u8],
-    text: &mut [u8],
     ends: Ends,
-) -> usize
-    requires limits { Limits (day_of demand.now capacity.now setup.now unit.now holding.now store.now ends) }
-    requires text_bytes_in_bounds { text_bytes ≤ length text.old }
-    ensures { Prints (SaysDay program needs.now (day_before demand capacity setup unit holding store ends))
-        (λ lines. Put text.old 0 lines text.new result) }
+) -> Text
+    requires { Limits (day_of demand.now capacity.now setup.now unit.now holding.now store.now ends) }
+    ensures { SaysDay program needs.now (day_before demand capacity setup unit holding store ends) result.bytes }
 {
     match program {
-        Program::Dayplan => plan_text::day_text(
-            demand, capacity, setup, unit, holding, store, text, ends,
-        ),
+        Program::Dayplan => {
+            plan_text::day_text(demand, capacity, setup, unit, holding, store, ends)
+        }
         Program::Margins => margin_text::day_text(
-            demand, capacity, setup, unit, holding, store, needs, text, ends,
+            demand, capacity, setup, unit, holding, store, needs, ends,
         ),
     }
 }
 
-// The text of a file, at the front of a buffer with room for 97 lines; goes on only with an accepted one. `dayplan` needs no actual needs.
-pub fn text_of(
-    program: Program,
-    file: &[u8],
-    needs: &[u8],
-    id: &[u8],
-    text: &mut [u8; 9312],
-) -> usize
-    ensures { PrintedText program file.now needs.now id.now text.old text.new result }
+// The text of a file; goes on only with an accepted one. `dayplan` needs no actual needs.
+pub fn text_of(program: Program, file: &[u8], needs: &[u8], id: &[u8]) -> Text
+    ensures { PrintedText program file.now needs.now id.now result.bytes }
 {
     let mut demand = [0u16; 96];
     let mut capacity = [0u16; 96];
@@ -116,19 +98,19 @@ pub fn text_of(
         &mut store,
         expected(id),
     );
-    let ReadAnswer::Periods(n, ends) = answer else {
-        return refused_text(answer, text);
+    let (n, ends) = match answer {
+        ReadAnswer::Refused(r) => return lines::refusal_line(r),
+        ReadAnswer::Periods(n, ends) => (n, ends),
     };
     day_text(
         program,
-        &demand[0..n],
-        &capacity[0..n],
-        &setup[0..n],
-        &unit[0..n],
-        &holding[0..n],
-        &store[0..n],
+        &demand[..n],
+        &capacity[..n],
+        &setup[..n],
+        &unit[..n],
+        &holding[..n],
+        &store[..n],
         needs,
-        text,
         ends,
     )
 }

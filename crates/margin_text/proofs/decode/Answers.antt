@@ -1,7 +1,6 @@
--- All cells are filled.
-use Rattle.std.proofs.Common.{arith}
-use Rattle.margin_text.specs.Laws.{listing_all}
+-- A turn puts one need more.
+use Rattle.margin_text.specs.Laws.{listed_more}
 use Rattle.margin_text.proofs.decode.Goals as goal
 
-pub returns : goal.returns
-returns c = listing_all _ c.loop-i.invariant (omega (arith, c.loop-i.invariant.size))
+pub loop-i-preserved : goal.loop-i-preserved
+loop-i-preserved c = listed_more _ c.loop-i.invariant c.number2.ensures.is c.push.ensures.items

@@ -1,7 +1,6 @@
--- All cells are filled.
-use Rattle.std.proofs.Common.{arith}
-use Rattle.margin_text.specs.Laws.{listing_all}
+-- A turn puts one need more.
+use Rattle.margin_text.specs.Laws.{listed_more}
 use Rattle.margin_text.proofs.raise.Goals as goal
 
-pub returns : goal.returns
-returns c = listing_all _ c.loop-i.invariant (omega arith)
+pub loop-need-preserved : goal.loop-need-preserved
+loop-need-preserved c = listed_more _ c.loop-need.invariant c.raised.ensures c.push.ensures.items

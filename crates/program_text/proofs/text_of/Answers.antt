@@ -27,28 +27,28 @@ read_taken c = taken c.args.id.now c.args.file.now (after c) c.expected.ensures 
 few : (c : In-Periods) → c.in-Periods.n ≤ max_periods
 few c = (read_taken c).few
 
-pub slice_bounds-day_text-end : goal.slice_bounds-day_text-end
-slice_bounds-day_text-end c = omega (arith, few (goal.at.slice_bounds-day_text-end c).In-Periods)
+pub slice_bounds-demand-end : goal.slice_bounds-demand-end
+slice_bounds-demand-end c = omega (arith, few (goal.at.slice_bounds-demand-end c).In-Periods)
 
-pub slice_bounds-day_text-end-2 : goal.slice_bounds-day_text-end-2
-slice_bounds-day_text-end-2 c = omega (arith, few (goal.at.slice_bounds-day_text-end-2 c).In-Periods)
+pub slice_bounds-capacity-end : goal.slice_bounds-capacity-end
+slice_bounds-capacity-end c = omega (arith, few (goal.at.slice_bounds-capacity-end c).In-Periods)
 
-pub slice_bounds-day_text-end-3 : goal.slice_bounds-day_text-end-3
-slice_bounds-day_text-end-3 c = omega (arith, few (goal.at.slice_bounds-day_text-end-3 c).In-Periods)
+pub slice_bounds-setup-end : goal.slice_bounds-setup-end
+slice_bounds-setup-end c = omega (arith, few (goal.at.slice_bounds-setup-end c).In-Periods)
 
-pub slice_bounds-day_text-end-4 : goal.slice_bounds-day_text-end-4
-slice_bounds-day_text-end-4 c = omega (arith, few (goal.at.slice_bounds-day_text-end-4 c).In-Periods)
+pub slice_bounds-unit-end : goal.slice_bounds-unit-end
+slice_bounds-unit-end c = omega (arith, few (goal.at.slice_bounds-unit-end c).In-Periods)
 
-pub slice_bounds-day_text-end-5 : goal.slice_bounds-day_text-end-5
-slice_bounds-day_text-end-5 c = omega (arith, few (goal.at.slice_bounds-day_text-end-5 c).In-Periods)
+pub slice_bounds-holding-end : goal.slice_bounds-holding-end
+slice_bounds-holding-end c = omega (arith, few (goal.at.slice_bounds-holding-end c).In-Periods)
 
-pub slice_bounds-day_text-end-6 : goal.slice_bounds-day_text-end-6
-slice_bounds-day_text-end-6 c = omega (arith, few (goal.at.slice_bounds-day_text-end-6 c).In-Periods)
+pub slice_bounds-store-end : goal.slice_bounds-store-end
+slice_bounds-store-end c = omega (arith, few (goal.at.slice_bounds-store-end c).In-Periods)
 
-pub day_text-requires-clause-limits : goal.day_text-requires-clause-limits
-day_text-requires-clause-limits c = taken_limits (read_taken (goal.at.day_text-requires-clause-limits c).In-Periods)
+pub day_text-requires : goal.day_text-requires
+day_text-requires c = taken_limits (read_taken (goal.at.day_text-requires c).In-Periods)
 
 pub returns : goal.returns
 returns c =
     let a = c.args in
-    file_taken a.program a.file.now a.needs.now a.id.now (read_taken (goal.at.returns c).In-Periods) c.day_text.ensures
+    file_taken a.program a.file.now a.needs.now a.id.now _ (read_taken (goal.at.returns c).In-Periods) c.day_text.ensures

@@ -1,0 +1,65 @@
+//! A program's run: its files read, their text written.
+ghost use Rattle.std.specs.Prelude.{OnOk, length};
+ghost use Rattle.std.specs.Io.KnownBytes.{Appends};
+ghost use Rattle.program_text.specs.Run.{Writes};
+
+use crate::{Program, text_of};
+use std::io::{Read, Write};
+use std::process::ExitCode;
+use std::rt::Files;
+use std::{fmt, io};
+
+// Why a program stops: what it failed to read from or to write to.
+#[derive(Debug, Drop)]
+enum Stopped {
+    Input(io::Error),
+    Output(io::Error),
+}
+
+impl fmt::Display for Stopped {
+    fn fmt<W: fmt::Write>(&self, f: &mut fmt::Formatter<W>) -> fmt::Result {
+        match self {
+            Stopped::Input(e) => write!(f, "standard input: {e}"),
+            Stopped::Output(e) => write!(f, "standard output: {e}"),
+        }
+    }
+}
+
+// Reads the files, each into room for a byte more than the longest that is accepted, and writes their text in one piece.
+fn write_text<R: Files + Eprint, I: Read, O: Write>(
+    rt: &R,
+    program: Program,
+    input: &mut I,
+    output: &mut O,
+) -> Result<(), Stopped>
+    ensures { OnOk result (Writes program (I.remaining input.old) (I.remaining input.new) (O.contents output.old) (O.contents output.new)) }
+{
+    let mut file = [0u8; 1838];
+    let n = input::read(input, &mut file).map_err(Stopped::Input)?;
+    let mut needs = [0u8; 193];
+    let m = match program {
+        Program::Dayplan => 0,
+        Program::Margins => input::read_named(rt, b"needs.act", &mut needs),
+    };
+    let mut id = [0u8; 5];
+    let k = input::read_named(rt, b"station.id", &mut id);
+    let text = text_of(program, &file[..n], &needs[..m], &id[..k]);
+    output.write_all(text.as_bytes()).map_err(Stopped::Output)?;
+    Ok(())
+}
+
+// Runs a program. What could not be read or written is said on standard error.
+pub fn run<R: Files + Eprint>(
+    rt: &R,
+    program: Program,
+    input: &mut impl Read,
+    output: &mut impl Write,
+) -> ExitCode {
+    match write_text(rt, program, input, output) {
+        Ok(()) => ExitCode::SUCCESS,
+        Err(e) => {
+            let _ = eprintln!(rt; "{e}");
+            ExitCode::FAILURE
+        }
+    }
+}
