@@ -1,6 +1,7 @@
 -- The work of the full path, in plain variables: the table in the front parts of both areas, the plan in the slots, the areas cleared.
 -- Assumes nothing.
-use Rattle.std.proofs.Common.{◌≡◌, refl, sym, ◌∙◌, List, ◌++◌, ℕ, ◌-◌, arith, length, take, drop, length-append, length-take-le, drop_at}
+use Rattle.std.proofs.Common.{◌≡◌, refl, sym, ◌∙◌, List, ◌++◌, ℕ, arith, length, take, drop, length-append, length-take-le, drop_at}
+use Rattle.std.proofs.lemmas.Slice.{drop-append-drop}
 use Rattle.day.specs.declared.Totals.{Totals}
 use Rattle.day.specs.Sums.{at, length-list_of}
 use Rattle.day.specs.Day as Day
@@ -22,51 +23,40 @@ use Rattle.full_table.specs.Table.{cell_at, TableFilled, Traceable, plan_read}
 use Rattle.full_table.specs.Right.{back_length, filled_longer, filled_traced, filled_optimal}
 use Rattle.full.specs.Work.{Workable, PlanLeft}
 
--- past a front that has been written, the list is as it was
-drop_front : (n k : ℕ) (front l : List ℕ) → k ≡ n → length front ≡ k → drop n (front ++ drop k l) ≡ drop n l
-drop_front n k front l e s = rw (← e) (drop_at front (drop k l) k s)
-
 module _ {p : Problem} {U : List ℕ} {T : ℕ} {c : Needed} {m : Memory} (w : Workable p U T c m) where
-  -- how many cells of each area are lent: a part from 0 to e has e - 0
-  abbrev k : ℕ
-  k = c.costs - 0
+  lent : length (take c.costs m.costs) ≡ c.costs
+  lent = length-take-le c.costs m.costs (omega (arith, w.needed.costs, w.fillable.cost_cells))
 
-  abbrev k' : ℕ
-  k' = c.choices - 0
+  lent' : length (take c.choices m.choices) ≡ c.choices
+  lent' = length-take-le c.choices m.choices (omega (arith, w.needed.choices, w.fillable.choice_cells))
 
-  lent : length (take k m.costs) ≡ k
-  lent = length-take-le k m.costs (omega (arith, w.needed.costs, w.fillable.cost_cells))
-
-  lent' : length (take k' m.choices) ≡ k'
-  lent' = length-take-le k' m.choices (omega (arith, w.needed.choices, w.fillable.choice_cells))
-
-  module _ {front' : List ℕ} (filled : TableFilled p U T front') (size' : length front' ≡ length (take k' m.choices)) where
+  module _ {front' : List ℕ} (filled : TableFilled p U T front') (size' : length front' ≡ length (take c.choices m.choices)) where
     abbrev cells : List ℕ
-    cells = front' ++ drop k' m.choices
+    cells = front' ++ drop c.choices m.choices
 
     longer : TableFilled p U T cells
-    longer = filled_longer w.fillable filled (omega (arith, lent', w.needed.choices)) (drop k' m.choices)
+    longer = filled_longer w.fillable filled (omega (arith, lent', w.needed.choices)) (drop c.choices m.choices)
 
     pub front_traceable : Traceable cells m.slots (periods p) T
     front_traceable =
         record {
           small = omega (arith, w.fillable.is, w.fillable.bounded.small);
-          choice_cells = omega (arith, length-append front' (drop k' m.choices), lent', w.needed.choices);
+          choice_cells = omega (arith, length-append front' (drop c.choices m.choices), lent', w.needed.choices);
           slot_cells = w.slot_cells;
           traced = filled_traced w.fillable longer;
         }
 
-    pub front_planned : (front : List ℕ) {slots' : List ℕ} → length front ≡ length (take k m.costs)
+    pub front_planned : (front : List ℕ) {slots' : List ℕ} → length front ≡ length (take c.costs m.costs)
         → slots' ≡ plan_read cells (periods p) T ++ drop (periods p) m.slots
-        → PlanLeft p U c m (memory_of (front ++ drop k m.costs) cells slots')
+        → PlanLeft p U c m (memory_of (front ++ drop c.costs m.costs) cells slots')
     front_planned front size e =
         let rest = drop (periods p) m.slots in
         rw e
         (record {
           plan = filled_optimal w.fillable longer rest;
           slots = drop_at (plan_read cells (periods p) T) rest (periods p) (back_length (cell_at cells T) (periods p) T);
-          costs = drop_front c.costs k front m.costs (omega arith) (size ∙ lent);
-          choices = drop_front c.choices k' front' m.choices (omega arith) (size' ∙ lent');
+          costs = drop-append-drop c.costs m.costs front c.costs (omega arith) (size ∙ lent);
+          choices = drop-append-drop c.choices m.choices front' c.choices (omega arith) (size' ∙ lent');
         })
 
 module _ {d : Day} {m : Memory} {net rates ceilings : List ℕ} (a : Admitted full d (sizes_of m)) (filled : NetTables d net rates)

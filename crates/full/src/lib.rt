@@ -36,8 +36,6 @@ fn fill_and_read(
         (memory_before costs choices slots)
         (memory_after costs choices slots) }
 {
-    let cost_cells = needed.costs;
-    let choice_cells = needed.choices;
     full_table::fill(
         demand,
         capacity,
@@ -45,8 +43,8 @@ fn fill_and_read(
         unit,
         holding,
         ceilings,
-        &mut costs[0..cost_cells],
-        &mut choices[0..choice_cells],
+        &mut costs[..needed.costs],
+        &mut choices[..needed.choices],
         total,
     );
     full_table::read_back(choices, slots, demand.len(), total);
@@ -80,9 +78,9 @@ pub fn work(
     let mut need_table = [0u16; 96];
     let mut rate_table = [0u32; 96];
     let mut ceiling_table = [0u16; 96];
-    let net = &mut need_table[0..n];
-    let rates = &mut rate_table[0..n];
-    let ceilings = &mut ceiling_table[0..n];
+    let net = &mut need_table[..n];
+    let rates = &mut rate_table[..n];
+    let ceilings = &mut ceiling_table[..n];
     net::fill(demand, holding, net, rates, ends);
     net::fill_ceilings(demand, store, ceilings, ends);
     fill_and_read(

@@ -1,56 +1,134 @@
--- What the loops over the queue, and the row's loop by it, keep, in plain variables.
+-- What the calls on the queue, and the row's loop by it, keep, in plain variables.
 -- Main statements: `outdone_found`, `entered`, `best_of_lem`, `found`, `filling_more`.
 -- Assumes nothing.
-use Rattle.std.proofs.Common.{◌≡◌, ap, ◌∙◌, List, ⊎_elim, ℕ, ◌+◌, ◌-◌, ◌≤◌, ◌<◌, eq-or-lt_of_le, lt_trans, arith, length, set, get_or-set_other}
+use Rattle.std.proofs.Common.{◌≡◌, sym, ◌∙◌, List, ⊎_elim, ℕ, ◌+◌, ◌-◌, ◌≤◌, ◌<◌, eq-or-lt_of_le, lt_trans, arith, length, set, length-set, get_or-set_other}
+use Rattle.std.proofs.Common.{add-zero, drop, slice_range, length-take, length-drop, get_or-take, get_or-drop}
 use Rattle.std.proofs.Math.Decide.{dec_lt}
 use Rattle.day.specs.Sums.{at}
 use Rattle.theory.specs.Basics.{pick}
 use Rattle.full_rows.specs.declared.Stage.{Stage}
 use Rattle.full_rows.specs.declared.Choice.{Choice}
-use Rattle.full_rows.specs.declared.Cell.{Cell}
-use Rattle.full_rows.specs.declared.Next.{Next}
-use Rattle.full_rows.specs.Row.{row_at, choice_of, best_of, cell_of, StageBounded, After, RowReady}
-use Rattle.full_rows.specs.Queue.{key_of, Entry, Queue, Window, CellFound, Trimmed, Dearer, Outdone}
-use Rattle.full_rows.specs.Queue.{QueueRoom, Entered, Queued}
-use Rattle.full_rows.specs.Moves.{queue_ext, queue_enter, queue_trim}
+use Rattle.full_rows.specs.Row.{choice_of, best_of, StageBounded, After}
+use Rattle.full_rows.specs.Queue.{key_of, Queue, Dearer, Window, Trimmed, Outdone}
+use Rattle.full_rows.specs.Candidates.{QueueFor, QueueRoom, Entered, Queued}
+use Rattle.full_rows.specs.declared.row.Row.{Row}
+use Rattle.full_rows.specs.declared.queue.Candidates.{Candidates}
+use Rattle.full_rows.specs.Moves.{queue_enter}
 use Rattle.full_rows.specs.Head.{best_either}
-use Rattle.full_rows.proofs.Laws.{Stepping, stepping_free, stepping_more}
+use Rattle.full_rows.proofs.Laws.{Stepping}
 
--- what leaves at the back, where Y enters
-module _ {s : Stage} {row : ℕ → ℕ} {cells : List ℕ} {Y head tail end : ℕ} where
-  module _ {limit k : ℕ} (o : Dearer s row cells Y head tail end) (l : head < end)
-      (f : limit ≡ key_of s row Y) (g : k ≡ key_of s row (at cells (end - 1))) where
-    pub outdone_found : Queue s row cells Y head tail → k < limit → Outdone s row cells Y head tail end
-    outdone_found q h =
-        record {
-          passed = o;
-          stays = λ i a b.
-              ⊎_elim
-              (λ (e : i ≡ end - 1). rw e (rw (f, g) at h))
-              (λ m. lt_trans (q.rising i (end - 1) a m (omega (arith, o.to))) (rw (f, g) at h))
-              (eq-or-lt_of_le (omega arith));
-        }
+-- the cells from head to tail
+pub record Part (cells : List ℕ) (head tail : ℕ) (part : List ℕ) : Type 0 where
+  pub is : part ≡ slice_range cells head tail
+  pub ordered : head ≤ tail
+  pub inside : tail ≤ length cells
 
--- how a total enters
-pub room_entry : {s : Stage} {cells : List ℕ} {X tail : ℕ} (Z : ℕ) → QueueRoom s cells tail X → X ≤ s.high → X < Z → Entry s Z X
-room_entry Z r h l = record { low = r.low; high = h; below = l }
+-- what holds of them by their own places
+module _ {cells part : List ℕ} {head tail : ℕ} (p : Part cells head tail part) where
+  part_length : length part ≡ tail - head
+  part_length = let e = p.is in let l = p.inside in rw (e, length-take, length-drop) (omega arith)
 
-module _ {s : Stage} {row : ℕ → ℕ} {cells : List ℕ} {X head tail : ℕ} where
-  pub entered : {r : ℕ} → Queue s row cells X head tail → QueueRoom s cells tail X → X ≤ s.high → Outdone s row cells X head tail r
-      → Entered s row cells X head tail (set cells r X) (r + 1)
-  entered {r} q m h o =
-      let p = o.passed in
+  part_at : (i : ℕ) → i < length part → at part i ≡ at cells (head + i)
+  part_at i h =
+      let e = p.is in
+      let l : i < tail - head = omega (arith, part_length) in
+      rw e (get_or-take (tail - head) (drop head cells) i 0 l ∙ get_or-drop head cells i 0)
+
+  part_back : (i : ℕ) → head ≤ i → i < tail → at cells i ≡ at part (i - head)
+  part_back i a b =
+      let q : head + (i - head) ≡ i = omega arith in
+      rw q at (sym (part_at (i - head) (omega (arith, part_length))))
+
+  pub queue_part : {s : Stage} {row : ℕ → ℕ} {X : ℕ} → Queue s row cells X head tail → Queue s row part X 0 (length part)
+  queue_part q =
       record {
-        queue = queue_enter q (room_entry (X + 1) m h (omega arith)) o (omega (arith, p.to, m.cell));
-        few = omega (arith, p.to);
-        kept = λ k l. get_or-set_other cells r k X 0 (λ e. omega (arith, p.from));
+        ordered = omega arith;
+        entries = λ i a b. let g = part_at i b in rw g (q.entries (head + i) (omega arith) (omega (arith, part_length)));
+        rising = λ i j a l b.
+            let g = part_at i (omega arith) in
+            let h = part_at j b in
+            rw (g, h) (q.rising (head + i) (head + j) (omega arith) (omega arith) (omega (arith, part_length)));
+        substitutes = λ Y c.
+            let w = q.substitutes Y c in
+            let g = part_back w.place w.from w.to in
+            record {
+              place = w.place - head;
+              from = omega arith;
+              to = omega (arith, part_length, w.from, w.to);
+              later = rw g at w.later;
+              cheap = rw g at w.cheap;
+            };
       }
 
--- the totals from `low` to X have entered, and those to `until` are to follow
-pub record Queuing (s : Stage) (row : ℕ → ℕ) (cells : List ℕ) (start until X : ℕ) (cells' : List ℕ) (tail : ℕ) : Type 0 where
-  pub queued : Queued s row cells start X cells' tail
-  pub same : length cells' ≡ length cells
-  pub begun : s.low ≤ X
+  pub outdone_part : {s : Stage} {row : ℕ → ℕ} {Y : ℕ} (r : ℕ) → Outdone s row part Y 0 (length part) r → Outdone s row cells Y head tail (head + r)
+  outdone_part r o =
+      record {
+        passed = record {
+          from = omega arith;
+          to = omega (arith, o.passed.to, part_length, p.ordered);
+          gone = λ i a b.
+              let g = part_back i (omega arith) b in
+              rw g (o.passed.gone (i - head) (omega arith) (omega (arith, part_length)));
+        };
+        stays = λ i a b. let g = part_back i a (omega (arith, o.passed.to, part_length, p.ordered)) in rw g (o.stays (i - head) (omega arith) (omega arith));
+      }
+
+  pub trimmed_part : {least : ℕ} (r : ℕ) → Trimmed part least 0 (length part) r → Trimmed cells least head tail (head + r)
+  trimmed_part r t =
+      record {
+        passed = record {
+          from = omega arith;
+          to = omega (arith, t.passed.to, part_length, p.ordered);
+          gone = λ i a b.
+              let g = part_back i b (omega (arith, t.passed.to, part_length, p.ordered)) in
+              rw g (t.passed.gone (i - head) (omega arith) (omega arith));
+        };
+        stays = λ l. let g = part_at r (omega (arith, part_length)) in rw g at (t.stays (omega (arith, part_length)));
+      }
+
+  -- the first of them is at the head
+  pub part_none : length part ≡ 0 → tail ≤ head
+  part_none e = omega (arith, part_length)
+
+  pub part_first : (x : ℕ) → 0 < length part → x ≡ at part 0 → (head < tail) × (x ≡ at cells head)
+  part_first x l e = (omega (arith, part_length), e ∙ rw add-zero at (part_at 0 l))
+
+-- the first from the back that is cheaper than Y stays, and so do those before it
+pub outdone_found : {s : Stage} {row : ℕ → ℕ} {cells : List ℕ} {Y head tail end limit k : ℕ} → Queue s row cells Y head tail
+    → Dearer s row cells Y head tail end → head < end → limit ≡ key_of s row Y → k ≡ key_of s row (at cells (end - 1)) → k < limit
+    → Outdone s row cells Y head tail (end - 1 + 1)
+outdone_found {s} {row} {cells} {Y} {head} {tail} {end} q o l f g h =
+    let e : end - 1 + 1 ≡ end = omega arith in
+    rw e
+    (record {
+      passed = o;
+      stays = λ i a b.
+          ⊎_elim
+          (λ (e : i ≡ end - 1). rw e (rw (f, g) at h))
+          (λ m. lt_trans (q.rising i (end - 1) a m (omega (arith, o.to))) (rw (f, g) at h))
+          (eq-or-lt_of_le (omega arith));
+    })
+
+-- how a total enters
+module _ {r : Row} {Y : ℕ} {q q' : Candidates} where
+  pub entered : {tail : ℕ} → QueueFor r Y q → QueueRoom r Y q → Y ≤ r.stage.high
+      → Outdone r.stage (at r.costs.now) q.cells.now Y q.head q.tail tail
+      → q'.head ≡ q.head → q'.cells.now ≡ set q.cells.now tail Y → q'.tail ≡ tail + 1 → Entered r Y q q'
+  entered {tail} f m h o e g t =
+      let p = o.passed in
+      record {
+        queue = rw (e, g, t) (queue_enter f (record { low = m.low; high = h; below = omega arith }) o (omega (arith, p.to, m.cell)));
+        few = omega (arith, p.to);
+        head = e;
+        kept = λ k l. rw g (get_or-set_other q.cells.now tail k Y 0 (λ e. omega (arith, p.from)));
+        size = rw g (length-set q.cells.now tail Y);
+      }
+
+-- the totals below X have entered, and those to `until` are to follow
+pub record Queuing (r : Row) (cells : List ℕ) (until X : ℕ) (q : Candidates) : Type 0 where
+  pub queued : Queued r X q
+  pub same : length q.cells.now ≡ length cells
+  pub begun : r.stage.low ≤ X
   pub inside : X ≤ until
 
 -- the cheaper of making nothing and the head's amount, which is what is chosen
@@ -60,43 +138,8 @@ module _ {s : Stage} {X : ℕ} where
       → r ≡ pick (dec_lt some.price none.price) some none → r ≡ best_of s row X
   best_of_lem b a w l h e f g = g ∙ rw (e, f) (best_either b a w l h)
 
--- one turn of the row's loop
-pub found : {s : Stage} {row : ℕ → ℕ} {cells : List ℕ} {X least head tail h : ℕ} {best : Choice} {cell : Cell} → Queue s row cells X head tail
-    → least ≡ X - s.capacity → Trimmed cells least head tail h → best ≡ best_of s row X → cell ≡ cell_of s best X
-    → CellFound s row cells X head tail (record { head = h; cell = cell })
-found {s} {row} {cells} {X} q e t b c =
-    record { from = t.passed.from; queue = (queue_trim q e t).queue; cell = c ∙ ap (λ (d : Choice). cell_of s d X) b }
-
--- the row's loop before it comes to the total X: the queue stands behind the row's choices
-pub record RowFilling (s : Stage) (costs : List ℕ) (from to : ℕ) (costs' choices : List ℕ) (base : ℕ) (choices' : List ℕ) (head tail X : ℕ) : Type 0 where
-  pub ready : RowReady s costs from to choices base
-  pub more : s.floor < s.top
-  pub stepping : Stepping s costs from to costs' choices base choices' X
-  pub queue : Queue s (row_at costs' from) choices' X head tail
-  pub behind : base + s.top < head
-  pub few : tail + s.low ≤ base + (s.top + 1) + X
-
-module _ {s : Stage} {costs : List ℕ} {from to : ℕ} {choices : List ℕ} {base : ℕ} where
-  module _ {costs' choices' : List ℕ} {head tail X : ℕ} (f : RowFilling s costs from to costs' choices base choices' head tail X) (l : X ≤ s.top) where
-    pub filling_more : {next : Next} {r : ℕ} {choices'' : List ℕ} → CellFound s (row_at costs' from) choices' X head tail next
-        → Entered s (row_at costs' from) choices' X next.head tail choices'' r → length choices'' ≡ length choices'
-        → let costs'' = set costs' (to + X) next.cell.cost in
-        RowFilling s costs from to costs'' choices base (set choices'' (base + X) next.cell.amount) next.head r (X + 1)
-    filling_more {next} {r} {choices''} t n e =
-        record {
-          ready = f.ready;
-          more = f.more;
-          stepping = stepping_more f.ready free l t.cell;
-          queue = queue_ext
-              (λ Y g. get_or-set_other costs' (to + X) (from + Y) next.cell.cost 0 (f.ready.apart Y X g l))
-              (λ i g. get_or-set_other choices'' (base + X) i next.cell.amount 0 (λ q. omega (arith, behind)))
-              n.queue;
-          behind = behind;
-          few = omega (arith, n.few, f.few);
-        }
-      where
-        behind : base + s.top < next.head
-        behind = omega (arith, f.behind, t.from)
-
-        free : Stepping s costs from to costs' choices base choices'' X
-        free = stepping_free f.ready f.stepping e (λ k g. n.kept k (omega (arith, behind)))
+-- the row's loop before it comes to the total X
+pub record RowFilling (r : Row) (after choices cells after' choices' : List ℕ) (q : Candidates) (X : ℕ) : Type 0 where
+  pub stepping : Stepping r.stage r.costs.now after choices after' choices' X
+  pub queued : Queued r X q
+  pub same : length q.cells.now ≡ length cells

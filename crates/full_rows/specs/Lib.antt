@@ -4,3 +4,4 @@ pub mod Laws
 pub mod Queue
 pub mod Moves
 pub mod Head
+pub mod Candidates

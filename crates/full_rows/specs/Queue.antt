@@ -3,11 +3,9 @@
 -- keys, which do not depend on X. The queue holds totals with rising keys and keeps, for each candidate, one that is no dearer and no earlier;
 -- so its head is the cheapest candidate, and of equals the last, which asks for the smallest amount.
 -- Main definitions: `Queue` and `Window`. Assumes nothing.
-use Rattle.std.specs.Prelude.{◌≡◌, List, ℕ, ◌+◌, ◌-◌, ◌*◌, ◌≤◌, ◌<◌, length}
+use Rattle.std.specs.Prelude.{List, ℕ, ◌+◌, ◌-◌, ◌*◌, ◌≤◌, ◌<◌}
 use Rattle.day.specs.Sums.{at}
 use Rattle.full_rows.specs.declared.Stage.{Stage}
-use Rattle.full_rows.specs.declared.Next.{Next}
-use Rattle.full_rows.specs.Row.{best_of, cell_of}
 
 -- what the total `top` would cost from Y, without the setup
 abbrev pub key_of : Stage → (ℕ → ℕ) → ℕ → ℕ
@@ -44,12 +42,6 @@ pub record Window (s : Stage) (row : ℕ → ℕ) (cells : List ℕ) (X head tai
   pub queue : Queue s row cells X head tail
   pub near : head < tail → X ≤ at cells head + s.capacity
 
--- what recursion (5) says of X, and where the queue begins once its head is a candidate
-pub record CellFound (s : Stage) (row : ℕ → ℕ) (cells : List ℕ) (X head tail : ℕ) (r : Next) : Type 0 where
-  pub from : head ≤ r.head
-  pub queue : Queue s row cells X r.head tail
-  pub cell : r.cell ≡ cell_of s (best_of s row X) X
-
 -- the cells from head to r lie below `least`
 pub record Dropped (cells : List ℕ) (least head tail r : ℕ) : Type 0 where
   pub from : head ≤ r
@@ -71,26 +63,3 @@ pub record Dearer (s : Stage) (row : ℕ → ℕ) (cells : List ℕ) (Y head tai
 pub record Outdone (s : Stage) (row : ℕ → ℕ) (cells : List ℕ) (Y head tail r : ℕ) : Type 0 where
   pub passed : Dearer s row cells Y head tail r
   pub stays : (i : ℕ) → head ≤ i → i < r → key_of s row (at cells i) < key_of s row Y
-
--- Y may enter, and the queue has a cell left
-pub record QueueRoom (s : Stage) (cells : List ℕ) (tail Y : ℕ) : Type 0 where
-  pub low : s.low ≤ Y
-  pub top : Y ≤ s.top
-  pub cell : tail < length cells
-
--- Y has entered, if it can be reached
-pub record Entered (s : Stage) (row : ℕ → ℕ) (cells : List ℕ) (Y head tail : ℕ) (cells' : List ℕ) (r : ℕ) : Type 0 where
-  pub queue : Queue s row cells' (Y + 1) head r
-  pub few : r ≤ tail + 1
-  pub kept : (k : ℕ) → k < head → at cells' k ≡ at cells k
-
--- there are cells from `start` on for each total that enters
-pub record Scratch (s : Stage) (cells : List ℕ) (start : ℕ) : Type 0 where
-  pub more : s.floor < s.top
-  pub room : start + (s.top + 1) ≤ length cells
-
--- the totals below X have entered
-pub record Queued (s : Stage) (row : ℕ → ℕ) (cells : List ℕ) (start X : ℕ) (cells' : List ℕ) (tail : ℕ) : Type 0 where
-  pub queue : Queue s row cells' X start tail
-  pub few : tail + s.low ≤ start + X
-  pub kept : (k : ℕ) → k < start → at cells' k ≡ at cells k

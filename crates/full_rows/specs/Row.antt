@@ -21,10 +21,6 @@ stage_in s = record {
   floor = s.floor;
 }
 
--- the row that begins at a cell of the cost area
-abbrev pub row_at : List ℕ → ℕ → ℕ → ℕ
-row_at costs from X = at costs (from + X)
-
 -- the most that a rate on units comes to, that making an amount costs, and that a total costs at the day's end
 abbrev pub max_product : ℕ
 max_product = max_rate * max_total
@@ -67,11 +63,11 @@ pub record StageBounded (s : Stage) : Type 0 where
   pub reached : s.top ≤ s.high + s.capacity
   pub total : s.top ≤ max_total
 
--- the row before it stands in the cost area, and no cell of it is too dear
-pub record Open (s : Stage) (costs : List ℕ) (from : ℕ) : Type 0 where
+-- the row before it reaches as far as the stage reads, and no cell of it is too dear
+pub record Open (s : Stage) (costs : List ℕ) : Type 0 where
   pub bounded : StageBounded s
-  pub inside : from + s.high < length costs
-  pub cheap : (Y : ℕ) → s.low ≤ Y → Y ≤ s.high → row_at costs from Y ≤ max_cost
+  pub inside : s.high < length costs
+  pub cheap : (Y : ℕ) → s.low ≤ Y → Y ≤ s.high → at costs Y ≤ max_cost
 
 -- X can be reached after the stage
 abbrev pub After : Stage → ℕ → Type 0
@@ -83,16 +79,14 @@ pub record LeadsTo (s : Stage) (X v : ℕ) : Type 0 where
   pub enough : X ≤ v + s.high
   pub under : X ≤ s.top
 
--- the rows before and after lie apart, each in its area; for more than one total there is a second row of choices to work in
-pub record RowReady (s : Stage) (costs : List ℕ) (from to : ℕ) (choices : List ℕ) (base : ℕ) : Type 0 where
-  pub opened : Open s costs from
-  pub cost_cells : to + s.top < length costs
-  pub choice_cells : base + s.top < length choices
-  pub scratch : s.floor < s.top → base + 2 * (s.top + 1) ≤ length choices
-  pub apart : (Y X : ℕ) → Y ≤ s.high → X ≤ s.top → from + Y ≡ to + X → ⊥
+-- there are cells for the row after and for its choices; for more than one total there is a second row of choices to work in
+pub record RowReady (s : Stage) (before after choices : List ℕ) : Type 0 where
+  pub opened : Open s before
+  pub cost_cells : s.top < length after
+  pub choice_cells : s.top < length choices
+  pub scratch : s.floor < s.top → 2 * (s.top + 1) ≤ length choices
 
--- The row after is what recursion (5) says of the row before; choices of earlier rows are kept, and those of later rows are free.
-pub record Stepped (s : Stage) (costs : List ℕ) (from to : ℕ) (costs' choices : List ℕ) (base : ℕ) (choices' : List ℕ) : Type 0 where
-  pub cost : (X : ℕ) → After s X → row_at costs' to X ≡ row_cost (stage_in s) (row_at costs from) X
-  pub amount : (X : ℕ) → After s X → at choices' (base + X) ≡ row_amount (stage_in s) (row_at costs from) X
-  pub kept : (k : ℕ) → k < base → at choices' k ≡ at choices k
+-- The row after is what recursion (5) says of the row before; choices past it are free.
+pub record Stepped (s : Stage) (before after' choices' : List ℕ) : Type 0 where
+  pub cost : (X : ℕ) → After s X → at after' X ≡ row_cost (stage_in s) (at before) X
+  pub amount : (X : ℕ) → After s X → at choices' X ≡ row_amount (stage_in s) (at before) X

@@ -6,6 +6,7 @@ ghost use Rattle.theory.specs.Problem.{problem_with};
 ghost use Rattle.full_table.specs.Table.{stage_at, Staged, Fillable, TableFilled, Traceable, plan_read};
 
 use full_rows::Stage;
+use std::mem;
 
 // A period as a stage, where the totals from `low` to `high` can be reached before it, and no more than its ceiling may be after it.
 fn stage_at(
@@ -24,7 +25,7 @@ fn stage_at(
         (problem_with demand.now capacity.now setup.now unit.now holding.now)
         ceilings.now i low high }
 {
-    let most = capacity[i] as usize;
+    let most = usize::from(capacity[i]);
     Stage {
         capacity: most,
         setup: setup[i],
@@ -32,8 +33,8 @@ fn stage_at(
         holding: holding[i],
         low,
         high,
-        floor: low + (demand[i] as usize),
-        top: full_rows::smaller(high + most, ceilings[i] as usize),
+        floor: low + usize::from(demand[i]),
+        top: usize::from(ceilings[i]).min(high + most),
     }
 }
 
@@ -57,23 +58,18 @@ pub fn fill(
         ceilings.now total choices.new }
 {
     let width = total + 1;
-    let mut from = 0;
-    let mut to = width;
-    let mut base = 0;
+    let (mut before, mut after) = costs.split_at_mut(width);
     let mut low = 0;
     let mut high = 0;
-    costs[0] = 0;
+    before[0] = 0;
     for i in 0..demand.len() {
-        let s = stage_at(
+        let stage = stage_at(
             demand, capacity, setup, unit, holding, ceilings, i, low, high,
         );
-        full_rows::step(s, costs, from, to, choices, base);
-        low = s.floor;
-        high = s.top;
-        let filled = to;
-        to = from;
-        from = filled;
-        base += width;
+        full_rows::step(stage, before, after, &mut choices[i * width..]);
+        low = stage.floor;
+        high = stage.top;
+        mem::swap(&mut before, &mut after);
     }
 }
 
@@ -83,14 +79,10 @@ pub fn read_back(choices: &[u16], slots: &mut [u16], n: usize, total: usize)
     ensures { slots.new ≡ plan_read choices.now n total ++ drop n slots.old }
 {
     let width = total + 1;
-    let mut base = n * width;
     let mut left = total;
-    let mut k = n;
-    while 0 < k {
-        k -= 1;
-        base -= width;
-        let amount = choices[base + left];
-        slots[k] = amount;
-        left -= amount as usize;
+    for i in (0..n).rev() {
+        let amount = choices[i * width + left];
+        slots[i] = amount;
+        left -= usize::from(amount);
     }
 }

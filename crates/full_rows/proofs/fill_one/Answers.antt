@@ -3,5 +3,5 @@ use Rattle.std.proofs.Common.{rules}
 use Rattle.full_rows.proofs.Laws.{best_small}
 use Rattle.full_rows.proofs.fill_one.Goals as goal
 
-pub cell_for-next-requires : goal.cell_for-next-requires
-cell_for-next-requires c = best_small c.requires.row_ready.opened (search rules) c.best_for.ensures
+pub cell-cell-requires : goal.cell-cell-requires
+cell-cell-requires c = best_small c.args.row.now.opened (search rules) c.best.ensures

@@ -1,9 +1,6 @@
--- The slots from k on hold the end of the plan.
+-- The slots from i on hold the end of the plan.
 use Rattle.full_table.proofs.Reading.{BackRead}
 use Rattle.full_table.proofs.read_back.Given as goal
 
-abbrev pub invariant-loop-k : goal.invariant-loop-k
-invariant-loop-k l = BackRead l.choices l.fn.slots l.n l.total l.slots l.base l.left l.k
-
-abbrev pub decreases-loop-k : goal.decreases-loop-k
-decreases-loop-k l = l.k
+abbrev pub invariant-loop-i : goal.invariant-loop-i
+invariant-loop-i l = BackRead l.choices l.fn.slots l.n l.total l.slots l.left l.i

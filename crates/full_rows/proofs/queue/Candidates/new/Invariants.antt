@@ -1,0 +1,6 @@
+-- The totals below this one have entered.
+use Rattle.full_rows.proofs.Queueing.{Queuing}
+use Rattle.full_rows.proofs.queue.Candidates.new.Given as goal
+
+abbrev pub invariant-loop-before : goal.invariant-loop-before
+invariant-loop-before l = Queuing l.row l.fn.cells l.before-end l.before l.queue
