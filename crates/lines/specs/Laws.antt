@@ -68,9 +68,7 @@ decimal_is n h =
     d.is ∙ ap (λ (k : ℕ). last_digits 10 k n) (sym (places_are n d.places d.count (few_digits n d.places d.count h)))
 
 -- the sum of the first i entries, as that of a part
-pub part_total : (l : List ℕ) (i r : ℕ) → i ≤ length l → r ≡ sum_to (at (take (i - 0) l)) (length (take (i - 0) l)) → r ≡ sum_to (at l) i
+pub part_total : (l : List ℕ) (i r : ℕ) → i ≤ length l → r ≡ sum_to (at (take i l)) (length (take i l)) → r ≡ sum_to (at l) i
 part_total l i r h is =
-    let e : i - 0 ≡ i = omega arith in
-    let size : length (take (i - 0) l) ≡ i = rw e (length-take-le i l h) in
-    is ∙ ap (sum_to (at (take (i - 0) l))) size
-    ∙ sum_ext (at (take (i - 0) l)) (at l) i (λ k b. get_or-take (i - 0) l k 0 (omega arith))
+    let size : length (take i l) ≡ i = length-take-le i l h in
+    is ∙ ap (sum_to (at (take i l))) size ∙ sum_ext (at (take i l)) (at l) i (λ k b. get_or-take i l k 0 b)

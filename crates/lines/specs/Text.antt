@@ -1,7 +1,6 @@
 -- The lines that `dayplan` prints (document 01, "Marked days") and those of `margins` (document 02, 2.11), as bytes.
 -- Main definitions: `plan_line`, `amount_line`, `refusal_line`; `played_line`, `margin_refusal_line`. Assumes nothing.
-use Rattle.std.specs.Prelude.{codes, List, [], ◌∷◌, ◌++◌, ℕ, suc, ◌+◌, ◌^◌, ◌≤◌, ltb, length}
-use Rattle.std.proofs.Math.Option.{Option, none, some}
+use Rattle.std.specs.Prelude.{codes, List, [], ◌∷◌, ◌++◌, ℕ, suc, ◌+◌, ◌^◌, ◌≤◌, ltb, length, Option, None, Some}
 use Rattle.std.specs.Borrow.{Bor}
 use Rattle.lines.specs.Digits.{last_digits}
 use Rattle.day.specs.declared.Refusal.{Refusal}
@@ -12,8 +11,8 @@ use Rattle.day.specs.Refusals.{number_of, period_of}
 
 -- one more than the first k with n below 10 ^ (k + 1): how many digits n takes; 20 hold every 64-bit number
 abbrev pub places_of : Option ℕ → ℕ
-places_of none = 20
-places_of (some k) = suc k
+places_of None = 20
+places_of (Some k) = suc k
 
 abbrev pub places : ℕ → ℕ
 places n = places_of (find (λ k. ltb n (10 ^ suc k)) 20)

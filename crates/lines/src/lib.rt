@@ -1,15 +1,15 @@
 //! Lines of text, each a string with room for the longest of its kind.
 #![tactic(auto)]
 
-ghost use Rattle.std.specs.Prelude.{◌≡◌, ◌+◌, ◌≤◌, [], ◌++◌, length};
+ghost use Rattle.std.specs.Prelude.{◌≡◌, ◌+◌, ◌≤◌, ◌++◌, length};
 ghost use Rattle.day.specs.Sums.{at};
-ghost use Rattle.day.specs.Day.{day_of};
+ghost use Rattle.day.specs.Lent.{lent_day};
 ghost use Rattle.day.specs.Plan.{inventory as left};
 ghost use Rattle.lines.specs.Text.{labelled, line_of, labels, line_room, text_bytes, plan_line, amount_line, refusal_line, played_line, margin_refusal_line};
 ghost use Rattle.lines.specs.Text.{HavePeriods};
 
 use arrayvec::ArrayString;
-use day::{Ends, Refusal};
+use day::{Day, Refusal};
 use itoa::Buffer;
 
 /// A line of a plan.
@@ -53,20 +53,20 @@ pub fn plan_line(n: u64, cost: u64, setups: u64) -> Line
 }
 
 // The inventory left after the first i periods.
-fn inventory(demand: &[u16], plan: &[u16], i: usize, ends: Ends) -> u64
-    requires { HavePeriods demand.now plan.now i }
-    ensures { result ≡ left (day_of demand.now [] [] [] [] [] ends) (at plan.now) i }
+fn inventory(day: Day, plan: &[u16], i: usize) -> u64
+    requires { HavePeriods day.demand.now plan.now i }
+    ensures { result ≡ left (lent_day day.entry) (at plan.now) i }
 {
-    let there = checks::summed(&plan[0..i]) + u64::from(ends.opening);
-    there.saturating_sub(checks::summed(&demand[0..i]))
+    let there = checks::summed(&plan[..i]) + u64::from(day.ends.opening);
+    there.saturating_sub(checks::summed(&day.demand[..i]))
 }
 
 // The period at index i of a plan: its amount, and the inventory left after it.
-pub fn amount_line(demand: &[u16], plan: &[u16], i: usize, ends: Ends) -> Line
-    requires { HavePeriods demand.now plan.now (i + 1) }
-    ensures { result.bytes ≡ amount_line (day_of demand.now [] [] [] [] [] ends) (at plan.now) i }
+pub fn amount_line(day: Day, plan: &[u16], i: usize) -> Line
+    requires { HavePeriods day.demand.now plan.now (i + 1) }
+    ensures { result.bytes ≡ amount_line (lent_day day.entry) (at plan.now) i }
 {
-    let left = inventory(demand, plan, i + 1, ends);
+    let left = inventory(day, plan, i + 1);
     let made = u64::from(plan[i]);
     line(&[("", (i + 1) as u64), (" made ", made), (" left ", left)])
 }

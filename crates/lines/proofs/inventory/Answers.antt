@@ -7,5 +7,5 @@ pub returns : goal.returns
 returns c =
     let a = c.args in
     let there = part_total a.plan.now a.i _ c.requires.planned c.summed.ensures.is in
-    let needed = part_total a.demand.now a.i _ c.requires.demanded c.summed-2.ensures.is in
+    let needed = part_total a.day.demand.now a.i _ c.requires.demanded c.summed-2.ensures.is in
     omega (arith, there, needed)
