@@ -14,8 +14,7 @@ use Rattle.std.proofs.lemmas.List.{map-id}
 use denote.Param.Members.{Mut}
 use denote.Ref.{Bor}
 use Rattle.day.specs.Sums.{below}
-use Rattle.theory.specs.Greedy.{Source, passed_over, no_cheaper, now_cheapest}
-use Rattle.greedy.specs.Search.{Found}
+use Rattle.theory.specs.Greedy.{Source, Sources, passed_over, no_cheaper, now_cheapest}
 
 -- the one of lesser key, the first of equals
 abbrev lesser : (key : ℕ → ℕ) → ℕ → ℕ → ℕ
@@ -86,19 +85,19 @@ module _ (key capacity x : ℕ → ℕ) where
       go false e on = on b (rw (add-one d) (passed_over key capacity x d b (ltb-false (x d) (capacity d) e) s))
 
   -- where none of the first d has capacity left, the same
-  from_none : (n d : ℕ) → ((j : ℕ) → j < d → capacity j ≤ x j) → Found key capacity x (d + n) (least key (with_room d n))
+  from_none : (n d : ℕ) → ((j : ℕ) → j < d → capacity j ≤ x j) → Sources key capacity x (d + n) (least key (with_room d n))
   from_none zero d full = rw (add-zero d) full
   from_none (suc n) d full =
       let e : d + suc n ≡ d + 1 + n = omega arith in
       rw e (go (ltb (x d) (capacity d)) refl (from_none n (d + 1)))
     where
       go : (t : Bool) → ltb (x d) (capacity d) ≡ t
-          → (((j : ℕ) → j < d + 1 → capacity j ≤ x j) → Found key capacity x (d + 1 + n) (least key (with_room (d + 1) n)))
-          → Found key capacity x (d + 1 + n) (least key (cond t (d ∷ with_room (d + 1) n) (with_room (d + 1) n)))
+          → (((j : ℕ) → j < d + 1 → capacity j ≤ x j) → Sources key capacity x (d + 1 + n) (least key (with_room (d + 1) n)))
+          → Sources key capacity x (d + 1 + n) (least key (cond t (d ∷ with_room (d + 1) n) (with_room (d + 1) n)))
       go true e on =
           onward n (d + 1) d
           (rw (add-one d) (now_cheapest key capacity x d (ltb-true (x d) (capacity d) e) (λ i l w. absurd (omega (arith, full i l)))))
       go false e on = on (rw (add-one d) (below (λ (i : ℕ). capacity i ≤ x i) d full (ltb-false (x d) (capacity d) e)))
 
-  pub chosen : (d : ℕ) → Found key capacity x d (least key (with_room 0 d))
+  pub chosen : (d : ℕ) → Sources key capacity x d (least key (with_room 0 d))
   chosen d = let e : 0 + d ≡ d = omega arith in rw e at (from_none d 0 (λ j l. absurd (omega arith)))

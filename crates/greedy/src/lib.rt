@@ -5,9 +5,9 @@
 ghost use Rattle.std.specs.Prelude.{◌≡◌, ◌≤◌, length};
 ghost use Rattle.day.specs.Sums.{at};
 ghost use Rattle.day.specs.Day.{max_periods};
-ghost use Rattle.theory.specs.Greedy.{serve, greedy_to};
+ghost use Rattle.theory.specs.Greedy.{Sources, serve, greedy_to};
 ghost use Rattle.greedy.specs.Keys.{Keyed};
-ghost use Rattle.greedy.specs.Search.{Found, Told};
+ghost use Rattle.greedy.specs.Search.{Told};
 
 // What a unit made in a period costs: to make it, and to hold it from then on. The cells past the periods keep their contents.
 pub fn keys(unit: &[u32], holding: &[u32], cells: &mut [u64])
@@ -24,7 +24,7 @@ pub fn keys(unit: &[u32], holding: &[u32], cells: &mut [u64])
 // The best of the first d periods: it has capacity left and the least key, of equal keys the earliest.
 fn source(keys: &[u64], capacity: &[u16], slots: &[u16], d: usize) -> Option<usize>
     requires { (d ≤ length keys.now) × (d ≤ length capacity.now) × (d ≤ length slots.now) }
-    ensures { Found (at keys.now) (at capacity.now) (at slots.now) d result }
+    ensures { Sources (at keys.now) (at capacity.now) (at slots.now) d result }
 {
     (0..d)
         .filter(|&k| slots[k] < capacity[k])

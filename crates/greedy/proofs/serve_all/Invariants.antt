@@ -1,9 +1,8 @@
 -- The needs of the first k periods are served.
-use Rattle.std.proofs.Common.{◌≡◌}
-use Rattle.std.proofs.Math.Option.{some}
+use Rattle.std.proofs.Common.{◌≡◌, Some}
 use Rattle.day.specs.Sums.{at}
 use Rattle.theory.specs.Greedy.{greedy_to}
 use Rattle.greedy.proofs.serve_all.Given as goal
 
 abbrev pub invariant-loop-k : goal.invariant-loop-k
-invariant-loop-k l = greedy_to (at l.keys) (at l.capacity) (at l.need) l.k l.fn.slots ≡ some l.slots
+invariant-loop-k l = greedy_to (at l.keys) (at l.capacity) (at l.need) l.k l.fn.slots ≡ Some l.slots
