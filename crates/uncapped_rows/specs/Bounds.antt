@@ -4,12 +4,17 @@
 use Rattle.std.specs.Prelude.{◌≡◌, List, ℕ, ◌+◌, ◌*◌, ◌≤◌, ◌<◌, length, replicate}
 use Rattle.day.specs.Sums.{at}
 use Rattle.day.specs.Day.{max_periods, max_capacity, max_setup, max_rate, max_total}
+use Rattle.theory.specs.declared.Problem.{Problem as LentProblem}
 use Rattle.theory.specs.Problem.{Problem, problem_with}
 use Rattle.uncapped_rows.specs.declared.Holding.{Holding}
 
 -- what these loops run on: they read no capacity, so every period has the largest there is, which is above all demand
 abbrev pub uncapacitated : (demand setup unit holding : List ℕ) → Problem
 uncapacitated demand setup unit holding = problem_with demand (replicate (length demand) max_capacity) setup unit holding
+
+-- and of a lent problem
+abbrev pub lent_uncapacitated : LentProblem → Problem
+lent_uncapacitated l = uncapacitated l.demand.now l.setup.now l.unit.now l.holding.now
 
 -- the most that a lot costs to make, and to hold through one period
 abbrev pub max_making : ℕ

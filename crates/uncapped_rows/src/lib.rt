@@ -5,9 +5,11 @@
 ghost use Rattle.std.specs.Prelude.{◌≡◌, ◌+◌, ◌*◌, ◌^◌, ◌≤◌, ◌<◌, min, length};
 ghost use Rattle.day.specs.Sums.{at, Term};
 ghost use Rattle.day.specs.Day.{max_rate};
-ghost use Rattle.uncapped_rows.specs.Bounds.{uncapacitated, LotFits, SumFits, Rates};
+ghost use Rattle.uncapped_rows.specs.Bounds.{lent_uncapacitated, LotFits, SumFits, Rates};
 ghost use Rattle.uncapped_rows.specs.Rows.{better, lot_cost, held_through, carried_of, CheapestOf, NextRowReady, RestReady, LastLotOf};
 ghost use Rattle.uncapped_rows.specs.Rows.{RowsReady, FillReady, RowsWritten};
+
+use theory::Problem;
 
 // A row's cost, and how many periods come before its last lot.
 #[derive(Clone, Copy)]
@@ -38,12 +40,12 @@ fn cheaper(best: LastLot, l: usize, price: u64) -> LastLot
 }
 
 // What it costs to come to l and to make the lot of candidate l.
-fn lot_cost(setup: &[u32], unit: &[u32], costs: &[u64], l: usize, made: u64) -> u64
-    requires l_in_bounds { (l < length setup.now) × (l < length unit.now) }
+fn lot_cost(p: Problem, costs: &[u64], l: usize, made: u64) -> u64
+    requires l_in_bounds { (l < length p.setup.now) × (l < length p.unit.now) }
     requires lot_fits { LotFits costs.now l made }
-    ensures { Term (lot_cost setup.now unit.now (at costs.now) l made) (2 ^ 58) result }
+    ensures { Term (lot_cost p.entry.setup.now p.entry.unit.now (at costs.now) l made) (2 ^ 58) result }
 {
-    costs[l] + terms::making_cost(setup[l], unit[l], made)
+    costs[l] + terms::making_cost(p.setup[l], p.unit[l], made)
 }
 
 // What it costs at least to come to l and to have all that is needed from there on carried in from before.
@@ -67,22 +69,13 @@ fn hold(s: Holding, demand: u16, holding: u32) -> Holding
 
 // The rest of the search for row m + 1, once its last candidate is tried. A dropped candidate leaves the upkeep where it is summed to, and the
 // next one carries on from there. The row is left where the least that any earlier candidate can cost passes the best.
-fn cheapest(
-    demand: &[u16],
-    setup: &[u32],
-    unit: &[u32],
-    holding: &[u32],
-    carried: &[u32],
-    costs: &[u64],
-    m: usize,
-    last: LastLot,
-) -> LastLot
-    requires { RestReady (uncapacitated demand.now setup.now unit.now holding.now) carried.now costs.now m last }
-    ensures { CheapestOf (uncapacitated demand.now setup.now unit.now holding.now)
+fn cheapest(p: Problem, carried: &[u32], costs: &[u64], m: usize, last: LastLot) -> LastLot
+    requires { RestReady (lent_uncapacitated p) carried.now costs.now m last }
+    ensures { CheapestOf (lent_uncapacitated p.entry)
         (at costs.now) m 0 result }
 {
     let mut best = last;
-    let mut made = demand[m] as u64;
+    let mut made = p.demand[m] as u64;
     let mut i = m;
     let mut s = Holding {
         left: made,
@@ -92,14 +85,14 @@ fn cheapest(
         if best.cost < carried_cost(carried, costs, l + 1, made) + s.held {
             return best;
         }
-        made += demand[l] as u64;
-        let paid = lot_cost(setup, unit, costs, l, made);
+        made += p.demand[l] as u64;
+        let paid = lot_cost(p, costs, l, made);
         // its upkeep: strictly above the best it is dropped, and one that only equals the best is carried on
         for k in (l..i).rev() {
             if best.cost < paid + s.held {
                 continue 'candidates;
             }
-            s = hold(s, demand[k], holding[k]);
+            s = hold(s, p.demand[k], p.holding[k]);
             i = k;
         }
         best = cheaper(best, l, paid + s.held);
@@ -108,28 +101,20 @@ fn cheapest(
 }
 
 // Row m + 1. Where no more is demanded, it is row m: its last candidate makes nothing.
-fn row(
-    demand: &[u16],
-    setup: &[u32],
-    unit: &[u32],
-    holding: &[u32],
-    carried: &[u32],
-    costs: &[u64],
-    m: usize,
-) -> LastLot
-    requires { NextRowReady (uncapacitated demand.now setup.now unit.now holding.now) carried.now costs.now m }
-    ensures { LastLotOf (uncapacitated demand.now setup.now unit.now holding.now)
+fn row(p: Problem, carried: &[u32], costs: &[u64], m: usize) -> LastLot
+    requires { NextRowReady (lent_uncapacitated p) carried.now costs.now m }
+    ensures { LastLotOf (lent_uncapacitated p.entry)
         (at costs.now) m result }
 {
-    let made = demand[m] as u64;
+    let made = p.demand[m] as u64;
     let last = LastLot {
-        cost: lot_cost(setup, unit, costs, m, made),
+        cost: lot_cost(p, costs, m, made),
         from: m,
     };
     if made == 0 {
         return last;
     }
-    cheapest(demand, setup, unit, holding, carried, costs, m, last)
+    cheapest(p, carried, costs, m, last)
 }
 
 // For every period what a unit costs at least that is carried into it. Into the first none is: the limit of a unit cost stands there, so that
@@ -147,42 +132,27 @@ fn fill_carried(unit: &[u32], holding: &[u32], carried: &mut [u32])
 }
 
 // Every row, from the first on, whose cost is 0: cell m of the areas holds row m.
-fn fill_rows(
-    demand: &[u16],
-    setup: &[u32],
-    unit: &[u32],
-    holding: &[u32],
-    carried: &[u32],
-    costs: &mut [u64],
-    choices: &mut [u16],
-)
-    requires { RowsReady (uncapacitated demand.now setup.now unit.now holding.now) carried.now costs.old choices.old }
-    ensures { RowsWritten (uncapacitated demand.now setup.now unit.now holding.now)
+fn fill_rows(p: Problem, carried: &[u32], costs: &mut [u64], choices: &mut [u16])
+    requires { RowsReady (lent_uncapacitated p) carried.now costs.old choices.old }
+    ensures { RowsWritten (lent_uncapacitated p.entry)
         costs.old choices.old costs.new choices.new }
 {
     costs[0] = 0;
-    for m in 0..demand.len() {
-        let next = row(demand, setup, unit, holding, carried, costs, m);
+    for m in 0..p.demand.len() {
+        let next = row(p, carried, costs, m);
         costs[m + 1] = next.cost;
         choices[m + 1] = next.from as u16;
     }
 }
 
 // The rows, with what is carried into every period in a table of their own.
-pub fn fill(
-    demand: &[u16],
-    setup: &[u32],
-    unit: &[u32],
-    holding: &[u32],
-    costs: &mut [u64],
-    choices: &mut [u16],
-)
-    requires { FillReady (uncapacitated demand.now setup.now unit.now holding.now) costs.old choices.old }
-    ensures { RowsWritten (uncapacitated demand.now setup.now unit.now holding.now)
+pub fn fill(p: Problem, costs: &mut [u64], choices: &mut [u16])
+    requires { FillReady (lent_uncapacitated p) costs.old choices.old }
+    ensures { RowsWritten (lent_uncapacitated p.entry)
         costs.old choices.old costs.new choices.new }
 {
     let mut carried_table = [0u32; 96];
-    let carried = &mut carried_table[..unit.len()];
-    fill_carried(unit, holding, carried);
-    fill_rows(demand, setup, unit, holding, carried, costs, choices);
+    let carried = &mut carried_table[..p.unit.len()];
+    fill_carried(p.unit, p.holding, carried);
+    fill_rows(p, carried, costs, choices);
 }
