@@ -1,6 +1,6 @@
 -- A loop that looks for the first period in which a test holds: what it knows, a turn, what it answers there and at its end.
 -- Assumes nothing.
-use Rattle.std.specs.Prelude.{◌≡◌, refl, Bool, true, false, ℕ, ◌+◌, ◌≤◌, ◌<◌, None, Some, Result, Ok, Err}
+use Rattle.std.specs.Prelude.{◌≡◌, refl, Bool, true, false, ℕ, ◌+◌, ◌≤◌, ◌<◌, None, Some, Ok, Err}
 use Rattle.std.proofs.Common.{add-one, arith}
 use Rattle.day.specs.declared.Refusal.{Refusal}
 use Rattle.day.specs.Find.{find, find_none, find_here}

@@ -54,10 +54,7 @@ pub fn lengths(day: Day) -> Result<(), Refusal>
 fn above(p: Entries) -> bool
     ensures { result ≡ above p }
 {
-    MAX_DEMAND < p.demand
-        || MAX_SETUP < p.setup
-        || MAX_RATE < p.unit
-        || MAX_HALF_RATE < p.holding
+    MAX_DEMAND < p.demand || MAX_SETUP < p.setup || MAX_RATE < p.unit || MAX_HALF_RATE < p.holding
 }
 
 // 3, for at most 96 periods in tables of one length: the first period with a value above its limit

@@ -3,14 +3,13 @@
 -- Main definitions: `net_need`, `rate_of`, `problem_of`, `Fits`. Main statements: `floor_is`, `total_is`, the net needs sum to what must have been
 -- made; `bounded`, a day within the limits gives what the loops rely on; `problem_is`, the two tables as they are filled in are the problem's.
 -- Assumes nothing.
-use Rattle.std.specs.Prelude.{◌≡◌, List, [], ℕ, zero, suc, ◌+◌, ◌-◌, ◌≤◌, ◌<◌, length, take, replicate}
+use Rattle.std.specs.Prelude.{◌≡◌, List, ℕ, zero, suc, ◌+◌, ◌-◌, ◌≤◌, ◌<◌, length, take, replicate}
 use Rattle.std.proofs.Common.{sym, ap, ap₂, ◌∙◌, arith, length-take-le}
 use Rattle.std.proofs.Math.Decide.{dec_lt}
 use Rattle.std.proofs.lemmas.List.{length-replicate}
 use Rattle.std.proofs.Math.ListN.{get_or-eq_default}
-use Rattle.day.specs.declared.Ends.{Ends}
 use Rattle.day.specs.Sums.{at, sum_to, sum_ext, list_of, at-list_of, length-list_of}
-use Rattle.day.specs.Day.{Day, day_of, ends_of, periods, demand_to, capacity_to, required, total, net_to, net_before, net_end}
+use Rattle.day.specs.Day.{Day, periods, demand_to, capacity_to, required, total, net_to, net_before, net_end}
 use Rattle.day.specs.Day.{max_periods, max_capacity, max_half_rate, max_total}
 use Rattle.checks.specs.Passed.{DayLimits}
 use Rattle.theory.specs.Problem.{Problem, problem_with, Bounded, Supplied}

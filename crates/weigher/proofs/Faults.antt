@@ -1,5 +1,5 @@
 -- What an answer is where a refusal or a broken rule became its fault, and what it then keeps. Assumes nothing.
-use Rattle.std.specs.Prelude.{Option, None, Some, Result, Ok, Err, IsErrAnd}
+use Rattle.std.specs.Prelude.{None, Result, Ok, Err, IsErrAnd}
 use Rattle.std.proofs.Common.{◌≡◌, List, [], ◌∷◌, ℕ, ◌^◌, ◌<◌, ltb, length, sym, ap, ◌∙◌, ltb-false}
 use Rattle.day.specs.declared.Refusal.{Refusal}
 use Rattle.day.specs.declared.Refusal.TheVariants.{FewSlots}

@@ -9,7 +9,7 @@ use Rattle.day.specs.Sums.{at}
 use Rattle.day.specs.Day.{Day, periods, max_total}
 use Rattle.day.specs.Refusals.{Gives, first, day_tests, bad_slots}
 use Rattle.day.specs.Tests.{gives_is, is_gives}
-use Rattle.day.specs.Figures.{Figures, accepted_with, refused_with, figures_by, plan_values}
+use Rattle.day.specs.Figures.{Figures, refused_with, figures_by, plan_values}
 use Rattle.weigher.specs.declared.Breach.{Breach}
 use Rattle.weigher.specs.declared.Fault.{Fault}
 use Rattle.weigher.specs.declared.Fault.TheVariants.{Refused, Broken}

@@ -1,5 +1,4 @@
 -- The rates from i on are filled in.
-use Rattle.std.proofs.Common.{length, ◌-◌}
 use Rattle.net.proofs.Rates.{Filling}
 use Rattle.net.proofs.fill_rates.Given as goal
 

@@ -1,5 +1,5 @@
 -- A capacity that is below what remains is the first that binds.
-use Rattle.std.proofs.Common.{[], ◌-◌, arith}
+use Rattle.std.proofs.Common.{◌-◌, arith}
 use borrow.Author.Tests.{lt-ltb}
 use Rattle.day.specs.declared.Refusal.TheVariants.{BindingCapacity}
 use Rattle.day.specs.Sums.{at}

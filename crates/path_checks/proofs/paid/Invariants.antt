@@ -1,5 +1,4 @@
 -- No setup passed costs anything.
-use Rattle.std.proofs.Common.{[], length, ◌-◌}
 use Rattle.day.specs.Day.{periods}
 use Rattle.day.specs.Lent.{lent_day}
 use Rattle.day.specs.Refusals.{paid}

@@ -1,5 +1,5 @@
 -- A period that A alone makes short, or what must have been made, is the first that is.
-use Rattle.std.proofs.Common.{◌≡◌, refl, true, [], ℕ, suc, ◌+◌, ◌≤◌, ◌<◌, add-one, arith}
+use Rattle.std.proofs.Common.{◌≡◌, refl, true, ℕ, suc, ◌+◌, ◌≤◌, ◌<◌, add-one, arith}
 use borrow.Author.Tests.{lt-ltb, le-ltb}
 use Rattle.day.specs.declared.Refusal.TheVariants.{Shortage}
 use Rattle.day.specs.Sums.{at}

@@ -1,5 +1,5 @@
 -- R of the periods passed, none of which is short, and the most that can have been made in them.
-use Rattle.std.proofs.Common.{[], length, ◌-◌, ◌*◌}
+use Rattle.std.proofs.Common.{◌*◌}
 use Rattle.day.specs.Sums.{Term, at, sum_to}
 use Rattle.day.specs.Day.{periods, max_capacity}
 use Rattle.day.specs.Lent.{lent_day}

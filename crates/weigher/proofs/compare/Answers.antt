@@ -1,5 +1,5 @@
 -- The tests give the first refusal, that of the first plan before that of the second; plans that pass them are walked.
-use Rattle.std.specs.Prelude.{None, Ok, Err}
+use Rattle.std.specs.Prelude.{None}
 use Rattle.std.proofs.Common.{◌≡◌, refl, sym, ap, subst, ℤ, ◌∙◌, w64, rules}
 use Rattle.std.proofs.lemmas.Int.{to_z-of_z}
 use Rattle.day.specs.Sums.{at}
@@ -44,8 +44,7 @@ returns-in_err-second c =
     let d = lent_day c.args.day in
     let tested = (goal.at.returns-in_err-second c).In_ok-tests-2 in
     subst (Compares d c.args.plan.now c.args.other.now)
-    (sym (from_broken c.from_residual-in_err-second.result _ c.from_residual-in_err-second.ensures.1))
-    (
+    (sym (from_broken c.from_residual-in_err-second.result _ c.from_residual-in_err-second.ensures.1)) (
       rw (first_passes tested, second_passes tested) refl,
       rw (walked d (at c.args.plan.now) c.walk.ensures c.in_ok-first.was, walked d (at c.args.other.now) c.walk-2.ensures c.in_err-second.was) refl,
     )
@@ -54,8 +53,7 @@ pub difference-requires : goal.difference-requires
 difference-requires c =
     let d = lent_day c.args.day in
     let tested = (goal.at.difference-requires c).In_ok-tests-2 in
-    let tables = c.args.day.widths in
-    (
+    let tables = c.args.day.widths in (
       signed d c.args.plan.now (record { tables = tables; amount = c.type_inv.plan }) (first_passes tested)
           (walked d (at c.args.plan.now) c.walk.ensures c.in_ok-first.was),
       signed d c.args.other.now (record { tables = tables; amount = c.type_inv.other }) (second_passes tested)
@@ -65,8 +63,7 @@ difference-requires c =
 pub returns : goal.returns
 returns c =
     let d = lent_day c.args.day in
-    let tested = (goal.at.returns c).In_ok-tests-2 in
-    (
+    let tested = (goal.at.returns c).In_ok-tests-2 in (
       rw (first_passes tested, second_passes tested) refl,
       rw (walked d (at c.args.plan.now) c.walk.ensures c.in_ok-first.was, walked d (at c.args.other.now) c.walk-2.ensures c.in_ok-second.was)
           (ap (λ (v : ℤ). accepted_with (compared_values v)) (to_z-of_z w64 c.difference.result (search rules) ∙ c.difference.ensures)),

@@ -1,5 +1,4 @@
 -- The tests give the first refusal; a plan that passes them is walked.
-use Rattle.std.specs.Prelude.{Ok, Err}
 use Rattle.std.proofs.Common.{refl, sym, subst}
 use Rattle.day.specs.Sums.{at}
 use Rattle.day.specs.Lent.{lent_day}
