@@ -2,70 +2,43 @@
 #![tactic(auto)]
 
 ghost use Rattle.std.specs.Prelude.{◌≡◌, ◌++◌, drop};
-ghost use Rattle.theory.specs.Problem.{problem_with};
+ghost use Rattle.theory.specs.Problem.{lent_problem};
 ghost use Rattle.full_table.specs.Table.{stage_at, Staged, Fillable, TableFilled, Traceable, plan_read};
 
 use full_rows::Stage;
 use std::mem;
+use theory::Problem;
 
 // A period as a stage, where the totals from `low` to `high` can be reached before it, and no more than its ceiling may be after it.
-fn stage_at(
-    demand: &[u16],
-    capacity: &[u16],
-    setup: &[u32],
-    unit: &[u32],
-    holding: &[u32],
-    ceilings: &[u16],
-    i: usize,
-    low: usize,
-    high: usize,
-) -> Stage
-    requires { Staged (problem_with demand.now capacity.now setup.now unit.now holding.now) ceilings.now i low high }
-    ensures { result ≡ stage_at
-        (problem_with demand.now capacity.now setup.now unit.now holding.now)
-        ceilings.now i low high }
+fn stage_at(p: Problem, ceilings: &[u16], i: usize, low: usize, high: usize) -> Stage
+    requires { Staged (lent_problem p) ceilings.now i low high }
+    ensures { result ≡ stage_at (lent_problem p.entry) ceilings.now i low high }
 {
-    let most = usize::from(capacity[i]);
+    let capacity = usize::from(p.capacity[i]);
     Stage {
-        capacity: most,
-        setup: setup[i],
-        unit: unit[i],
-        holding: holding[i],
+        capacity,
+        setup: p.setup[i],
+        unit: p.unit[i],
+        holding: p.holding[i],
         low,
         high,
-        floor: low + usize::from(demand[i]),
-        top: usize::from(ceilings[i]).min(high + most),
+        floor: low + usize::from(p.demand[i]),
+        top: usize::from(ceilings[i]).min(high + capacity),
     }
 }
 
 // Fills the rows of choices, for the totals that can be reached under the ceilings. Two rows of costs take turns. Free: all costs, and the other choices.
-pub fn fill(
-    demand: &[u16],
-    capacity: &[u16],
-    setup: &[u32],
-    unit: &[u32],
-    holding: &[u32],
-    ceilings: &[u16],
-    costs: &mut [u64],
-    choices: &mut [u16],
-    total: usize,
-)
-    requires { Fillable
-        (problem_with demand.now capacity.now setup.now unit.now holding.now)
-        ceilings.now costs.old choices.old total }
-    ensures { TableFilled
-        (problem_with demand.now capacity.now setup.now unit.now holding.now)
-        ceilings.now total choices.new }
+pub fn fill(p: Problem, ceilings: &[u16], costs: &mut [u64], choices: &mut [u16], total: usize)
+    requires { Fillable (lent_problem p) ceilings.now costs.old choices.old total }
+    ensures { TableFilled (lent_problem p.entry) ceilings.now total choices.new }
 {
     let width = total + 1;
     let (mut before, mut after) = costs.split_at_mut(width);
     let mut low = 0;
     let mut high = 0;
     before[0] = 0;
-    for i in 0..demand.len() {
-        let stage = stage_at(
-            demand, capacity, setup, unit, holding, ceilings, i, low, high,
-        );
+    for i in 0..p.demand.len() {
+        let stage = stage_at(p, ceilings, i, low, high);
         full_rows::step(stage, before, after, &mut choices[i * width..]);
         low = stage.floor;
         high = stage.top;

@@ -1,12 +1,15 @@
 -- A refusal of the tests is the answer, and a day that passes them is one for the work.
 use Rattle.std.proofs.Common.{refl}
+use Rattle.std.proofs.lemmas.Result.{err_from_is_err_and}
 use Rattle.day.specs.Paths.{full}
 use Rattle.day.specs.Tests.{is_gives, passed, refused}
 use Rattle.checks.specs.Passed.{admitted}
 use Rattle.full.proofs.plan.Goals as goal
 
-pub returns-in-Refused : goal.returns-in-Refused
-returns-in-Refused c = (is_gives (refused _ c.path.ensures c.in-Refused.is), refl)
+pub returns-in_err-path : goal.returns-in_err-path
+returns-in_err-path c =
+    let p = err_from_is_err_and c.from_residual.result c.from_residual.ensures.1 in
+    rw (p.1, p.2) (is_gives (refused _ c.path.ensures c.in_err-path.was), refl)
 
 pub work-requires : goal.work-requires
-work-requires c = admitted full _ _ (passed _ c.path.ensures c.in_default.is)
+work-requires c = admitted full _ _ (passed _ c.path.ensures c.in_ok-path.was)

@@ -1,8 +1,8 @@
 -- The rows of the periods passed are filled, and the last of them is the row before.
-use Rattle.theory.specs.Problem.{problem_with}
+use Rattle.theory.specs.Problem.{lent_problem}
 use Rattle.full_table.proofs.Filling.{TableFilling}
 use Rattle.full_table.proofs.fill.Given as goal
 
 abbrev pub invariant-loop-i : goal.invariant-loop-i
 invariant-loop-i l =
-    TableFilling (problem_with l.demand l.capacity l.setup l.unit l.holding) l.ceilings l.total l.before l.after l.choices l.low l.high l.i
+    TableFilling (lent_problem l.p) l.ceilings l.total l.before l.after l.choices l.low l.high l.i
