@@ -2,9 +2,8 @@
 //! before its last lot. A candidate for the last lot is dropped as soon as its summed cost passes the best found (document 02, 2.13).
 #![tactic(auto)]
 
-ghost use Rattle.std.specs.Prelude.{◌≡◌, ◌+◌, ◌*◌, ◌^◌, ◌≤◌, ◌<◌, min, length};
+ghost use Rattle.std.specs.Prelude.{◌≡◌, ◌+◌, ◌*◌, ◌^◌, ◌<◌, length};
 ghost use Rattle.day.specs.Sums.{at, Term};
-ghost use Rattle.day.specs.Day.{max_rate};
 ghost use Rattle.uncapped_rows.specs.Bounds.{lent_uncapacitated, LotFits, SumFits, Rates};
 ghost use Rattle.uncapped_rows.specs.Rows.{better, lot_cost, held_through, carried_of, CheapestOf, NextRowReady, RestReady, LastLotOf};
 ghost use Rattle.uncapped_rows.specs.Rows.{RowsReady, FillReady, RowsWritten};
