@@ -50,6 +50,10 @@ ends_of d = ends_with d.opening d.closing
 abbrev pub with_demand : List ℕ → Day → Day
 with_demand needs d = day_of needs d.capacity d.setup d.unit d.holding d.store (ends_of d)
 
+-- and with other start costs
+abbrev pub with_setup : List ℕ → Day → Day
+with_setup setup d = day_of d.demand d.capacity setup d.unit d.holding d.store (ends_of d)
+
 -- each table of the day has an entry at index i
 pub record HasPeriod (d : Day) (i : ℕ) : Type 0 where
   pub demand : i < length d.demand

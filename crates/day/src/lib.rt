@@ -4,7 +4,7 @@
 mod lent;
 
 ghost use Rattle.std.specs.Prelude.{◌≡◌};
-ghost use Rattle.day.specs.Day.{periods, entries_at, with_demand, HasPeriod};
+ghost use Rattle.day.specs.Day.{periods, entries_at, with_demand, with_setup, HasPeriod};
 ghost use Rattle.day.specs.Lent.{lent_day, day_before};
 ghost use Rattle.day.specs.Refusals.{number_of, period_of};
 
@@ -151,6 +151,21 @@ impl<'a> Day<'a> {
             needs,
             self.capacity,
             self.setup,
+            self.unit,
+            self.holding,
+            self.store,
+            self.ends,
+        )
+    }
+
+    // The day with other start costs.
+    pub fn with_setup(self, setup: &'a [u32]) -> Day<'a>
+        ensures { lent_day result ≡ with_setup setup.entry.now (lent_day self.entry) }
+    {
+        Day::new(
+            self.demand,
+            self.capacity,
+            setup,
             self.unit,
             self.holding,
             self.store,
