@@ -1,4 +1,4 @@
--- What a caller of the tests learns. Main statements, in the documents' order of the tests:
+-- What a caller of the tests learns. Main statements, in the order of the tests:
 --     tables-passed, day-passed             1, 2, 3: what `Limits` says of the tables; 4, 14
 --     area-passed                           5
 --     shortage-passed, shortage-found       7: what must have been made is at most what can have been; the first period in which it is not

@@ -1,4 +1,4 @@
-//! The documents' tests on lent tables and the ends of a day, by their numbers: each alone, and in the order in which calls apply them.
+//! The tests on lent tables and the ends of a day, by their numbers: each alone, and in the order in which calls apply them.
 //! Every function answers what the conditions say that it cites from the crate day. What a caller learns from an answer is in specs/.
 #![tactic(auto)]
 
@@ -11,7 +11,7 @@ ghost use Rattle.checks.specs.Passed.{Readable};
 
 use day::{Day, Ends, Entries, Refusal};
 
-// the documents' limits; upkeep is paid for half a period (2.2)
+// the limits; upkeep is paid for half a period
 const MAX_PERIODS: usize = 96;
 
 const MAX_DEMAND: u16 = 4096;

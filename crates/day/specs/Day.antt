@@ -1,5 +1,4 @@
--- A day: its six tables and its two ends, its limits, and the sums R, C and T (document 01, "The day and its plan"; document 02, 2.1, 2.2, 2.5;
--- report, section 2).
+-- A day: its six tables and its two ends, its limits, and the sums R, C and T (report, section 2).
 -- Assumes nothing.
 use Rattle.std.specs.Prelude.{◌≡◌, refl, Bool, true, false, cond, List, ℕ, ◌+◌, ◌-◌, ◌*◌, ◌≤◌, ◌<◌, eqb, length}
 use Rattle.std.proofs.Common.{arith, eq-eqb, ne_eqb}
@@ -7,8 +6,8 @@ use Rattle.day.specs.declared.Ends.{Ends}
 use Rattle.day.specs.declared.Entries.{Entries}
 use Rattle.day.specs.Sums.{at, sum_to}
 
--- One entry a period. In the documents' words: need r, capacity c, start cost b, unit cost p, upkeep h, store limit s (document 02, 2.5).
--- Then the inventory that the day begins with, and that which it hands on: opening charge A, closing charge Z (document 02, 2.1).
+-- One entry a period. In the operators' words: need r, capacity c, start cost b, unit cost p, upkeep h, store limit s.
+-- Then the inventory that the day begins with, and that which it hands on: opening charge A, closing charge Z.
 pub record Day : Type 0 where
   pub demand : List ℕ
   pub capacity : List ℕ
@@ -78,8 +77,7 @@ entries_at d i = record {
 abbrev pub periods : Day → ℕ
 periods d = length d.demand
 
--- the most that the documents allow: n, r, c, b, p; h, which is paid for half a period (document 02, 2.2); R + Z over the day, and over a big
--- day (document 02, 2.10).
+-- the most that is allowed: n, r, c, b, p; h, which is paid for half a period; R + Z over the day, and over a big day.
 -- A and Z are numbers of 16 bits, and so is s, whose highest value is above any R + Z that is allowed: it limits nothing.
 abbrev pub max_periods : ℕ
 max_periods = 96

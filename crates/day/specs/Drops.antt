@@ -1,4 +1,4 @@
--- Big days, best so far (document 02, 2.10): trials by the rule of 2.3 with starts taken as free, each of which forbids one period more.
+-- Big days, best so far: trials by the greedy rule with starts taken as free, each of which forbids one period more.
 -- Index k is period k + 1. A mark says of a period whether it is forbidden: 0 where it is allowed.
 -- Main definitions: `Ruled`, what a trial plans; `next`, which period the next trial forbids; `TriedIn`, what so many trials lead to;
 -- `Dropping`, the contract of the call. Assumes nothing.
@@ -36,7 +36,7 @@ allowed marks d = list_of (allowed_in marks d) (periods d)
 abbrev pub trial_day : (marks : List ℕ) → Day → Day
 trial_day marks d = starts_free (allowed marks d) d
 
--- what the rule of 2.3 gives: amounts for all periods, by which it has served all that is to be made, or nothing, where no amounts are such
+-- what the rule gives: amounts for all periods, by which it has served all that is to be made, or nothing, where no amounts are such
 abbrev pub Ruled : Day → Option (List ℕ) → Type 0
 Ruled d None = (x : ℕ → ℕ) → ServedTo d (total d) x → ⊥
 Ruled d (Some plan) = (length plan ≡ periods d) × ServedTo d (total d) (at plan)

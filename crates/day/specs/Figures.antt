@@ -1,4 +1,4 @@
--- An answer in the documents' figures: the number and the period of what it refuses, and the values that it gives.
+-- An answer in figures: the number and the period of what it refuses, and the values that it gives.
 -- Each answer's figures are defined in its own crate; those of answers that this crate declares here, and the promise of a call that answers with its tests.
 -- Main definitions: `Figures`, `answer_figures`, `equal_figures`, `bounds_figures`, `big_figures`, `Checks`; main statements: `same_values`, `checks_is`,
 -- `is_checks`. Assumes nothing.

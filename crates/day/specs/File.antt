@@ -1,4 +1,4 @@
--- The day file (document 01, "Day file"; document 02, 2.1, 2.5, 2.12): its layout, the day that it holds and whom that is for, the one file of such a
+-- The day file: its layout, the day that it holds and whom that is for, the one file of such a
 -- day, and conditions 10 to 13 and 20.
 -- A record is one byte of kind and a body whose length the kind fixes; numbers are unsigned, most significant byte first:
 --     kind 1  a period (16 bytes)
@@ -74,7 +74,7 @@ both_zero opening closing = eqb opening 0 && eqb closing 0
 abbrev pub is_charges : List ℕ → ℕ → Bool
 is_charges s p = is_record charge_kind s p && not (both_zero (number2 (body s p) 0) (number2 (body s p) 2))
 
--- a file with a stamp (document 02: the pair): a whole record of it stands first
+-- a file with a stamp (operators say: the pair): a whole record of it stands first
 abbrev pub is_stamped : List ℕ → Bool
 is_stamped s = is_record stamp_kind s 0
 

@@ -1,4 +1,4 @@
--- The rule by which document 02, 2.3, plans a day without setup cost (report, section 4): every watt-hour in turn, as cheaply as possible.
+-- The rule by which a day without setup cost is planned (report, section 4): every watt-hour in turn, as cheaply as possible.
 -- Main definition: `ServedTo`. Assumes nothing.
 use Rattle.std.specs.Prelude.{◌≡◌, ◌≢◌, ℕ, zero, suc, ◌+◌, ◌≤◌, ◌<◌, ℤ, pos, ◌-ℤ◌, ◌≤ℤ◌}
 use Rattle.day.specs.Sums.{at, sum_to}

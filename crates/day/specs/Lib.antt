@@ -2,7 +2,7 @@
 -- Tables: entries, sums, the first period that passes a test.
 pub mod Sums
 pub mod Find
--- The problem: a day, its plans, what they cost, which one is wanted (report, section 2; documents 01 and 02); the rule of document 02, 2.3
+-- The problem: a day, its plans, what they cost, which one is wanted (report, section 2); the greedy rule
 -- (report, section 4).
 pub mod Day
 pub mod Plan

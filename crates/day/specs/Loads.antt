@@ -1,5 +1,4 @@
--- How a plan loads the cell, and the contract of the equal path, whose answer counts it (document 02, 2.6, in place of document 01's "at most one
--- part-loaded period").
+-- How a plan loads the cell, and the contract of the equal path, whose answer counts the loads of its runs.
 -- Main definitions: `Run`, `RunLoads`, `loads_through`, `EqualRuns`; `m11_loads` shows them on M11. Assumes nothing.
 use Rattle.std.specs.Prelude.{◌≡◌, refl, Bool, true, false, ◌&&◌, [], ◌∷◌, ◌⊎◌, ◌≢◌, ℕ, ◌+◌, ◌-◌, ◌/◌, ◌%◌, ◌≤◌, ◌<◌, eqb, ltb, Result, Ok, Err}
 use Rattle.std.proofs.Common.{arith, lt-ltb, le-ltb, eq-eqb, ne_eqb}

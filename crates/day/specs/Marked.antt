@@ -1,5 +1,5 @@
--- The marked days of document 01, as document 02, 2.2 has them, and its tie row: the table, and the theorem that each row's outcome is what the
--- meaning and the contracts' refusals say (demands 2 and 3).
+-- The marked days and their tie row: the table, and the theorem that each row's outcome is what the
+-- meaning and the contracts' refusals say.
 -- Main statement: `marked_right`, in proofs/Marked. Assumes nothing.
 use Rattle.std.specs.Prelude.{◌≡◌, List, [], ◌∷◌, ℕ, ltb, length, replicate, Option, None, Some}
 use Rattle.day.specs.declared.Refusal.{Refusal}
@@ -30,7 +30,7 @@ pub record MarkedRow : Type 0 where
 abbrev row : (demand capacity : List ℕ) (b p h : ℕ) → List Claim → MarkedRow
 row demand capacity b p h claims = record { demand = demand; capacity = capacity; setup = b; unit = p; holding = h; claims = claims }
 
--- M1 to M12, and the row of 2.2 in which two plans cost the same
+-- M1 to M12, and the row in which two plans cost the same
 abbrev pub marked : List MarkedRow
 marked =
     row (0 ∷ []) (0 ∷ []) 5 1 1 (planned (0 ∷ []) 0 0 ∷ [])

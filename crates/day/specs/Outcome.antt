@@ -1,6 +1,5 @@
--- What a caller lends to a path, what the path needs of it and refuses, and what it leaves in it (document 01, "Three paths, one plan";
--- document 02, 2.3).
--- Main definitions: `refusal`; `Runs`, the contract of every path that gives the plan of the day (demands 1 to 3). Assumes nothing.
+-- What a caller lends to a path, what the path needs of it and refuses, and what it leaves in it.
+-- Main definitions: `refusal`; `Runs`, the contract of every path that gives the plan of the day. Assumes nothing.
 use Rattle.std.specs.Prelude.{◌≡◌, List, [], ◌∷◌, ◌++◌, ℕ, ◌≤◌, length, drop, replicate, Option, None, Result, Ok, Err}
 use Rattle.std.proofs.Common.{◌∙◌, le-ltb}
 use Rattle.day.specs.declared.Refusal.{Refusal}

@@ -1,4 +1,4 @@
--- The paths (document 01, "Three paths, one plan"; document 02, 2.3, 2.5, 2.10): the most that R + Z may be, the cells that each needs, and the tests
+-- The paths: the most that R + Z may be, the cells that each needs, and the tests
 -- that it alone applies.
 -- Main definition: `path_of`. Assumes nothing.
 use Rattle.std.specs.Prelude.{[], ◌∷◌, ◌+◌, ◌*◌}
@@ -12,7 +12,7 @@ use Rattle.day.specs.Outcome.{Path}
 abbrev pub full : Path
 full = record { limit = max_total; cost_cells = λ n T. 2 * (T + 1); choice_cells = λ n T. n * (T + 1); own = λ d. [] }
 
--- Wagner and Whitin, for days whose capacities can't bind; like the next two, for stores that can't bind either (document 02, 2.5)
+-- Wagner and Whitin, for days whose capacities can't bind; like the next two, for stores that can't bind either
 abbrev pub uncapped : Path
 uncapped = record { limit = max_total; cost_cells = λ n T. n + 1; choice_cells = λ n T. n + 1; own = λ d. binding d ∷ low_store d ∷ [] }
 
@@ -25,11 +25,11 @@ equal = record {
   own = λ d. unequal d ∷ low_store d ∷ [];
 }
 
--- the greedy rule of the report's section 4, for days without setup cost (document 02, 2.3)
+-- the greedy rule of the report's section 4, for days without setup cost
 abbrev pub free : Path
 free = record { limit = max_total; cost_cells = λ n T. n; choice_cells = λ n T. 0; own = λ d. paid_setup d ∷ low_store d ∷ [] }
 
--- trials by the greedy rule, for big days, whose plan is the best so far and not the plan of the day (document 02, 2.10)
+-- trials by the greedy rule, for big days, whose plan is the best so far and not the plan of the day
 abbrev pub big : Path
 big = record { limit = max_big_total; cost_cells = λ n T. 3 * n; choice_cells = λ n T. 0; own = λ d. low_store d ∷ [] }
 

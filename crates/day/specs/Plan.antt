@@ -1,5 +1,5 @@
 -- Plans of a day: the conditions that they keep, what they cost, how two of equal cost are told apart, and the plan wanted.
--- After the report, section 2, with the charge at both ends of document 02, 2.1, the upkeep of 2.2 and the store limit of 2.5.
+-- After the report, section 2, with charge at both ends, upkeep on a period's mean charge, and store limits.
 -- A plan is a function from periods to amounts; only its values in the day's periods count.
 -- Main definitions: `KeepsTo`, `Feasible`, `Optimal`. Assumes nothing.
 use Rattle.std.specs.Prelude.{◌≡◌, ℕ, zero, suc, ◌+◌, ◌-◌, ◌*◌, ◌≤◌, ◌<◌}
@@ -39,7 +39,7 @@ pub record KeepsTo (d : Day) (i : ℕ) (x : ℕ → ℕ) : Type 0 where
   pub ends : i ≡ periods d → d.opening + sum_to x i ≡ required d
   -- (4): no amount is above its period's capacity
   pub within : (k : ℕ) → k < i → x k ≤ at d.capacity k
-  -- document 02, 2.5: the charge left after a period is not above its store limit; that before period 1 has none
+  -- the charge left after a period is not above its store limit; that before period 1 has none
   pub stored : (k : ℕ) → k < i → inventory d x (suc k) ≤ at d.store k
 
 -- a plan keeps them through all periods of the day
@@ -51,7 +51,7 @@ abbrev pub setup_at : ℕ → ℕ
 setup_at zero = 0
 setup_at (suc x) = 1
 
--- in how many of the first n periods something is made (document 01: starts)
+-- in how many of the first n periods something is made (operators say: starts)
 abbrev pub setups : ℕ → (ℕ → ℕ) → ℕ
 setups n x = sum_to (λ k. setup_at (x k)) n
 
@@ -65,7 +65,7 @@ pub record Precedes (costs : (ℕ → ℕ) → ℕ) (n : ℕ) (x y : ℕ → ℕ
   pub cheap : costs x ≤ costs y
   pub small : costs x ≡ costs y → Smaller n x y
 
--- the plan of the day: it keeps the conditions, and precedes every plan that does (demand 3)
+-- the plan of the day: it keeps the conditions, and precedes every plan that does
 pub record Optimal (d : Day) (x : ℕ → ℕ) : Type 0 where
   pub feasible : Feasible d x
   pub first : (y : ℕ → ℕ) → Feasible d y → Precedes (cost d) (periods d) x y

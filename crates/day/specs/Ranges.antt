@@ -1,4 +1,4 @@
--- Easier days, and needs known as ranges (document 02, 2.9): a lowest and a highest need for each period.
+-- Easier days, and needs known as ranges: a lowest and a highest need for each period.
 -- The day that a call reads has the highest needs; the lowest are a table of their own.
 -- Main definitions: `Easier`, `LeastCost`, `Between`; `Bounding`, the contract of the call. Assumes nothing.
 use Rattle.std.specs.Prelude.{◌≡◌, List, [], ◌∷◌, ◌++◌, ℕ, ◌≤◌, ◌<◌, length, Option, None, Result, Ok, Err}

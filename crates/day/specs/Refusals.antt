@@ -1,4 +1,4 @@
--- What is refused, and when: document 01's conditions 1 to 9 and document 02's 14 to 19, each as a definition, and the number and period of each refusal.
+-- What is refused, and when: conditions 1 to 9 and 14 to 19, each as a definition, and the number and period of each refusal.
 -- A call's first refusal in order is `first` of a list of these; laws of such lists are in `Tests`. Conditions 10 to 13 and 20 are in `File`.
 -- Assumes nothing.
 use Rattle.std.specs.Prelude.{◌≡◌, Bool, true, false, not, ◌||◌, List, [], ◌∷◌, ◌++◌, ℕ, suc, ◌+◌, ◌-◌, ◌<◌, eqb, ltb, length, Option, None, Some, Result, Ok, Err}
@@ -14,7 +14,7 @@ use Rattle.day.specs.Day.{Day, periods, max_periods, max_demand, max_capacity, m
 use Rattle.day.specs.Day.{entries_at, with_demand, demand_to, required, total, net_to}
 use Rattle.day.specs.Plan.{KeepsTo}
 
--- the documents' number of a refusal
+-- the number of a refusal (docs/station.md)
 abbrev pub number_of : Refusal → ℕ
 number_of PeriodCount = 1
 number_of TableLength = 2
@@ -79,7 +79,7 @@ abbrev pub first : List (Option Refusal) → Option Refusal
 first [] = None
 first (o ∷ rest) = or_next o (first rest)
 
--- r is given where o is a call's first refusal in order: it has the documents' number and period of that one, which fix it (`gives_is`)
+-- r is given where o is a call's first refusal in order: it has the number and period of that one, which fix it (`gives_is`)
 pub record Gives (o : Option Refusal) (r : Refusal) : Type 0 where
   pub first : Refusal
   pub is : o ≡ Some first
@@ -122,7 +122,7 @@ above_limit d k = above (entries_at d k)
 abbrev pub bad_value : Day → Option Refusal
 bad_value d = refuse_at AboveLimit (find (above_limit d) (periods d))
 
--- 4: R + Z above the call's limit: `max_total`, or `max_big_total` (document 02, 2.10)
+-- 4: R + Z above the call's limit: `max_total`, or `max_big_total`
 abbrev pub bad_total : (limit : ℕ) → Day → Option Refusal
 bad_total limit d = refuse (ltb limit (required d)) TotalDemand
 
@@ -196,7 +196,7 @@ tight d k = ltb (at d.store k) (required d)
 abbrev pub low_store : Day → Option Refusal
 low_store d = refuse_at LowStore (find (tight d) (periods d))
 
--- 2 and 3 where a call reads a second table of needs (document 02, 2.9, 2.11): it too is as long as the demand table, and a value of either day counts
+-- 2 and 3 where a call reads a second table of needs: it too is as long as the demand table, and a value of either day counts
 abbrev pub bad_second : List ℕ → Day → Option Refusal
 bad_second needs d = refuse (not (eqb (length needs) (periods d))) TableLength
 

@@ -11,7 +11,7 @@ ghost use Rattle.day.specs.Refusals.{number_of, period_of};
 pub use lent::Day;
 
 // Why a call is refused, with the period that it names, where it names one.
-// `number_of` and `period_of` give the documents' number and period.
+// `number_of` and `period_of` give its number and period (docs/station.md).
 #[derive(Clone, Copy)]
 pub enum Refusal {
     PeriodCount,
@@ -92,7 +92,7 @@ impl Refusal {
     }
 }
 
-// The paths (document 01, "Three paths, one plan"; document 02, 2.3, 2.10); `path_of` gives what each needs and tests.
+// The paths; `path_of` gives what each needs and tests.
 #[derive(Clone, Copy)]
 pub enum PathKind {
     Full,
@@ -102,7 +102,7 @@ pub enum PathKind {
     Big,
 }
 
-// The inventory at both ends of a day (document 02: opening charge A, closing charge Z).
+// The inventory at both ends of a day (operators say: opening charge A, closing charge Z).
 #[derive(Clone, Copy)]
 pub struct Ends {
     pub opening: u16,
@@ -204,35 +204,35 @@ pub struct Sizes {
     pub slots: usize,
 }
 
-// The station and the day that a file is for, in days since 1 January 2000 (document 02, 2.12: the pair).
+// The station and the day that a file is for, in days since 1 January 2000 (operators say: the pair).
 #[derive(Clone, Copy)]
 pub struct Stamp {
     pub station: u16,
     pub date: u16,
 }
 
-// A plan's cost and its setups (document 01: starts).
+// A plan's cost and its setups (operators say: starts).
 #[derive(Clone, Copy)]
 pub struct Totals {
     pub cost: u64,
     pub setups: u64,
 }
 
-// How many periods of a plan are full-load periods, and how many are part-loaded (document 02, 2.6).
+// How many periods of a plan are full-load periods, and how many are part-loaded.
 #[derive(Clone, Copy)]
 pub struct Loads {
     pub full: u64,
     pub part: u64,
 }
 
-// The least cost of a day with its lowest needs, and with its highest (document 02, 2.9).
+// The least cost of a day with its lowest needs, and with its highest.
 #[derive(Clone, Copy)]
 pub struct Bounds {
     pub lowest: u64,
     pub highest: u64,
 }
 
-// How many trials a big day took, and how far its cost lies above the least with all starts free (document 02, 2.10).
+// How many trials a big day took, and how far its cost lies above the least with all starts free.
 #[derive(Clone, Copy)]
 pub struct Trials {
     pub used: u64,

@@ -1,4 +1,4 @@
-//! The tests of the paths: 5, 6, 7 and each path's own, and all of them in order, by the documents' numbers.
+//! The tests of the paths: 5, 6, 7 and each path's own, and all of them in order, by their numbers.
 #![tactic(auto)]
 
 ghost use Rattle.std.specs.Prelude.{◌≡◌, [], ◌∷◌, ◌≤◌, length};

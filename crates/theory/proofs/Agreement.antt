@@ -1,5 +1,5 @@
 -- Any two paths agree on a day of both their kinds: the short paths give what the full path gives.
--- Main statements, demand 3: `uncapped_agrees`, `equal_agrees`, `free_agrees`. Assumes nothing.
+-- Main statements: `uncapped_agrees`, `equal_agrees`, `free_agrees`. Assumes nothing.
 use Rattle.std.proofs.lemmas.Option.{none-some, same_Some}
 use Rattle.std.specs.Prelude.{◌≡◌, refl, ℕ, ◌<◌, Option, None, Some, Result, Ok, Err}
 use Rattle.std.proofs.Common.{sym, ap, ap₂, ◌∙◌}
@@ -53,18 +53,18 @@ paths_agree P Q d m m' r after q after' limit room room' kind kind' a b =
         (same, same_totals d (at after.slots) (at after'.slots) t u same a.1.counts b.1.counts)
 
 module _ (d : Day) (m m' after : Memory) (q : Result Totals Refusal) (after' : Memory) (room' : Roomy full d (sizes_of m')) (b : Runs full d m' q after') where
-  -- Of a day whose stores can't bind (document 02, 2.5).
-  -- Demand 3: where capacities can't either, the uncapped path accepts exactly when the full path does, with the same plan, cost and setups.
+  -- Of a day whose stores can't bind.
+  -- Where capacities can't either, the uncapped path accepts exactly when the full path does, with the same plan, cost and setups.
   pub uncapped_agrees : (r : Result Totals Refusal) → Roomy uncapped d (sizes_of m) → binding d ≡ None → low_store d ≡ None
       → Runs uncapped d m r after → Agree d r after q after'
   uncapped_agrees r room kind loose a = paths_agree uncapped full d m m' r after q after' refl room room' (rw (kind, loose) refl) refl a b
 
-  -- Demand 3: and so does the equal path where capacities are equal; the full path counts no loads.
+  -- And so does the equal path where capacities are equal; the full path counts no loads.
   pub equal_agrees : (r : Result (Totals × Loads) Refusal) → Roomy equal d (sizes_of m) → unequal d ≡ None → low_store d ≡ None
       → EqualRuns d m r after → Agree d (path_answer r) after q after'
   equal_agrees r room kind loose a = paths_agree equal full d m m' (path_answer r) after q after' refl room room' (rw (kind, loose) refl) refl a.runs b
 
-  -- Demand 3, by document 02, 2.3: and so does the free path where setups cost nothing.
+  -- And so does the free path where setups cost nothing.
   pub free_agrees : (r : Result Totals Refusal) → Roomy free d (sizes_of m) → paid_setup d ≡ None → low_store d ≡ None
       → Runs free d m r after → Agree d r after q after'
   free_agrees r room kind loose a = paths_agree free full d m m' r after q after' refl room room' (rw (kind, loose) refl) refl a b

@@ -1,6 +1,6 @@
--- Demands 2 and 3 of the paths themselves, over their contracts.
--- Main statements: `planned_iff`, `refused_first` (demand 2), `cheapest_first` (demand 3), which stand for the full path as `full_planned_iff`,
--- `full_refused_first`, `full_cheapest_first`; `free_in_turn_ends`, `free_in_turn` (document 02, 2.3: the rule).
+-- What a path's answer says of the day and its plan, over the contracts of the paths.
+-- Main statements: `planned_iff`, `refused_first`, `cheapest_first`, which stand for the full path as `full_planned_iff`,
+-- `full_refused_first`, `full_cheapest_first`; `free_in_turn_ends`, `free_in_turn`, of the greedy rule.
 -- Assumes nothing.
 use Rattle.std.proofs.lemmas.Option.{none-some}
 use Rattle.std.specs.Prelude.{◌≡◌, refl, [], ◌∷◌, ◌↔◌, ℕ, ◌<◌, None, Result, Ok, Err}
@@ -34,13 +34,13 @@ module _ (P : Path) (d : Day) (m : Memory) (limits : DayLimits P.limit d) (room 
       roomy_refusal P d (sizes_of m) room kind
       ∙ (first_passed (day_tests P.limit d) (shortage d ∷ []) (day_passes d limits) ∙ first_one (shortage d))
 
-  -- Demand 2: the answer is a plan exactly if some amounts keep the conditions.
+  -- The answer is a plan exactly if some amounts keep the conditions.
   pub planned_iff : (r : Result Totals Refusal) (after : Memory) → Runs P d m r after → IsPlan r ↔ ((x : ℕ → ℕ) × Feasible d x)
   planned_iff (Err q) after runs =
       (λ empty. absurd empty, λ w. none-some q (sym ((shortage_iff d (limits_fit limits)).1 w) ∙ (sym only_shortage ∙ gives_is runs.0)))
   planned_iff (Ok t) after runs = (λ _. (at after.slots, runs.1.plan.feasible), λ _. tt)
 
-  -- Demand 2: otherwise it is refusal 7 with the first period for which no amounts up to it keep the conditions through it.
+  -- Otherwise it is refusal 7 with the first period for which no amounts up to it keep the conditions through it.
   pub refused_first : (q : Refusal) (after : Memory) → Runs P d m (Err q) after → FirstShort d q
   refused_first q after runs = shortage_names d (limits_fit limits) q (sym only_shortage ∙ gives_is runs.0)
 
@@ -64,7 +64,7 @@ pub full_cheapest_first : (d : Day) (m : Memory) (t : Totals) (after : Memory) �
     → CheapestFirst d (at after.slots) t.cost
 full_cheapest_first = cheapest_first full
 
--- Document 02, 2.3: an accepted day of the free path has no setup cost, and stores that can't bind;
+-- An accepted day of the free path has no setup cost, and stores that can't bind;
 module _ (d : Day) (m : Memory) (t : Totals) (after : Memory) (runs : Runs free d m (Ok t) after) where
   ok : Admitted free d (sizes_of m)
   ok = admitted free d (sizes_of m) runs.0
@@ -75,7 +75,7 @@ module _ (d : Day) (m : Memory) (t : Totals) (after : Memory) (runs : Runs free 
   open_day : Loose d
   open_day = limits_loose (paid_setup d) ok.day ok.own
 
-  -- the document's rule, watt-hour by watt-hour, comes to its end on it,
+  -- the greedy rule, watt-hour by watt-hour, comes to its end on it,
   pub free_in_turn_ends : (x : ℕ → ℕ) × ServedTo d (total d) x
   free_in_turn_ends = in_turn_serves d open_day unpaid (at after.slots) runs.1.plan.feasible
 

@@ -1,6 +1,6 @@
--- What demands 2 and 3 say of a day and its plan, beyond the contract of any one call.
--- Main statements: `plan_uses`, `feasible_iff`, `shortage_iff`, `shortage_names` (demand 2), on days whose stores can't bind `loose_feasible_iff`,
--- `loose_names`; `optimal_exists`, `plan_unique` (demand 3).
+-- What holds of a day and its plan, beyond the contract of any one call.
+-- Main statements: `plan_uses`, `feasible_iff`, `shortage_iff`, `shortage_names`, on days whose stores can't bind `loose_feasible_iff`,
+-- `loose_names`; `optimal_exists`, `plan_unique`.
 -- Assumes nothing.
 use Rattle.std.specs.Prelude.{◌≡◌, refl, ◌↔◌, ℕ, suc, ◌+◌, ◌≤◌, ◌<◌, None, Some}
 use Rattle.std.proofs.Common.{ap, arith, le-ltb}
@@ -21,11 +21,11 @@ use Rattle.theory.proofs.Store.{keeps_iff, passes_loose}
 use Rattle.theory.proofs.Base.{store_feasible, store_plan}
 use Rattle.theory.specs.Demands.{FirstAbove}
 
--- Demand 3: the plan is one.
+-- The plan is one.
 pub plan_unique : (d : Day) (x y : ℕ → ℕ) → Optimal d x → Optimal d y → (k : ℕ) → k < periods d → x k ≡ y k
 plan_unique d x y o q = precedes_anti (cost d) (periods d) x y (o.first y q.feasible) (q.first x o.feasible)
 
--- Demand 2: refusal 14 is given to no day that has a plan, which uses A up.
+-- Refusal 14 is given to no day that has a plan, which uses A up.
 pub plan_uses : (d : Day) (x : ℕ → ℕ) → Feasible d x → bad_opening d ≡ None
 plan_uses d x f = rw (le-ltb (required d) d.opening (omega (arith, f.ends refl))) refl
 
@@ -45,32 +45,32 @@ first_by d r f fails passes =
 
 -- Of a day that tests 1 and 14 let pass.
 module _ (d : Day) (fits : Fits d) where
-  -- Demand 2: whole amounts keep the conditions exactly if, in every period, the store takes A, and what must have been made can have been.
+  -- Whole amounts keep the conditions exactly if, in every period, the store takes A, and what must have been made can have been.
   pub feasible_iff : ((x : ℕ → ℕ) × Feasible d x) ↔ ((k : ℕ) → k < periods d → Passes d k)
   feasible_iff = keeps_iff d fits (periods d) (omega arith)
 
-  -- Demand 3: where there is a plan at all, there is the plan.
+  -- Where there is a plan at all, there is the plan.
   pub optimal_exists : (y : ℕ → ℕ) → Feasible d y → (x : ℕ → ℕ) × Optimal d x
   optimal_exists y f =
       let room : (k : ℕ) → k < periods d → d.opening ≤ demand_to d (suc k) + at d.store k = (λ k l. (feasible_iff.0 (y, f) k l).room) in
       let w = Recursion.optimal_exists (store_model d) (periods d) (total d) y ((store_feasible d fits room y).0 f) in
       (w.0, (store_plan d fits room w.0).1 w.1)
 
-  -- Demand 2: refusal 7 is given exactly if no plan exists.
+  -- Refusal 7 is given exactly if no plan exists.
   pub shortage_iff : (shortage d ≡ None) ↔ ((x : ℕ → ℕ) × Feasible d x)
   shortage_iff = (
     λ e. feasible_iff.1 (shortage_passed d e),
     λ w. ap (refuse_at Shortage) (nothing_found (short d) (periods d) (λ k l. (passes_iff d k).1 (feasible_iff.0 w k l))),
   )
 
-  -- Demand 2: and then it names the first period for which no amounts up to it keep the conditions through it.
+  -- And then it names the first period for which no amounts up to it keep the conditions through it.
   pub shortage_names : (r : Refusal) → shortage d ≡ Some r → FirstShort d r
   shortage_names r e =
       first_by d r (shortage_found d r e)
       (λ k l fails x h. fails ((keeps_iff d fits (suc k) l).0 (x, h) k (omega arith)))
       (λ k l pass. (keeps_iff d fits (suc k) l).1 (λ j h. pass j (omega arith)))
 
--- Demand 2, by documents 01 and 02, 2.1: whole amounts keep the conditions exactly if no more must have been made than C after every period,
+-- Whole amounts keep the conditions exactly if no more must have been made than C after every period,
 pub loose_feasible_iff : (d : Day) → Loose d
     → ((x : ℕ → ℕ) × Feasible d x) ↔ ((k : ℕ) → k < periods d → net_to d (suc k) ≤ capacity_to d (suc k))
 loose_feasible_iff d loose = (

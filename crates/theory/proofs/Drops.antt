@@ -1,5 +1,5 @@
--- Big days, best so far (document 02, 2.10): what the trials of `TriedIn` give.
--- Main statements: `ruled_plans`, `plans_ruled`, the rule of 2.3 gives the plan of a trial's day, and nothing just where it has none; `tried_stands`, the
+-- Big days, best so far: what the trials of `TriedIn` give.
+-- Main statements: `ruled_plans`, `plans_ruled`, the greedy rule gives the plan of a trial's day, and nothing just where it has none; `tried_stands`, the
 -- best plan so far keeps the conditions of the day; `tried_one`, so many trials lead to one state; `ended_cheaper`, more allowed trials never lead to a
 -- dearer plan; `ended_one`, the trials end in one way; `first_optimal`, `free_least`, trial 1 has the least cost with all starts free, which no plan of
 -- the day undercuts. Assumes nothing.

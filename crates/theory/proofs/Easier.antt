@@ -1,4 +1,4 @@
--- Easier days (document 02, 2.9): with no opening charge, a day that is easier in every place has a plan where the harder has one, at no higher cost.
+-- Easier days: with no opening charge, a day that is easier in every place has a plan where the harder has one, at no higher cost.
 -- The plan is the harder day's, thinned from the end: each period makes what it made, or less if less is wanted from then on.
 -- Main statements: `easier_plan`, `easier_least`; `opening_matters`, with opening charge it is false; `least_one`, a day has one least cost.
 -- Assumes nothing.

@@ -1,4 +1,4 @@
--- Document 02, 2.6, of the equal path itself, over its contract: how many full-load periods its plan has.
+-- Runs and loads of the equal path itself, over its contract: how many full-load periods its plan has.
 -- Main statements: `equal_run_loads`, of each run; `day_divided`, `equal_day_loads`: a day is divided into runs, and the answer's totals are the sums over
 -- them; `equal_no_loads`, of capacity 0. Assumes nothing.
 use Rattle.std.specs.Prelude.{◌≡◌, refl, ◌⊎◌, ℕ, zero, suc, ◌+◌, ◌%◌, ◌≤◌, ◌<◌, ltb, Ok}

@@ -1,4 +1,4 @@
--- Document 02's rule for days without setup cost, watt-hour by watt-hour and in its signed order, gives the day's plan; where there is a plan it comes
+-- The rule for days without setup cost, watt-hour by watt-hour and in its signed order, gives the day's plan; where there is a plan it comes
 -- to its end. So the batches of the loop, which give the plan too, make what the rule makes.
 -- Main statements: `key_signed`, the keys that the loop compares order the periods as the signed form does; `in_turn_optimal`; `in_turn_serves`.
 -- Assumes nothing.

@@ -1,8 +1,8 @@
 -- The theorems of days, over the theory's one model. A module uses those above it.
 -- The greedy rule as a loop computes it.
 pub mod Batches
--- Store limits; the days as problems; the rule of 2.3 on them; demands 2 and 3; easier days; the trials of big days; agreement of paths; the demands of
--- the calls, and 2.6 of the equal path.
+-- Store limits; the days as problems; the greedy rule on them; what a path's answer says; easier days; the trials of big days; agreement of paths; what
+-- holds of the calls, and the loads of the equal path.
 pub mod Store
 pub mod Loose
 pub mod Base

@@ -1,4 +1,4 @@
--- The store limit of a day (document 02, 2.5), over specs/Store: the test 7 on sums, and days whose stores can't bind.
+-- The store limit of a day, over specs/Store: the test 7 on sums, and days whose stores can't bind.
 -- Main statements: `keeps_iff`, on a day that 14 lets pass the test decides whether some amounts
 -- keep the conditions through a period; `passes_loose`, on a day whose stores can't bind it compares with C alone. Assumes nothing.
 use Rattle.std.specs.Prelude.{◌≡◌, ◌↔◌, ℕ, zero, suc, ◌+◌, ◌-◌, ◌≤◌, ◌<◌, min}
@@ -96,7 +96,7 @@ module _ (d : Day) (loose : Loose d) where
       cut_open (most_to d k) (capacity_to d k) (at d.capacity k) (total d) (demand_to d (suc k) + at d.store k - d.opening)
       (most_loose k (omega arith)) (omega (arith, loose.takes k l))
 
-  -- The test compares what must have been made with C, as document 02, 2.1, has it.
+  -- The test compares what must have been made with C.
   pub passes_loose : (k : ℕ) → k < periods d → Passes d k ↔ (net_to d (suc k) ≤ capacity_to d (suc k))
   passes_loose k l = (
     λ p. omega (arith, p.reach, most_loose (suc k) l, net_below d (suc k) l),

@@ -1,4 +1,4 @@
--- What demands 2 and 3 say of a path's answer. Main definitions: `IsPlan`, `CheapestFirst`. That the paths keep to it is in proofs/Calls.
+-- What a path's answer says of the day and its plan. Main definitions: `IsPlan`, `CheapestFirst`. That the paths keep to it is in proofs/Calls.
 -- Assumes nothing.
 use Rattle.std.specs.Prelude.{◌≡◌, ◌⊎◌, ℕ, ◌≤◌, ◌<◌, Result, Ok, Err}
 use Rattle.day.specs.declared.Refusal.{Refusal}
@@ -12,7 +12,7 @@ abbrev pub IsPlan : Result Totals Refusal → Type 0
 IsPlan (Err r) = ⊥
 IsPlan (Ok t) = Unit {0}
 
--- Demand 3, in its words, of amounts x and what they are said to cost: every other plan that keeps the rules costs at least as much,
+-- Of amounts x and what they are said to cost: every other plan that keeps the rules costs at least as much,
 -- and one that costs the same has the larger amount in the last period where the two differ.
 abbrev pub CheapestFirst : Day → (ℕ → ℕ) → ℕ → Type 0
 CheapestFirst d x said =

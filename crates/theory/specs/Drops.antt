@@ -1,4 +1,4 @@
--- What the rule of document 02, 2.3, has to give on a day: `Plans`; what a state of the trials of a big day has: `Stands`. What holds of the trials is
+-- What the greedy rule has to give on a day: `Plans`; what a state of the trials of a big day has: `Stands`. What holds of the trials is
 -- in proofs/Drops. Assumes nothing.
 use Rattle.std.specs.Prelude.{◌≡◌, List, ℕ, ◌≤◌, length, Option, None, Some}
 use Rattle.day.specs.Sums.{at}

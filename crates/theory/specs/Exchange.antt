@@ -1,5 +1,5 @@
 -- The exchange of one unit between two periods, and what it says of the optimal plan, for any capacities (report, section 3).
--- A fractional period is document 01's part-loaded one, and a regeneration interval its run (of the net needs: finer while A lasts).
+-- A fractional period is what operators call a part-loaded one, and a regeneration interval its run (of the net needs: finer while A lasts).
 -- Main statements: `exchange`, `interval_one`: in a regeneration interval of the optimal plan no two periods are fractional. Assumes nothing.
 use Rattle.std.specs.Prelude.{◌≡◌, ◌≢◌, ℕ, zero, suc, ◌+◌, ◌-◌, ◌*◌, ◌≤◌, ◌<◌, min}
 use Rattle.std.proofs.Common.{sym, ap, ⊎_elim, eq-or-lt_of_le, arith}

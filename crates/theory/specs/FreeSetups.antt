@@ -1,5 +1,5 @@
--- Where all setups are free, units served in turn, each from the period that is best for it, are units of the optimal plan (document 02, 2.3;
--- report, section 4). No limit is asked of capacities or of the total; ceilings must not bind.
+-- Where all setups are free, units served in turn, each from the period that is best for it, are units of the optimal plan (report,
+-- section 4). No limit is asked of capacities or of the total; ceilings must not bind.
 -- Main definitions: `key`, `Progress`. Main statements: `key_order`; `progress_turn`, what is served stays part of the plan, whether units go one by
 -- one or several at once to one period; `no_plan`; `done_optimal`. Assumes nothing.
 use Rattle.std.specs.Prelude.{◌≡◌, refl, ◌↔◌, ◌≢◌, ℕ, zero, suc, ◌+◌, ◌-◌, ◌≤◌, ◌<◌, min}

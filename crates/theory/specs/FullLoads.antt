@@ -1,4 +1,4 @@
--- Amounts of at most c of which at most one is neither 0 nor c: how many are c, and what the one is (document 02, 2.6).
+-- Amounts of at most c of which at most one is neither 0 nor c: how many are c, and what the one is.
 -- Main statement: `few_loads`. Assumes nothing.
 use Rattle.std.specs.Prelude.{◌≡◌, refl, ◌⊎◌, ℕ, zero, suc, ◌+◌, ◌*◌, ◌/◌, ◌%◌, ◌≤◌, ◌<◌}
 use Rattle.std.proofs.Common.{sym, ap, ◌∙◌, inl, inr, ⊎_elim, eq-or-lt_of_le, eq-zero-or-pos, le_of_suc-le-suc, arith}

@@ -1,4 +1,4 @@
--- The greedy rule (document 02, 2.3; report, section 4) as a loop computes it: the needs in turn, each in batches from the period that is best for it.
+-- The greedy rule (report, section 4) as a loop computes it: the needs in turn, each in batches from the period that is best for it.
 -- Index k is period k + 1; `d` counts the periods that may serve, so that a need of period k is served by the first d = k + 1.
 -- The amounts so far are cells of a lent list; cells past the periods stay as they are.
 -- Main definitions: `key_of`, `Source`, `serve`, `greedy_to`. Laws for a loop: `serve_done`, `serve_turn`, `serve_stuck`. Assumes nothing.

@@ -31,7 +31,7 @@ pub mod Greedy
 pub mod FreeSetups
 pub mod Batches
 pub mod Counted
--- What the loops run on; the days of documents 01 and 02 as such problems, and their store limits; what demands 2 and 3 say, and the trials of big
+-- What the loops run on; the days as such problems, and their store limits; what a path's answer says, and the trials of big
 -- days. What holds of these is in proofs/.
 pub mod Problem
 pub mod Net

@@ -1,4 +1,4 @@
--- The one model from which the days of documents 01 and 02 follow: what amounts keep its rules, what they cost, which are wanted.
+-- The one model from which all days follow: what amounts keep its rules, what they cost, which are wanted.
 -- Index k is the report's period k + 1; floor and ceiling are indexed by how many periods are past.
 -- Main definitions: `Model`, `FeasibleTo`, `OptimalTo`. Assumes nothing.
 use Rattle.std.specs.Prelude.{◌≡◌, ℕ, suc, ◌+◌, ◌-◌, ◌*◌, ◌≤◌, ◌<◌}

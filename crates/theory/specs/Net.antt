@@ -1,4 +1,4 @@
--- The days of documents 01 and 02 as problems: net needs, which the opening charge lowers and the closing charge raises; rates, by which what is
+-- The days as problems: net needs, which the opening charge lowers and the closing charge raises; rates, by which what is
 -- left after a period is paid for in that period and in the next.
 -- Main definitions: `net_need`, `rate_of`, `problem_of`, `Fits`. Main statements: `floor_is`, `total_is`, the net needs sum to what must have been
 -- made; `bounded`, a day within the limits gives what the loops rely on; `problem_is`, the two tables as they are filled in are the problem's.

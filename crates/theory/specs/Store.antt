@@ -1,4 +1,4 @@
--- The store limit of a day (document 02, 2.5): a ceiling on what may have been made, and days whose stores can't bind.
+-- The store limit of a day: a ceiling on what may have been made, and days whose stores can't bind.
 -- Main definitions: `ceilings_of`, `store_model`, `Loose`. What holds of them is in proofs/Store. Assumes nothing.
 use Rattle.std.specs.Prelude.{List, ℕ, suc, ◌+◌, ◌-◌, ◌≤◌, ◌<◌, min}
 use Rattle.day.specs.Sums.{at, list_of}

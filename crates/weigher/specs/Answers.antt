@@ -1,4 +1,4 @@
--- What the weigher's two calls answer (document 01, "The weigher"; document 02, 2.1, 2.5), and the number of each rule.
+-- What the weigher's two calls answer, and the number of each rule.
 -- Main definitions: `Weighs`, `Compares`, the contracts of the calls; `weighed_figures`, `compared_figures`; `rule_number`.
 -- Main statements: `same_verdict`, `weighs_is`, `compares_is`, `compares`. Assumes nothing.
 use Rattle.std.specs.Prelude.{◌≡◌, refl, List, [], ◌∷◌, ◌++◌, ℕ, ◌-◌, length, get_or, ℤ, pos, ◌-ℤ◌, Option, None, Some, Result, Ok, Err}

@@ -1,4 +1,4 @@
--- A plan's cells past the day's last period are not read (document 01, refusal 6).
+-- A plan's cells past the day's last period are not read.
 -- Main statement: `cells_past_unread`. Assumes nothing.
 use Rattle.std.specs.Prelude.{◌≡◌, refl, List, [], ◌∷◌, ◌++◌, ℕ, zero, suc, ◌≤◌, ◌<◌, ltb, length, Ok, Err}
 use Rattle.std.proofs.Common.{sym, ap, ap₂, ◌∙◌, arith, length-append, le-ltb}

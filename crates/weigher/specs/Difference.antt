@@ -1,4 +1,4 @@
--- What the difference of two plans' costs says at zero, above it and below it (document 01, "The weigher").
+-- What the difference of two plans' costs says at zero, above it and below it.
 -- Main statement: `difference_right`. Assumes nothing.
 use Rattle.std.specs.Prelude.{◌≡◌, refl, Bool, true, false, cond, ℕ, zero, suc, ◌+◌, ◌-◌, ltb, ℤ, pos, negsuc, ◌-ℤ◌}
 use Rattle.std.proofs.Common.{arith, ltb-true, ltb-false}

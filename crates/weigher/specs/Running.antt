@@ -1,4 +1,4 @@
--- The walk that the weigher's code runs over a day's periods, and its running sums (document 02, 2.4). It follows the code: what a period
+-- The walk that the weigher's code runs over a day's periods, and its running sums. It follows the code: what a period
 -- does is found from its entries and the sums before it, nothing else. Index k is period k + 1.
 -- Main definitions: `walk_to`, where the walk stands after i periods; `walk_of`, its verdict.
 -- Main statements: `running_sums`, `running_kept`, for every i: where the first i periods break no rule, the walk runs with the sums through

@@ -1,4 +1,4 @@
--- What a verdict says of a plan, by the report's conditions (2) to (4) and the store limit (document 02, 2.5), and that the weigher's verdict
+-- What a verdict says of a plan, by the report's conditions (2) to (4) and the store limit, and that the weigher's verdict
 -- is the only right one.
 -- Main statements: `verdict_right`, `verdict_only`; of a plan that holds `holds_feasible`, `feasible_holds`. Assumes nothing.
 use Rattle.std.specs.Prelude.{◌≡◌, refl, Bool, true, false, ℕ, zero, suc, ◌+◌, ◌≤◌, ◌<◌, eqb, ltb, Option, None, Some, Ok, Err}

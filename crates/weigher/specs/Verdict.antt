@@ -1,4 +1,4 @@
--- The weigher's verdict on a plan, in the report's terms (document 01, "The weigher"; document 02, 2.1, 2.5; report, section 2).
+-- The weigher's verdict on a plan, in the report's terms (report, section 2).
 -- A plan is a function from periods to amounts, as in the crate day's Plan. Index k is period k + 1.
 -- Main definition: `verdict_of`. Assumes nothing.
 use Rattle.std.specs.Prelude.{Bool, true, false, ◌&&◌, ◌||◌, ℕ, suc, ◌+◌, eqb, ltb, Option, None, Some, Result, Ok, Err}

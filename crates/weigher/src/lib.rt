@@ -1,5 +1,5 @@
 //! Weighs a given plan of a day: whether it keeps the conditions, what it costs, how two plans compare.
-//! (Document 01, "The weigher"; document 02, 2.1, 2.2, 2.4, 2.5.) What the answers mean is in specs/.
+//! What the answers mean is in specs/.
 #![tactic(auto)]
 
 ghost use Rattle.std.specs.Prelude.{◌≡◌, ◌^◌, ◌<◌, pos, ◌-ℤ◌};
@@ -21,9 +21,9 @@ pub enum Rule {
     AboveCapacity,
     // The inventory would be below 0, or is below the closing one after the last period.
     Short,
-    // The inventory left after a period is above its store limit (document 02, 2.5).
+    // The inventory left after a period is above its store limit.
     AboveStore,
-    // The inventory after the last period is above the closing one (document 01: charge over at the end).
+    // The inventory after the last period is above the closing one (operators say: charge over at the end).
     Over,
 }
 
@@ -133,7 +133,7 @@ fn advance(day: Day, plan: &[u16], i: usize, s: Sums) -> Result<Sums, Rule>
     )
 }
 
-// The verdict, period by period. Sum (1) of the report, with upkeep as in document 02, 2.2, beside the code that adds it up:
+// The verdict, period by period. Sum (1) of the report, with upkeep on what is left before and after a period, beside the code that adds it up:
 //
 //     I_0 = A                               supplied = opening, demanded = 0
 //     Σ for i = 1, .., n                    the loop, period i at index i - 1; by `judge`, from the sums before it, s:
