@@ -1,14 +1,14 @@
 -- What is kept of the intervals from l on: a row of costs for the states after k periods, and for each period what it makes in each state.
 -- Main statements: `ran_none` and `ran_more`, what a loop over the periods keeps; `back_plan`, the interval read back. Assumes unreached.
-use Rattle.std.specs.Prelude.{◌≡◌, refl, List, [], ◌∷◌, ◌++◌, length, replicate}
+use Rattle.std.specs.Prelude.{◌≡◌, refl, List, [], ◌∷◌, ◌++◌, length, replicate, None, Some}
 use Rattle.std.proofs.Math.Path.{sym, ap}
 use Rattle.std.proofs.Common.{◌∙◌, ⊎_elim, eq-or-lt_of_le, le_of_suc-le-suc, mul-le-mul_right, arith}
-use Rattle.std.proofs.Math.Option.{none, some}
 use Prim.Native.Nat.{ℕ, zero, suc, ◌+◌, ◌-◌, ◌*◌, ◌/◌, ◌%◌, ◌≤◌, ◌<◌}
 use Rattle.std.proofs.Math.Decide.{ℕ_discrete}
 use Rattle.day.specs.Sums.{at}
 use Rattle.theory.specs.Basics.{pick, pick_yes, pick_no}
 use Rattle.theory.specs.Model.{Model}
+use Rattle.theory.specs.declared.Problem.{Problem as LentProblem}
 use Rattle.theory.specs.Problem.{Problem, problem_with}
 use Rattle.theory.specs.Stages.{Solution, begin}
 use Rattle.theory.specs.Recursion.{both?}
@@ -25,6 +25,10 @@ use Rattle.equal_runs.specs.Fill.{RowLow, RowFilled, Advanced}
 abbrev pub constant_with : (demand : List ℕ) (c : ℕ) (setup unit holding : List ℕ) → Problem
 constant_with demand c setup unit holding = problem_with demand (replicate (length demand) c) setup unit holding
 
+-- and a lent problem with it, whose own capacities are not read
+abbrev pub lent_constant : LentProblem → ℕ → Problem
+lent_constant l c = constant_with l.demand.now c l.setup.now l.unit.now l.holding.now
+
 -- before the first period no load is made
 abbrev pub start_of : ℕ → ℕ
 start_of zero = 0
@@ -37,22 +41,22 @@ pub record Ran (M : Model) (l : ℕ) (w : LoadSizes) (k top width : ℕ) (row pi
       → AmountTold (at picks (i * width + index_of j d)) (first_to M l w (suc i) j d)
 
 -- what `run` asks: up to 96 periods in each table, and the states and their amounts in the two areas
-pub record Runnable (demand setup unit holding : List ℕ) (l count top width : ℕ) (row picks : List ℕ) : Type 0 where
+pub record Runnable (p : Problem) (l count top width : ℕ) (row picks : List ℕ) : Type 0 where
   pub few : count ≤ 96
-  pub demands : l + count ≤ length demand
-  pub setups : l + count ≤ length setup
-  pub units : l + count ≤ length unit
-  pub holdings : l + count ≤ length holding
+  pub demands : l + count ≤ length p.demand
+  pub setups : l + count ≤ length p.setup
+  pub units : l + count ≤ length p.unit
+  pub holdings : l + count ≤ length p.holding
   pub low : top ≤ 193
   pub wide : top < width
   pub states : top < length row
   pub amounts : count * width ≤ length picks
 
-begin_yes : {A : Type 0} (d : Dec A) → A → begin d ≡ some (record { cost = 0; plan = [] })
+begin_yes : {A : Type 0} (d : Dec A) → A → begin d ≡ Some (record { cost = 0; plan = [] })
 begin_yes (yes _) h = refl
 begin_yes (no n) h = absurd (n h)
 
-begin_no : {A : Type 0} (d : Dec A) → ¬ A → begin d ≡ none
+begin_no : {A : Type 0} (d : Dec A) → ¬ A → begin d ≡ None
 begin_no (yes a) h = absurd (h a)
 begin_no (no _) h = refl
 
@@ -124,7 +128,7 @@ step_full full x h g = pick_no (ℕ_discrete x 0) 0 _ h ∙ pick_yes (ℕ_discre
 pub step_part : (full x : ℕ) → (x ≡ 0 → ⊥) → (x ≡ full → ⊥) → step_of full x ≡ 1
 step_part full x h g = pick_no (ℕ_discrete x 0) 0 _ h ∙ pick_no (ℕ_discrete x full) 2 1 g
 
-begin_plan : {A : Type 0} (d : Dec A) (f : Solution) → begin d ≡ some f → f.plan ≡ []
+begin_plan : {A : Type 0} (d : Dec A) (f : Solution) → begin d ≡ Some f → f.plan ≡ []
 begin_plan (yes _) f e = let q : ◌≡◌ {A = Solution} (record { cost = 0; plan = [] }) f = cc in sym (ap (λ (g : Solution). g.plan) q)
 begin_plan (no _) f e = let z : ◌≡◌ {A = ℕ} 0 1 = cc in absurd (omega arith)
 
@@ -144,13 +148,13 @@ came full part j d less real (one_full h) =
 module _ (M : Model) (l : ℕ) (w : LoadSizes) (count top width : ℕ) (row picks : List ℕ)
     (less : w.part < w.full) (ran : Ran M l w count top width row picks) where
   pub back_plan : (k : ℕ) → k ≤ count → (j d : ℕ) → d ≤ 1 → (0 < d → 0 < w.part) → index_of j d ≤ top → (f : Solution)
-      → first_to M l w k j d ≡ some f → back_of w.full width picks k (index_of j d) ≡ f.plan
+      → first_to M l w k j d ≡ Some f → back_of w.full width picks k (index_of j d) ≡ f.plan
   unfolding loads_to
   back_plan zero h j d a b g f e = sym (begin_plan (both? (ℕ_discrete j 0) (ℕ_discrete d 0)) f e)
   back_plan (suc k) h j d a b g f e =
       let back = loads_back M l w.full w.part k j d f e in
       let from = came w.full w.part j d less b back.step in
-      let amount : AmountTold (at picks (k * width + index_of j d)) (some f) = rw e at (ran.amounts k j d h a g) in
+      let amount : AmountTold (at picks (k * width + index_of j d)) (Some f) = rw e at (ran.amounts k j d h a g) in
       let made : at picks (k * width + index_of j d) ≡ back.x = amount ∙ ap last back.plan ∙ last_snoc back.before.plan back.x in
       let rest = back_plan k (omega arith) back.j' back.d' (omega (arith, from.few)) (λ q. b (omega (arith, from.few)))
       (omega (arith, from.index)) back.before back.was in

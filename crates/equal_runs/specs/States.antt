@@ -1,20 +1,21 @@
 -- One state of an interval after one period more, as numbers: which of three amounts the period makes, and what the state then costs.
 -- Main definitions: `state_by`, by its loads, and `state_at`, by its index. Assumes nothing.
-use Rattle.std.specs.Prelude.{◌≡◌, refl, List, ℕ, ◌+◌, ◌-◌, ◌*◌, ◌/◌, ◌%◌, ◌≤◌}
+use Rattle.std.specs.Prelude.{◌≡◌, refl, ℕ, ◌+◌, ◌-◌, ◌*◌, ◌/◌, ◌%◌, ◌≤◌}
 use Rattle.std.proofs.Math.Decide.{dec_lt}
 use Rattle.std.proofs.Common.{arith}
 use Rattle.day.specs.Sums.{at}
 use Rattle.day.specs.Plan.{making}
 use Rattle.theory.specs.Basics.{pick}
 use Rattle.theory.specs.Loads.{made}
+use Rattle.theory.specs.Problem.{Problem}
 use Rattle.equal_runs.specs.declared.LoadSizes.{LoadSizes}
 use Rattle.equal_runs.specs.declared.RunPeriod.{RunPeriod}
 use Rattle.equal_runs.specs.declared.RunState.{RunState}
 use Rattle.equal_runs.specs.Bounds.{marker}
 
--- period i of three tables of costs, in an interval that must have made `due` by its end
-abbrev pub period_of : (setup unit holding : List ℕ) → (i due : ℕ) → RunPeriod
-period_of setup unit holding i due = record { setup = at setup i; unit = at unit i; holding = at holding i; due = due }
+-- period i of a problem, in an interval that must have made `due` by its end
+abbrev pub period_of : Problem → (i due : ℕ) → RunPeriod
+period_of p i due = record { setup = at p.setup i; unit = at p.unit i; holding = at p.holding i; due = due }
 
 -- where a row has j full loads and d fractional loads
 abbrev pub index_of : ℕ → ℕ → ℕ

@@ -1,8 +1,7 @@
 -- What the numbers of a state mean: the cost of the first of the intervals to a state, or a mark that there is none, and what the last period makes.
 -- Main statement: `state_told`. Assumes unreached.
-use Rattle.std.specs.Prelude.{◌≡◌, refl, ℕ, zero, suc, ◌+◌, ◌-◌, ◌*◌, ◌^◌, ◌≤◌, ◌<◌}
+use Rattle.std.specs.Prelude.{◌≡◌, refl, ℕ, zero, suc, ◌+◌, ◌-◌, ◌*◌, ◌^◌, ◌≤◌, ◌<◌, Option, None, Some}
 use Rattle.std.proofs.Common.{sym, ap, arith}
-use Rattle.std.proofs.Math.Option.{Option, none, some}
 use Rattle.std.proofs.Math.Decide.{dec_le, dec_lt}
 use Rattle.day.specs.Plan.{making}
 use Rattle.theory.specs.Basics.{pick}
@@ -23,21 +22,21 @@ first_to M l w = loads_to M l w.full w.part
 
 -- v is the cost of o, which is at most B; or it is the marker or more, and there is none
 abbrev pub CostTold : ℕ → ℕ → Option Solution → Type 0
-CostTold B v none = (marker ≤ v) × (v ≤ marker + B)
-CostTold B v (some f) = (v ≡ f.cost) × (v ≤ B)
+CostTold B v None = (marker ≤ v) × (v ≤ marker + B)
+CostTold B v (Some f) = (v ≡ f.cost) × (v ≤ B)
 
 -- x is what the last period of o makes
 abbrev pub AmountTold : ℕ → Option Solution → Type 0
-AmountTold x none = Unit {0}
-AmountTold x (some f) = x ≡ last f.plan
+AmountTold x None = Unit {0}
+AmountTold x (Some f) = x ≡ last f.plan
 
 pub record StateTold (B : ℕ) (v : RunState) (o : Option Solution) : Type 0 where
   pub told : CostTold B v.cost o
   pub amount : AmountTold v.amount o
 
 pub told_most : (B v : ℕ) (o : Option Solution) → CostTold B v o → v ≤ marker + B
-told_most B v none t = t.1
-told_most B v (some f) t = omega (arith, t.1)
+told_most B v None t = t.1
+told_most B v (Some f) t = omega (arith, t.1)
 
 choose_new : {A : Type 0} (d : Dec A) (a b : Solution) → A → choose d a b ≡ b
 choose_new (yes _) a b h = refl
@@ -54,24 +53,24 @@ cheaper_told B small a b o o' p q = go (dec_lt b.cost a.cost) o o' p q
   where
     go : (d : Dec (b.cost < a.cost)) (o o' : Option Solution)
         → StateTold B a o → StateTold B b o' → StateTold B (pick d b a) (better o o')
-    go (yes h) none o' p q = q
-    go (yes h) (some f) none p q = absurd (omega (arith, p.told.1, q.told.0))
-    go (yes h) (some f) (some g) p q = rw (choose_new (dec_lt g.cost f.cost) f g (omega (arith, p.told.0, q.told.0))) q
-    go (no h) none none p q = p
-    go (no h) none (some g) p q = absurd (omega (arith, p.told.0, q.told.1))
-    go (no h) (some f) none p q = p
-    go (no h) (some f) (some g) p q = rw (choose_old (dec_lt g.cost f.cost) f g (λ l. omega (arith, p.told.0, q.told.0))) p
+    go (yes h) None o' p q = q
+    go (yes h) (Some f) None p q = absurd (omega (arith, p.told.1, q.told.0))
+    go (yes h) (Some f) (Some g) p q = rw (choose_new (dec_lt g.cost f.cost) f g (omega (arith, p.told.0, q.told.0))) q
+    go (no h) None None p q = p
+    go (no h) None (Some g) p q = absurd (omega (arith, p.told.0, q.told.1))
+    go (no h) (Some f) None p q = p
+    go (no h) (Some f) (Some g) p q = rw (choose_old (dec_lt g.cost f.cost) f g (λ l. omega (arith, p.told.0, q.told.0))) p
 
 -- an amount tried after a state that is told
 extend_told : {A : Type 0} (d : Dec A) → A → (B before stage x v : ℕ) → (o : Option Solution) → CostTold B before o
     → v ≡ before + stage → stage ≤ stage_most
     → StateTold (B + stage_most) (record { cost = v; amount = x }) (extend d x stage o)
 extend_told (no n) a B before stage x v o t e s = absurd (n a)
-extend_told (yes _) a B before stage x v none t e s = record { told = (omega (arith, t.0), omega (arith, t.1)); amount = tt }
-extend_told (yes _) a B before stage x v (some f) t e s =
+extend_told (yes _) a B before stage x v None t e s = record { told = (omega (arith, t.0), omega (arith, t.1)); amount = tt }
+extend_told (yes _) a B before stage x v (Some f) t e s =
     record { told = (omega (arith, t.0), omega (arith, t.1)); amount = sym (last_snoc f.plan x) }
 
-extend_none : {A : Type 0} (d : Dec A) → ¬ A → (x q : ℕ) (o : Option Solution) → extend d x q o ≡ none
+extend_none : {A : Type 0} (d : Dec A) → ¬ A → (x q : ℕ) (o : Option Solution) → extend d x q o ≡ None
 extend_none (yes a) h x q o = absurd (h a)
 extend_none (no _) h x q o = refl
 
@@ -81,8 +80,8 @@ given_some (suc n) o h = refl
 
 -- where there is no such load, the try is left out
 given_left : (n : ℕ) (a o : Option Solution) → ¬ (0 < n) → better a (given n o) ≡ a
-given_left zero none o h = refl
-given_left zero (some a) o h = refl
+given_left zero None o h = refl
+given_left zero (Some a) o h = refl
 given_left (suc n) a o h = absurd (h (omega arith))
 
 -- p is period l + k of the model, in an interval from l
@@ -160,14 +159,14 @@ module _ (M : Model) (l k : ℕ) (p : RunPeriod) (w : LoadSizes) (here : IsPerio
       go (no h) = rw (given_left n o (Move x (First k j' d')) h) b
 
   -- too little is made
-  none_given : (n : ℕ) → given n none ≡ none
+  none_given : (n : ℕ) → given n None ≡ None
   none_given zero = refl
   none_given (suc n) = refl
 
-  none_moved : ¬ (p.due ≤ X) → (x : ℕ) (o : Option Solution) → Move x o ≡ none
+  none_moved : ¬ (p.due ≤ X) → (x : ℕ) (o : Option Solution) → Move x o ≡ None
   none_moved h x o = extend_none (dec_le (M.floor (suc (l + k))) (M.floor l + X)) (λ g. h (omega (arith, here.due))) x _ o
 
-  none_reached : ¬ (p.due ≤ X) → First (suc k) j d ≡ none
+  none_reached : ¬ (p.due ≤ X) → First (suc k) j d ≡ None
   none_reached h =
       let a = none_moved h 0 (First k j d) in
       let b = none_moved h w.part (First k j (d - 1)) in

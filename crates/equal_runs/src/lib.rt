@@ -3,14 +3,16 @@
 //! j and d stand at index 2 × j + d of a row of costs.
 #![tactic(auto)]
 
-ghost use Rattle.std.specs.Prelude.{◌≡◌, ℕ, ◌+◌, ◌-◌, ◌*◌, ◌^◌, ◌≤◌, ◌<◌, ◌/◌, ◌%◌, length};
+ghost use Rattle.std.specs.Prelude.{◌≡◌, ◌+◌, ◌-◌, ◌*◌, ◌^◌, ◌≤◌, ◌<◌, ◌/◌, ◌%◌, length};
 ghost use Rattle.day.specs.Sums.{at, Term};
-ghost use Rattle.theory.specs.Problem.{model_of};
+ghost use Rattle.theory.specs.Problem.{lent_problem, model_of};
 ghost use Rattle.theory.specs.Loads.{made};
 ghost use Rattle.equal_runs.specs.Bounds.{stock_most, row_most};
 ghost use Rattle.equal_runs.specs.States.{offer_of, cheaper_of, load_of, state_by, period_of};
 ghost use Rattle.equal_runs.specs.Fill.{RowFilled, RowLow, Advanced};
-ghost use Rattle.equal_runs.specs.Run.{Runnable, Ran, constant_with, start_of, step_of, back_of};
+ghost use Rattle.equal_runs.specs.Run.{Runnable, Ran, lent_constant, start_of, step_of, back_of};
+
+use theory::Problem;
 
 // A number above every cost: what can't be reached costs this or more. It is no Option, since it stands in a lent cell of 64 bits.
 pub const NONE: u64 = 7000000000000000000;
@@ -134,14 +136,16 @@ fn start(top: usize, row: &mut [u64])
 }
 
 // Period i, in an interval that must have made `due` by its end.
-fn period_at(setup: &[u32], unit: &[u32], holding: &[u32], i: usize, due: u64) -> RunPeriod
-    requires { (i < length setup.now) × (i < length unit.now) × (i < length holding.now) }
-    ensures { result ≡ period_of setup.now unit.now holding.now i due }
+fn period_at(problem: Problem, i: usize, due: u64) -> RunPeriod
+    requires { (i < length problem.setup.now)
+        × (i < length problem.unit.now)
+        × (i < length problem.holding.now) }
+    ensures { result ≡ period_of (lent_problem problem.entry) i due }
 {
     RunPeriod {
-        setup: setup[i],
-        unit: unit[i],
-        holding: holding[i],
+        setup: problem.setup[i],
+        unit: problem.unit[i],
+        holding: problem.holding[i],
         due,
     }
 }
@@ -150,10 +154,7 @@ fn period_at(setup: &[u32], unit: &[u32], holding: &[u32], i: usize, due: u64) -
 // period makes, from its number times `width` on.
 // Cells past these are left as they come: free.
 pub fn run(
-    demand: &[u16],
-    setup: &[u32],
-    unit: &[u32],
-    holding: &[u32],
+    problem: Problem,
     l: usize,
     count: usize,
     sizes: LoadSizes,
@@ -162,18 +163,15 @@ pub fn run(
     row: &mut [u64],
     picks: &mut [u16],
 )
-    requires { Runnable demand.now setup.now unit.now holding.now l count top width
-        row.old picks.old }
-    ensures { Ran
-        (model_of (constant_with demand.now sizes.full setup.now unit.now holding.now))
-        l sizes count top width row.new picks.new }
+    requires { Runnable (lent_problem problem) l count top width row.old picks.old }
+    ensures { Ran (model_of (lent_constant problem.entry sizes.full)) l sizes count top width row.new picks.new }
 {
     start(top, row);
     let mut due: u64 = 0;
     for k in 0..count {
         let i = l + k;
-        due += demand[i] as u64;
-        let p = period_at(setup, unit, holding, i, due);
+        due += problem.demand[i] as u64;
+        let p = period_at(problem, i, due);
         advance(p, sizes, top, row, k * width, picks);
     }
 }

@@ -2,7 +2,6 @@
 use Rattle.std.proofs.Common.{◌≡◌, ◌+◌, ℕ, suc, ap, arith}
 use Rattle.std.proofs.Math.Nat.{mul-le-mul_right}
 use Rattle.day.specs.Sums.{at, sum_to}
-use Rattle.equal_runs.specs.declared.RunPeriod.{RunPeriod}
 use Rattle.equal_runs.specs.Told.{Narrow}
 use Rattle.equal_runs.specs.Run.{ran_none, row_low}
 use Rattle.equal_runs.proofs.Running.{turn}
@@ -13,7 +12,7 @@ loop-k-init c =
     let a = c.args in
     let z : a.l + 0 ≡ a.l = omega arith in
     record {
-      sums = omega (arith, ap (sum_to (at a.demand.now)) z);
+      sums = omega (arith, ap (sum_to (at a.problem.demand.now)) z);
       low = omega arith;
       ran = ran_none _ _ _ _ _ a.row.now _ _ c.start.ensures;
     }
@@ -35,17 +34,11 @@ loop-k-preserved c =
     let next : a.l + (k + 1) ≡ suc (a.l + k) = omega arith in
     let p = c.period_at-p.result in
     let e = c.period_at-p.ensures in
-    let narrow : Narrow p a.sizes = record {
-      setup = omega (arith, ap (λ (p : RunPeriod). p.setup) e, c.type_inv.setup (a.l + k));
-      unit = omega (arith, ap (λ (p : RunPeriod). p.unit) e, c.type_inv.unit (a.l + k));
-      holding = omega (arith, ap (λ (p : RunPeriod). p.holding) e, c.type_inv.holding (a.l + k));
-      full = omega arith;
-      part = omega arith;
-    } in
+    let narrow : Narrow p a.sizes = record { setup = omega arith; unit = omega arith; holding = omega arith; full = omega arith; part = omega arith } in
     record {
-      sums = omega (arith, inv.sums, ap (sum_to (at a.demand.now)) next);
-      low = omega (arith, inv.low, c.type_inv.demand (a.l + k));
-      ran = turn a.demand.now a.setup.now a.unit.now a.holding.now a.l k a.sizes a.top a.width c.loop-k.due
+      sums = omega (arith, inv.sums, ap (sum_to (at a.problem.demand.now)) next);
+      low = omega (arith, inv.low);
+      ran = turn a.problem a.l k a.sizes a.top a.width c.loop-k.due
           c.loop-k.row c.loop-k.picks _ _ p (omega arith) c.requires.low c.requires.wide narrow
           inv.sums e inv.ran c.advance.ensures;
     }

@@ -3,4 +3,4 @@ use Rattle.equal_runs.proofs.Running.{Running}
 use Rattle.equal_runs.proofs.run.Given as goal
 
 abbrev pub invariant-loop-k : goal.invariant-loop-k
-invariant-loop-k l = Running l.demand l.setup l.unit l.holding l.l l.sizes l.top l.width l.row l.picks l.k l.due
+invariant-loop-k l = Running l.problem l.l l.sizes l.top l.width l.row l.picks l.k l.due
