@@ -1,7 +1,7 @@
 -- What the search finds on a tiny day is the plan of the day: the cheapest, and of the cheapest the smallest. The plans' numbers are in the
 -- order of `Smaller`, and every plan of a tiny day has one.
 -- Main definition: `Searched`; main statement: `chosen_optimal`. Assumes nothing.
-use Rattle.std.specs.Prelude.{◌≡◌, refl, true, false, ℕ, zero, suc, ◌+◌, ◌*◌, ◌/◌, ◌%◌, ◌≤◌, ◌<◌}
+use Rattle.std.specs.Prelude.{◌≡◌, refl, ℕ, zero, suc, ◌+◌, ◌*◌, ◌/◌, ◌%◌, ◌≤◌, ◌<◌, Option, None, Some}
 use Rattle.std.proofs.Common.{sym, ◌∙◌, mod-lt, arith}
 use Rattle.std.proofs.Math.Option.{none}
 use Rattle.std.proofs.Math.Nat.{div-add-mod}
@@ -16,7 +16,7 @@ use Rattle.weigher.specs.Verdict.{verdict_of, totals_of}
 use Rattle.weigher.specs.Answers.{weigh_refusal}
 use Rattle.weigher.specs.Theorems.{holds_feasible, feasible_holds}
 use Rattle.plain.specs.declared.Best.{Best}
-use Rattle.plain.specs.Search.{plan_of, plans_of, totals_in, HoldsAs, Leads, Chosen}
+use Rattle.plain.specs.Search.{plan_of, plans_of, HoldsAs, Leads, Chosen}
 
 -- a day that the weigher accepts, of one to four periods, in which it makes at most 10
 pub record TinyDay (d : Day) : Type 0 where
@@ -26,12 +26,12 @@ pub record TinyDay (d : Day) : Type 0 where
   pub low : total d ≤ 10
 
 -- the plan of the day, with its cost and setups; or there is none
-pub record Answered (d : Day) (best : Best) : Type 0 where
-  pub plan : best.found ≡ true → Optimal d (at best.plan) × Counts d (at best.plan) (totals_in best)
-  pub none : best.found ≡ false → (y : ℕ → ℕ) → Feasible d y → ⊥
+abbrev pub Answered : Day → Option Best → Type 0
+Answered d (Some best) = Optimal d (at best.plan) × Counts d (at best.plan) best.totals
+Answered d None = (y : ℕ → ℕ) → Feasible d y → ⊥
 
 -- what the search answers: the first of the cheapest plans in the order of their numbers; on a tiny day the plan of the day
-pub record Searched (d : Day) (best : Best) : Type 0 where
+pub record Searched (d : Day) (best : Option Best) : Type 0 where
   pub chosen : Chosen d (plans_of (periods d)) best
   pub tiny : TinyDay d → Answered d best
 
@@ -129,38 +129,38 @@ module _ (d : Day) (tiny : TinyDay d) where
       let x = at (plan_of (number_of n y)) in
       rw (tiny.accepted, feasible_holds d x (kept_alike d n y x (alike y f) f)) refl
 
-  module _ (best : Best) where
-    none_feasible : Chosen d (plans_of n) best → best.found ≡ false → (y : ℕ → ℕ) → Feasible d y → ⊥
-    none_feasible c e y f = c.none e (number_of n y) (counted y f) _ (held y f)
+  none_feasible : Chosen d (plans_of n) None → (y : ℕ → ℕ) → Feasible d y → ⊥
+  none_feasible c y f = c (number_of n y) (counted y f) _ (held y f)
 
-    module _ (b : ℕ) (l : Leads d (plans_of n) best b) where
-      kept : Feasible d (at best.plan) × Counts d (at best.plan) (totals_in best)
-      kept =
-          let h = rw tiny.accepted at l.holds in
-          let e : verdict_of d (at (plan_of b)) ≡ Holds (totals_in best) = cc in
-          rw l.plan (holds_feasible d (at (plan_of b)) tiny.some (totals_in best) e)
+  module _ (best : Best) (b : ℕ) (l : Leads d (plans_of n) best b) where
+    kept : Feasible d (at best.plan) × Counts d (at best.plan) best.totals
+    kept =
+        let h = rw tiny.accepted at l.holds in
+        let e : verdict_of d (at (plan_of b)) ≡ Holds best.totals = cc in
+        rw l.plan (holds_feasible d (at (plan_of b)) tiny.some best.totals e)
 
-      lead_digit : (k : ℕ) → k < n → at best.plan k ≡ digit b k
-      lead_digit k h = rw l.plan (plan_digit b k (omega (arith, tiny.few)))
+    lead_digit : (k : ℕ) → k < n → at best.plan k ≡ digit b k
+    lead_digit k h = rw l.plan (plan_digit b k (omega (arith, tiny.few)))
 
-      precedes : (y : ℕ → ℕ) → Feasible d y → Precedes (cost d) n (at best.plan) y
-      precedes y f =
-          let j = number_of n y in
-          let size = plans_are n tiny.some tiny.few in
-          let same = cost_alike d y (at (plan_of j)) (alike y f) in
-          let p = l.first j (counted y f) (totals_of d (at (plan_of j))) (held y f) in
-          let c = first_value kept.1 in
-          record {
-            cheap = omega (arith, p.0);
-            small = λ e k h after.
-                let s =
-                number_smaller n b j (omega (arith, l.counted)) (omega (arith, counted y f)) (p.1 (omega arith)) k h
-                (λ i a g. sym (lead_digit i g) ∙ after i a g ∙ number_digit y f i g) in
-                omega (arith, s, lead_digit k h, number_digit y f k h);
-          }
+    precedes : (y : ℕ → ℕ) → Feasible d y → Precedes (cost d) n (at best.plan) y
+    precedes y f =
+        let j = number_of n y in
+        let size = plans_are n tiny.some tiny.few in
+        let same = cost_alike d y (at (plan_of j)) (alike y f) in
+        let p = l.first j (counted y f) (totals_of d (at (plan_of j))) (held y f) in
+        let c = first_value kept.1 in
+        record {
+          cheap = omega (arith, p.0);
+          small = λ e k h after.
+              let s =
+              number_smaller n b j (omega (arith, l.counted)) (omega (arith, counted y f)) (p.1 (omega arith)) k h
+              (λ i a g. sym (lead_digit i g) ∙ after i a g ∙ number_digit y f i g) in
+              omega (arith, s, lead_digit k h, number_digit y f k h);
+        }
 
-      lead_optimal : Optimal d (at best.plan) × Counts d (at best.plan) (totals_in best)
-      lead_optimal = (record { feasible = kept.0; first = precedes }, kept.1)
+    lead_optimal : Optimal d (at best.plan) × Counts d (at best.plan) best.totals
+    lead_optimal = (record { feasible = kept.0; first = precedes }, kept.1)
 
-    pub chosen_optimal : Chosen d (plans_of n) best → Answered d best
-    chosen_optimal c = record { plan = λ f. lead_optimal (c.some f).0 (c.some f).1; none = none_feasible c }
+  pub chosen_optimal : (best : Option Best) → Chosen d (plans_of n) best → Answered d best
+  chosen_optimal (Some best) c = lead_optimal best c.0 c.1
+  chosen_optimal None c = none_feasible c

@@ -1,7 +1,7 @@
 -- What the plain search finds among the numbered plans, by the weigher's verdicts.
 -- Main definition: `Chosen`; main statement: `chosen_more`, one plan more. Assumes nothing.
-use Rattle.std.specs.Prelude.{◌≡◌, refl, Bool, true, false, cond, List, [], ◌∷◌, ℕ, suc, ◌/◌, ◌%◌, ◌≤◌, ◌<◌, eqb, ltb}
-use Rattle.std.proofs.Common.{arith, ltb-true, ltb-false}
+use Rattle.std.specs.Prelude.{◌≡◌, refl, Bool, true, false, if◌then◌else◌, ◌&&◌, List, [], ◌∷◌, ℕ, suc, ◌/◌, ◌%◌, ◌^◌, ◌≤◌, ◌<◌, nat_le, Option, None, Some}
+use Rattle.std.proofs.Common.{arith, leb-true, leb-false}
 use Rattle.day.specs.declared.Totals.{Totals}
 use Rattle.day.specs.Sums.{below}
 use Rattle.day.specs.Day.{Day}
@@ -17,25 +17,18 @@ plan_of m = m % 11 ∷ m / 11 % 11 ∷ m / 11 / 11 % 11 ∷ m / 11 / 11 / 11 % 1
 
 -- how many plans of n periods there are, for one to four
 abbrev pub plans_of : ℕ → ℕ
-plans_of n = cond (eqb n 1) 11 (cond (eqb n 2) 121 (cond (eqb n 3) 1331 (cond (eqb n 4) 14641 0)))
+plans_of n = if nat_le 1 n && nat_le n 4 then 11 ^ n else 0
 
 -- a plan that holds, as found
 abbrev pub found_as : Totals → List ℕ → Best
-found_as t plan = record { found = true; cost = t.cost; setups = t.setups; plan = plan }
-
--- the cost and setups found
-abbrev pub totals_in : Best → Totals
-totals_in best = record { cost = best.cost; setups = best.setups }
-
-abbrev pub pick : Bool → Best → Best → Best
-pick true a b = a
-pick false a b = b
+found_as t plan = record { totals = t; plan = plan }
 
 -- the better of the best so far and a plan that has been weighed; of equally cheap ones the best so far
-abbrev pub better_of : Best → List ℕ → Weighed → Best
+abbrev pub better_of : Option Best → List ℕ → Weighed → Option Best
 better_of best plan (Refused r) = best
 better_of best plan (Judged (Broken r i)) = best
-better_of best plan (Judged (Holds t)) = pick best.found (pick (ltb t.cost best.cost) (found_as t plan) best) (found_as t plan)
+better_of None plan (Judged (Holds t)) = Some (found_as t plan)
+better_of (Some b) plan (Judged (Holds t)) = if nat_le b.totals.cost t.cost then Some b else Some (found_as t plan)
 
 -- the weigher says of plan number j that it holds, with these totals
 abbrev pub HoldsAs : Day → ℕ → Totals → Type 0
@@ -46,79 +39,69 @@ HoldsAs d j t = weighed_of d (plan_of j) ≡ Judged (Holds t)
 pub record Leads (d : Day) (m : ℕ) (best : Best) (b : ℕ) : Type 0 where
   pub counted : b < m
   pub plan : best.plan ≡ plan_of b
-  pub holds : HoldsAs d b (totals_in best)
-  pub first : (j : ℕ) → j < m → (t : Totals) → HoldsAs d j t → (best.cost ≤ t.cost) × (best.cost ≡ t.cost → b ≤ j)
+  pub holds : HoldsAs d b best.totals
+  pub first : (j : ℕ) → j < m → (t : Totals) → HoldsAs d j t → (best.totals.cost ≤ t.cost) × (best.totals.cost ≡ t.cost → b ≤ j)
 
 -- what was found among the first m plans: one that leads, or that none holds
-pub record Chosen (d : Day) (m : ℕ) (best : Best) : Type 0 where
-  pub some : best.found ≡ true → (b : ℕ) × Leads d m best b
-  pub none : best.found ≡ false → (j : ℕ) → j < m → (t : Totals) → HoldsAs d j t → ⊥
+abbrev pub Chosen : Day → ℕ → Option Best → Type 0
+Chosen d m (Some best) = (b : ℕ) × Leads d m best b
+Chosen d m None = (j : ℕ) → j < m → (t : Totals) → HoldsAs d j t → ⊥
 
-module _ (d : Day) (m : ℕ) (best : Best) (c : Chosen d m best) where
+module _ (d : Day) (m : ℕ) where
   -- the next plan does not hold
-  same : ((t : Totals) → HoldsAs d m t → ⊥) → Chosen d (suc m) best
-  same h = record {
-    some = λ f.
-        let l = (c.some f).1 in (
-          (c.some f).0,
-          record {
-            counted = omega (arith, l.counted);
-            plan = l.plan;
-            holds = l.holds;
-            first = below _ m l.first (λ t e. absurd (h t e));
-          },
-        );
-    none = λ f. below _ m (c.none f) h;
-  }
+  same : ((t : Totals) → HoldsAs d m t → ⊥) → (best : Option Best) → Chosen d m best → Chosen d (suc m) best
+  same h (Some best) c =
+      let l = c.1 in (
+        c.0,
+        record {
+          counted = omega (arith, l.counted);
+          plan = l.plan;
+          holds = l.holds;
+          first = below _ m l.first (λ t e. absurd (h t e));
+        },
+      )
+  same h None c = below _ m c h
 
-  -- it holds and is taken
-  taken : (t : Totals) → HoldsAs d m t → (best.found ≡ true → t.cost < best.cost) → Chosen d (suc m) (found_as t (plan_of m))
-  taken t e cheap = record {
-    some = λ _. (
-      m,
-      record {
-        counted = omega arith;
-        plan = refl;
-        holds = e;
-        first = below _ m (λ j l u q. before j l u q best.found refl) (λ u q. let same : t ≡ u = cc in rw same (omega arith, λ _. omega arith));
-      },
-    );
-    none = λ f. let z : ◌≡◌ {A = ℕ} 0 1 = cc in absurd (omega arith);
-  }
-    where
-      before : (j : ℕ) → j < m → (u : Totals) → HoldsAs d j u → (f : Bool) → best.found ≡ f → (t.cost ≤ u.cost) × (t.cost ≡ u.cost → m ≤ j)
-      before j l u q true f =
-          let b = (c.some f).1.first j l u q in
-          let less = cheap f in
-          (omega (arith, b.0), λ s. absurd (omega (arith, b.0)))
-      before j l u q false f = absurd (c.none f j l u q)
+  -- it holds and is taken: nothing that holds before it is as cheap
+  taken : (t : Totals) → HoldsAs d m t → ((j : ℕ) → j < m → (u : Totals) → HoldsAs d j u → t.cost < u.cost)
+      → Chosen d (suc m) (Some (found_as t (plan_of m)))
+  taken t e cheap = (
+    m,
+    record {
+      counted = omega arith;
+      plan = refl;
+      holds = e;
+      first =
+          below _ m
+          (λ j l u q. (omega (arith, cheap j l u q), λ s. absurd (omega (arith, cheap j l u q))))
+          (λ u q. let same : t ≡ u = cc in rw same (omega arith, λ _. omega arith));
+    },
+  )
 
   -- it holds and is no cheaper
-  left : (t : Totals) → HoldsAs d m t → best.found ≡ true → best.cost ≤ t.cost → Chosen d (suc m) best
-  left t e f dear = record {
-    some = λ _.
-        let l = (c.some f).1 in (
-          (c.some f).0,
-          record {
-            counted = omega (arith, l.counted);
-            plan = l.plan;
-            holds = l.holds;
-            first = below _ m l.first (λ u q. let same : t ≡ u = cc in (rw (← same) dear, λ _. omega (arith, l.counted)));
-          },
-        );
-    none = λ g. let z : ◌≡◌ {A = ℕ} 0 1 = cc in absurd (omega arith);
-  }
+  left : (t : Totals) → HoldsAs d m t → (best : Best) → best.totals.cost ≤ t.cost → Chosen d m (Some best) → Chosen d (suc m) (Some best)
+  left t e best dear c =
+      let l = c.1 in (
+        c.0,
+        record {
+          counted = omega (arith, l.counted);
+          plan = l.plan;
+          holds = l.holds;
+          first = below _ m l.first (λ u q. let same : t ≡ u = cc in (rw (← same) dear, λ _. omega (arith, l.counted)));
+        },
+      )
 
-  pub chosen_more : Chosen d (suc m) (better_of best (plan_of m) (weighed_of d (plan_of m)))
-  chosen_more = go (weighed_of d (plan_of m)) refl
+  pub chosen_more : (best : Option Best) → Chosen d m best → Chosen d (suc m) (better_of best (plan_of m) (weighed_of d (plan_of m)))
+  chosen_more best c = go (weighed_of d (plan_of m)) refl best c
     where
-      cheaper : (t : Totals) → HoldsAs d m t → (f b : Bool) → best.found ≡ f → ltb t.cost best.cost ≡ b
-          → Chosen d (suc m) (pick f (pick b (found_as t (plan_of m)) best) (found_as t (plan_of m)))
-      cheaper t e false b p q = taken t e (λ r. let z : ◌≡◌ {A = ℕ} 0 1 = cc in absurd (omega arith))
-      cheaper t e true true p q = taken t e (λ r. ltb-true _ _ q)
-      cheaper t e true false p q = left t e p (ltb-false _ _ q)
+      cheaper : (t : Totals) → HoldsAs d m t → (best : Best) (b : Bool) → nat_le best.totals.cost t.cost ≡ b → Chosen d m (Some best)
+          → Chosen d (suc m) (if b then Some best else Some (found_as t (plan_of m)))
+      cheaper t e best true q c = left t e best (leb-true _ _ q) c
+      cheaper t e best false q c =
+          taken t e (λ j l u f. omega (arith, leb-false _ _ q, (c.1.first j l u f).0))
 
-      go : (w : Weighed) → weighed_of d (plan_of m) ≡ w → Chosen d (suc m) (better_of best (plan_of m) w)
-      go (Refused r) e = same (λ t q. let z : ◌≡◌ {A = ℕ} 0 1 = cc in omega arith)
-      go (Judged (Broken r i)) e = same (λ t q. let z : ◌≡◌ {A = ℕ} 0 1 = cc in omega arith)
-      go (Judged (Holds t)) e = cheaper t e best.found (ltb t.cost best.cost) refl refl
+      go : (w : Weighed) → weighed_of d (plan_of m) ≡ w → (best : Option Best) → Chosen d m best → Chosen d (suc m) (better_of best (plan_of m) w)
+      go (Refused r) e best c = same (λ t q. let z : ◌≡◌ {A = ℕ} 0 1 = cc in omega arith) best c
+      go (Judged (Broken r i)) e best c = same (λ t q. let z : ◌≡◌ {A = ℕ} 0 1 = cc in omega arith) best c
+      go (Judged (Holds t)) e None c = taken t e (λ j l u f. absurd (c j l u f))
+      go (Judged (Holds t)) e (Some best) c = cheaper t e best (nat_le best.totals.cost t.cost) refl c

@@ -2,11 +2,11 @@
 //! A tiny day has one to four periods, in which it makes at most 10 in all.
 #![tactic(auto)]
 
-ghost use Rattle.std.specs.Prelude.{◌≡◌, [], ◌≤◌, length};
+ghost use Rattle.std.specs.Prelude.{◌≡◌, ◌↔◌, [], ◌≤◌, length, IsTrue};
 ghost use Rattle.day.specs.Day.{day_of};
 ghost use Rattle.day.specs.Lent.{day_before};
-ghost use Rattle.plain.specs.Agreement.{Decides, SamePlan, without_plan, Agreement};
-ghost use Rattle.plain.specs.Search.{plan_of, plans_of, found_as, better_of};
+ghost use Rattle.plain.specs.Agreement.{SamePlan, without_plan, Agreement};
+ghost use Rattle.plain.specs.Search.{plan_of, plans_of, better_of};
 ghost use Rattle.plain.specs.Optimal.{Searched};
 
 use day::{Answer, Ends, Totals};
@@ -15,9 +15,7 @@ use weigher::{Verdict, Weighed};
 // What the search finds: the day's plan in the first cells, with its cost and setups.
 #[derive(Clone, Copy)]
 pub struct Best {
-    pub found: bool,
-    pub cost: u64,
-    pub setups: u64,
+    pub totals: Totals,
     pub plan: [u16; 4],
 }
 
@@ -26,61 +24,31 @@ pub struct Best {
 fn plan_of(m: u32) -> [u16; 4]
     ensures { result ≡ plan_of m }
 {
-    [
-        (m % 11) as u16,
-        (m / 11 % 11) as u16,
-        (m / 11 / 11 % 11) as u16,
-        (m / 11 / 11 / 11 % 11) as u16,
-    ]
+    let digit = |place: u32| (m / place % 11) as u16;
+    [digit(1), digit(11), digit(121), digit(1331)]
 }
 
 // How many plans of n periods there are.
 fn plans(n: usize) -> u32
     ensures { result ≡ plans_of n }
 {
-    if n == 1 {
-        return 11;
-    }
-    if n == 2 {
-        return 121;
-    }
-    if n == 3 {
-        return 1331;
-    }
-    if n == 4 {
-        return 14641;
-    }
-    0
-}
-
-fn found_as(t: Totals, plan: [u16; 4]) -> Best
-    ensures { result ≡ found_as t plan }
-{
-    Best {
-        found: true,
-        cost: t.cost,
-        setups: t.setups,
-        plan,
+    match n {
+        1..=4 => 11u32.pow(n as u32),
+        _ => 0,
     }
 }
 
 // The better of the best so far and a plan that has been weighed; of equally cheap ones the best so far.
-fn better(best: Best, plan: [u16; 4], w: Weighed) -> Best
-    ensures { result ≡ better_of best plan w }
+fn better(best: Option<Best>, plan: [u16; 4], weighed: Weighed) -> Option<Best>
+    ensures { result ≡ better_of best plan weighed }
 {
-    let Weighed::Judged(v) = w else {
+    let Weighed::Judged(Verdict::Holds(totals)) = weighed else {
         return best;
     };
-    let Verdict::Holds(t) = v else {
-        return best;
-    };
-    if !best.found {
-        return found_as(t, plan);
+    match best {
+        Some(found) if found.totals.cost <= totals.cost => best,
+        _ => Some(Best { totals, plan }),
     }
-    if t.cost < best.cost {
-        return found_as(t, plan);
-    }
-    best
 }
 
 // The plan of a tiny day: every plan with amounts up to 10 is weighed, in the order of their numbers, and the first of the cheapest kept.
@@ -92,22 +60,14 @@ pub fn search(
     holding: &[u32],
     store: &[u16],
     ends: Ends,
-) -> Best
+) -> Option<Best>
     ensures { Searched (day_before demand capacity setup unit holding store ends) result }
 {
-    let mut best = Best {
-        found: false,
-        cost: 0,
-        setups: 0,
-        plan: [0; 4],
-    };
-    let count = plans(demand.len());
-    let mut m = 0;
-    while m < count {
+    let mut best = None;
+    for m in 0..plans(demand.len()) {
         let plan = plan_of(m);
-        let w = weigher::weigh(demand, capacity, setup, unit, holding, store, &plan, ends);
-        best = better(best, plan, w);
-        m += 1;
+        let weighed = weigher::weigh(demand, capacity, setup, unit, holding, store, &plan, ends);
+        best = better(best, plan, weighed);
     }
     best
 }
@@ -115,19 +75,9 @@ pub fn search(
 // Whether the first n slots hold the plan found.
 fn same_plan(plan: [u16; 4], n: usize, slots: &[u16]) -> bool
     requires { n ≤ 4 }
-    ensures { Decides (SamePlan n plan slots.now) result }
+    ensures { IsTrue result ↔ SamePlan n plan slots.now }
 {
-    if slots.len() < n {
-        return false;
-    }
-    let mut k = 0;
-    while k < n {
-        if slots[k] != plan[k] {
-            return false;
-        }
-        k += 1;
-    }
-    true
+    n <= slots.len() && plan[..n].iter().zip(slots).all(|(x, y)| x == y)
 }
 
 // The refusal's number of a day without a plan: 14 where A is above R + Z, else 7.
@@ -136,38 +86,27 @@ fn without_plan(demand: &[u16], ends: Ends) -> u8
     ensures { result ≡ without_plan (day_of demand.now [] [] [] [] [] ends) }
 {
     if checks::required(demand, ends) < (ends.opening as u64) {
-        return 14;
+        14
+    } else {
+        7
     }
-    7
 }
 
 // Whether a path's answer on a day of at most four periods is what the search found: its plan, cost and setups, or where there is none
 // refusal 14 or 7.
-pub fn agrees(best: Best, demand: &[u16], answer: Answer, slots: &[u16], ends: Ends) -> bool
-    ensures { Decides (Agreement (day_of demand.now [] [] [] [] [] ends) best answer slots.now) result }
+pub fn agrees(best: Option<Best>, demand: &[u16], answer: Answer, slots: &[u16], ends: Ends) -> bool
+    ensures { IsTrue result ↔ Agreement (day_of demand.now [] [] [] [] [] ends) best answer slots.now }
 {
     if 4 < demand.len() {
         return false;
     }
-    match answer {
-        Answer::Refused(r) => {
-            if best.found {
-                return false;
-            }
-            r.number() == without_plan(demand, ends)
+    match (answer, best) {
+        (Answer::Refused(r), None) => r.number() == without_plan(demand, ends),
+        (Answer::Planned(t), Some(found)) => {
+            t.cost == found.totals.cost
+                && t.setups == found.totals.setups
+                && same_plan(found.plan, demand.len(), slots)
         }
-        Answer::Planned(t) => {
-            if !best.found {
-                return false;
-            }
-            if t.cost != best.cost {
-                return false;
-            }
-            if t.setups != best.setups {
-                return false;
-            }
-            let plan = best.plan;
-            same_plan(plan, demand.len(), slots)
-        }
+        _ => false,
     }
 }

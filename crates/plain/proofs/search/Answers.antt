@@ -10,14 +10,14 @@ pub loop-m-preserved : goal.loop-m-preserved
 loop-m-preserved c =
     let a = c.args in
     let d = day_of a.demand.now a.capacity.now a.setup.now a.unit.now a.holding.now a.store.now a.ends in
-    let more = chosen_more d c.loop-m.m c.loop-m.best c.loop-m.invariant.1 in
-    let weighed = weighs_is d c.plan_of-plan.result c.weigh-w.result c.weigh-w.ensures in
-    (omega arith, rw (add-one, c.better-best.ensures, weighed, c.plan_of-plan.ensures) more)
+    let more = chosen_more d c.loop-m.m c.loop-m.best c.loop-m.invariant in
+    let weighed = weighs_is d c.plan_of-plan.result c.weigh-weighed.result c.weigh-weighed.ensures in
+    rw (add-one, c.better-best.ensures, weighed, c.plan_of-plan.ensures) more
 
 pub returns : goal.returns
 returns c =
     let a = c.args in
     let d = day_of a.demand.now a.capacity.now a.setup.now a.unit.now a.holding.now a.store.now a.ends in
-    let e : c.loop-m.m ≡ c.plans-count.result = omega arith in
-    let chosen = rw (e, c.plans-count.ensures) at c.loop-m.invariant.1 in
+    let e : c.loop-m.m ≡ c.plans-m-end.result = omega arith in
+    let chosen = rw (e, c.plans-m-end.ensures) at c.loop-m.invariant in
     record { chosen = chosen; tiny = λ t. chosen_optimal d t c.loop-m.best chosen }
