@@ -3,7 +3,9 @@
 #![tactic(auto)]
 
 ghost use Rattle.std.specs.Prelude.{◌≡◌, ◌+◌, ◌%◌};
-ghost use Rattle.tiny_days.specs.MadeUp.{capacity_of, store_of, drawn_of, ends_from, stores_from, MadeUp};
+ghost use Rattle.std.specs.Iterator.{YieldsFirst, item_count};
+ghost use Rattle.test_load.specs.Draws.{next_seed, seed_after, upper};
+ghost use Rattle.tiny_days.specs.MadeUp.{capacity_of, store_of, drawn_of, ends_from, stores_from, MadeUp, days_left};
 
 use day::Ends;
 use test_load::{next_seed, upper};
@@ -46,10 +48,25 @@ fn store_of(stores: Stores, drawn: u16) -> u16
     }
 }
 
-// One period of a made-up day, and the seed after its draws. Small numbers, so that ties are many.
+// The draws of a test load, one after the other.
+#[derive(Drop)]
+struct Draws {
+    seed: u32,
+}
+
+impl Draws {
+    fn draw(&mut self) -> u16
+        ensures drawn { result ≡ upper self.new.seed }
+        ensures seed { self.new.seed ≡ next_seed self.old.seed }
+    {
+        self.seed = next_seed(self.seed);
+        upper(self.seed)
+    }
+}
+
+// One period of a made-up day. Small numbers, so that ties are many.
 #[derive(Clone, Copy)]
 struct Drawn {
-    seed: u32,
     demand: u16,
     capacity: u16,
     setup: u32,
@@ -57,21 +74,22 @@ struct Drawn {
     holding: u32,
 }
 
-fn draw(seed: u32, capacities: Capacities, common: u16) -> Drawn
-    ensures { result ≡ drawn_of seed capacities common }
+#[tactic(auto, unfolding(crate::specs::MadeUp::drawn_of))]
+fn draw_period(draws: &mut Draws, capacities: Capacities, common: u16) -> Drawn
+    ensures period { result ≡ drawn_of draws.old.seed capacities common }
+    ensures seed { draws.new.seed ≡ seed_after draws.old.seed 5 }
 {
-    let a = next_seed(seed);
-    let b = next_seed(a);
-    let c = next_seed(b);
-    let d = next_seed(c);
-    let e = next_seed(d);
+    let demand = draws.draw();
+    let capacity = draws.draw();
+    let setup = draws.draw();
+    let unit = draws.draw();
+    let holding = draws.draw();
     Drawn {
-        seed: e,
-        demand: upper(a) % 3,
-        capacity: capacity_of(capacities, upper(b) % 5, common),
-        setup: (upper(c) % 4) as u32,
-        unit: (upper(d) % 3) as u32,
-        holding: (upper(e) % 3) as u32,
+        demand: demand % 3,
+        capacity: capacity_of(capacities, capacity % 5, common),
+        setup: u32::from(setup % 4),
+        unit: u32::from(unit % 3),
+        holding: u32::from(holding % 3),
     }
 }
 
@@ -79,35 +97,29 @@ fn draw(seed: u32, capacities: Capacities, common: u16) -> Drawn
 fn end_of(drawn: u16, most: u16) -> u16
     ensures { result ≡ drawn % (most + 1) }
 {
-    ((drawn as u32) % ((most as u32) + 1)) as u16
+    (u32::from(drawn) % (u32::from(most) + 1)) as u16
 }
 
 // The ends of a made-up day, each at most so much.
-fn draw_ends(seed: u32, most: u16) -> Ends
-    ensures { result ≡ ends_from seed most }
+fn draw_ends(draws: &mut Draws, most: u16) -> Ends
+    ensures ends { result ≡ ends_from draws.old.seed most }
+    ensures seed { draws.new.seed ≡ seed_after draws.old.seed 2 }
 {
-    let a = next_seed(seed);
-    let b = next_seed(a);
+    let opening = draws.draw();
+    let closing = draws.draw();
     Ends {
-        opening: end_of(upper(a), most),
-        closing: end_of(upper(b), most),
+        opening: end_of(opening, most),
+        closing: end_of(closing, most),
     }
 }
 
 // The store limits of a made-up day.
-fn draw_stores(seed: u32, stores: Stores) -> [u16; 4]
-    ensures { result ≡ stores_from seed stores }
+#[tactic(auto, unfolding(crate::specs::MadeUp::stores_from))]
+fn draw_stores(draws: &mut Draws, stores: Stores) -> [u16; 4]
+    ensures { result ≡ stores_from draws.old.seed stores }
 {
-    let a = next_seed(seed);
-    let b = next_seed(a);
-    let c = next_seed(b);
-    let d = next_seed(c);
-    [
-        store_of(stores, upper(a) % 6),
-        store_of(stores, upper(b) % 6),
-        store_of(stores, upper(c) % 6),
-        store_of(stores, upper(d) % 6),
-    ]
+    let mut limit = || store_of(stores, draws.draw() % 6);
+    [limit(), limit(), limit(), limit()]
 }
 
 // A made-up day: the first n cells of its tables, and its ends; and the seed for the next one. The ends are drawn after the periods, then
@@ -125,28 +137,65 @@ pub struct Tiny {
     pub ends: Ends,
 }
 
-// The day of a seed, with ends of at most so much. Its demand is at most 8, so with ends of at most 2 it is tiny.
-pub fn make_up(seed: u32, capacities: Capacities, stores: Stores, most: u16) -> Tiny
-    ensures { MadeUp seed capacities stores most result }
-{
-    let first = next_seed(seed);
-    let second = next_seed(first);
-    let common = upper(second) % 5;
-    let a = draw(second, capacities, common);
-    let b = draw(a.seed, capacities, common);
-    let c = draw(b.seed, capacities, common);
-    let d = draw(c.seed, capacities, common);
-    let ends = draw_ends(d.seed, most);
-    let store = draw_stores(next_seed(next_seed(d.seed)), stores);
-    Tiny {
-        seed: d.seed,
-        n: 1 + (upper(first) % 4) as usize,
-        demand: [a.demand, b.demand, c.demand, d.demand],
-        capacity: [a.capacity, b.capacity, c.capacity, d.capacity],
-        setup: [a.setup, b.setup, c.setup, d.setup],
-        unit: [a.unit, b.unit, c.unit, d.unit],
-        holding: [a.holding, b.holding, c.holding, d.holding],
-        store,
-        ends,
+// What made-up days are like; each of their ends is at most `most`.
+#[derive(Clone, Copy)]
+pub struct Kind {
+    pub capacities: Capacities,
+    pub stores: Stores,
+    pub most: u16,
+}
+
+impl Kind {
+    // The day of a seed. Its demand is at most 8, so with ends of at most 2 it is tiny.
+    pub fn make_up(self, seed: u32) -> Tiny
+        ensures { MadeUp seed self result }
+    {
+        let mut draws = Draws { seed };
+        let n = 1 + usize::from(draws.draw() % 4);
+        let common = draws.draw() % 5;
+        let a = draw_period(&mut draws, self.capacities, common);
+        let b = draw_period(&mut draws, self.capacities, common);
+        let c = draw_period(&mut draws, self.capacities, common);
+        let d = draw_period(&mut draws, self.capacities, common);
+        let seed = draws.seed;
+        let ends = draw_ends(&mut draws, self.most);
+        let store = draw_stores(&mut draws, self.stores);
+        Tiny {
+            seed,
+            n,
+            demand: [a.demand, b.demand, c.demand, d.demand],
+            capacity: [a.capacity, b.capacity, c.capacity, d.capacity],
+            setup: [a.setup, b.setup, c.setup, d.setup],
+            unit: [a.unit, b.unit, c.unit, d.unit],
+            holding: [a.holding, b.holding, c.holding, d.holding],
+            store,
+            ends,
+        }
+    }
+}
+
+// So many made-up days, each from the seed that the one before it leaves.
+#[derive(Drop)]
+pub struct Days {
+    pub kind: Kind,
+    pub seed: u32,
+    pub left: u32,
+}
+
+impl Iterator for Days {
+    type Item = Tiny;
+
+    ghost next_gives = { YieldsFirst days_left };
+
+    ghost remaining = { item_count days_left };
+
+    fn next(&mut self) -> Option<Tiny> {
+        if self.left == 0 {
+            return None;
+        }
+        let day = self.kind.make_up(self.seed);
+        self.seed = day.seed;
+        self.left -= 1;
+        Some(day)
     }
 }

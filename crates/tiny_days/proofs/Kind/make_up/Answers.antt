@@ -1,7 +1,7 @@
--- `tiny_days::make_up` meets its contract: the draws, one after the other.
+-- `tiny_days::Kind::make_up` meets its contract: the draws, one after the other.
 use Rattle.std.proofs.Common.{arith}
 use Rattle.tiny_days.specs.MadeUp.{made_up}
-use Rattle.tiny_days.proofs.make_up.Goals as goal
+use Rattle.tiny_days.proofs.Kind.make_up.Goals as goal
 
 pub returns : goal.returns
 unfolding made_up
