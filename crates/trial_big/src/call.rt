@@ -1,81 +1,65 @@
 //! The call, in lent memory whose every cell holds the mark.
-ghost use Rattle.std.specs.Prelude.{◌≤◌};
-
-use day::{BigAnswer, Ends};
+use day::{BigAnswer, Refusal, Totals, Trials};
 use std::io;
-use trial_paths::paths;
-use trial_text::cells::MARK;
-use trial_text::{cells, print, text};
+use trial_text::cells::{Cells, Memory};
+use trial_text::days::Day;
+use trial_text::line::Line;
+use trial_text::show::{Amounts, Cost, Kept, Refused};
 
-fn planned(answer: BigAnswer, n: usize) -> usize
-    ensures { result ≤ n }
-{
-    match answer {
-        BigAnswer::Refused(_) => 0,
-        BigAnswer::Planned(_, _) => n,
+// What a call showed: a plan's totals and the trials that it took, or why it was refused; and whether it left lent cells as it must.
+#[derive(Clone, Copy)]
+pub struct Outcome {
+    pub answer: Result<(Totals, Trials), Refusal>,
+    pub kept: bool,
+}
+
+fn plan(day: Day<'_>, memory: &mut Memory, allowed: usize) -> Result<(Totals, Trials), Refusal> {
+    match big::plan(
+        day.demand,
+        day.capacity,
+        day.setup,
+        day.unit,
+        day.holding,
+        day.store,
+        memory.costs.as_mut_slice(),
+        memory.slots.as_mut_slice(),
+        day.ends,
+        allowed,
+    ) {
+        BigAnswer::Refused(refusal) => Err(refusal),
+        BigAnswer::Planned(totals, trials) => Ok((totals, trials)),
     }
 }
 
-// After a refusal every cell holds the mark. After a plan 3 × n cost cells hold zero; the later ones, and the slots after the plan, hold the mark.
-pub fn as_left(answer: BigAnswer, n: usize, costs: &[u64], slots: &[u16]) -> bool {
-    let k = planned(answer, text::least(n, 128));
-    cells::costs_left(costs, 3 * k, true) && cells::amounts_left(slots, k, false)
+// So many cost cells: the call takes no choice area.
+pub fn cells(costs: usize) -> Cells {
+    Cells { costs, choices: 0 }
 }
 
-fn print_answer(
-    rt: &impl Print,
-    line: &[u8],
-    answer: BigAnswer,
-    slots: &[u16],
-    n: usize,
-    kept: bool,
-) -> io::Result<()> {
-    print::text(rt, text::name(line))?;
-    print::text(rt, b" big")?;
-    match answer {
-        BigAnswer::Refused(r) => print::refusal(rt, r)?,
-        BigAnswer::Planned(t, b) => {
-            let end = text::least(n, slots.len());
-            paths::print_plan(rt, t, &slots[0..end])?;
-            print::number(rt, b" trials ", b.used)?;
-            print::number(rt, b" gap ", b.gap)?;
+// The call, with so many trials allowed. After a plan of n periods 3 × n cost cells hold zero.
+pub fn run(day: Day<'_>, memory: &mut Memory, allowed: usize) -> Outcome {
+    let answer = plan(day, memory, allowed);
+    let kept = match answer {
+        Ok(_) => {
+            let n = day.demand.len();
+            memory.is_cleared(cells(n.saturating_mul(3)), n)
         }
-    }
-    print::unless(rt, kept)?;
-    print::end(rt)
+        Err(_) => memory.is_marked(),
+    };
+    Outcome { answer, kept }
 }
 
 // How many trials are allowed is in field 6, how many cost cells and slots are lent in fields 7 and 8.
-pub fn lent(
-    rt: &impl Print,
-    line: &[u8],
-    demand: &[u16],
-    capacity: &[u16],
-    setup: &[u32],
-    unit: &[u32],
-    holding: &[u32],
-    store: &[u16],
-    ends: Ends,
-) -> io::Result<()> {
-    let mut cost_area = [119u64; 300];
-    let mut slot_area = [MARK; 130];
-    let a = text::least(text::size(text::number_in(line, 7)), 300);
-    let b = text::least(text::size(text::number_in(line, 8)), 130);
-    let costs = &mut cost_area[0..a];
-    let slots = &mut slot_area[0..b];
-    let answer = big::plan(
-        demand,
-        capacity,
-        setup,
-        unit,
-        holding,
-        store,
-        costs,
-        slots,
-        ends,
-        text::size(text::number_in(line, 6)),
-    );
-    let n = demand.len();
-    let kept = as_left(answer, n, costs, slots);
-    print_answer(rt, line, answer, slots, n, kept)
+pub fn lent<R: Print + AllocGlobal>(rt: &R, line: Line<'_>, day: Day<'_>) -> io::Result<()> {
+    let mut memory = Memory::new(rt.alloc(), cells(line.number(7)), line.number(8))?;
+    let outcome = run(day, &mut memory, line.number(6));
+    print!(rt; "{} big", line.name)?;
+    match outcome.answer {
+        Err(refusal) => print!(rt; "{}", Refused(refusal))?,
+        Ok((totals, Trials { used, gap })) => {
+            let plan = memory.plan(day.demand.len());
+            print!(rt; "{}{} trials {used} gap {gap}", Amounts(plan), Cost(totals))?;
+        }
+    }
+    println!(rt; "{}", Kept(outcome.kept))
 }

@@ -1,248 +1,187 @@
 //! Trials of day files: reader, lookup and writer.
 #![tactic(auto)]
 
-ghost use Rattle.std.specs.Prelude.{◌≡◌, ◌≤◌, ◌<◌, length};
+ghost use Rattle.std.specs.Prelude.{◌<◌, length};
 
-use day::{Check, Ends, Expected, Stamp};
+use day::{Check, Expected, Refusal, Stamp};
 use dayfile::{ReadAnswer, WriteAnswer};
+use std::alloc::{AllocError, Global};
 use std::io;
-use trial_text::cells::MARK;
-use trial_text::{cells, print, text};
+use trial_text::cells::{MARK, marked};
+use trial_text::counts::Counts;
+use trial_text::days::{Day, Tables};
+use trial_text::line::{Line, numbers, repeated};
+use trial_text::show::{Charge, Kept, Refused, Stores};
 
-fn pair(a: u8, b: u8) -> u8 {
-    (16 * text::digit(a) + text::digit(b)) as u8
-}
-
-// Bytes of hexadecimal digits, from a place on; where they end.
-fn hex(s: &[u8], out: &mut [u8], at: usize) -> usize
-    requires { at ≤ length out.old }
-    ensures { (at ≤ result) × ((result ≤ length out.old) × (length out.new ≡ length out.old)) }
-{
-    let mut k = at;
-    let mut i = 0;
-    while k < out.len() {
-        if s.len() - i < 2 {
-            return k;
+// The bytes of a field: words of hexadecimal digits, each as often as it says.
+fn bytes(alloc: Global, field: &str) -> Result<Vec<u8>, AllocError> {
+    let mut bytes = Vec::new(alloc);
+    for word in field.split_whitespace() {
+        let (digits, times) = repeated(word);
+        let group = hexadecimal(alloc, digits)?;
+        for _ in 0..times {
+            bytes.extend_from_slice(group.as_slice())?;
         }
-        out[k] = pair(s[i], s[i + 1]);
-        i += 2;
-        k += 1;
     }
-    k
+    Ok(bytes)
 }
 
-// So many bytes more, copied from a place before; where they end.
-fn copy(out: &mut [u8], from: usize, to: usize, more: usize) -> usize
-    requires { (from ≤ to) × (to ≤ length out.old) }
-    ensures { (to ≤ result) × ((result ≤ length out.old) × (length out.new ≡ length out.old)) }
-{
-    let mut j = from;
-    let mut k = to;
-    let mut left = more;
-    while k < out.len() {
-        if left == 0 {
-            return k;
-        }
-        out[k] = out[j];
-        j += 1;
-        k += 1;
-        left -= 1;
-    }
-    k
+// Two digits a byte.
+fn hexadecimal(alloc: Global, digits: &str) -> Result<Vec<u8>, AllocError> {
+    digits
+        .as_bytes()
+        .chunks_exact(2)
+        .map(|pair| digit(pair[0]) << 4 | digit(pair[1]))
+        .collect(alloc)
 }
 
-// A word's bytes, as often as it says.
-fn group(s: &[u8], out: &mut [u8], at: usize, mark: usize) -> usize
-    requires { (at ≤ length out.old) × (mark ≤ length s.now) }
-    ensures { (result ≤ length out.old) × (length out.new ≡ length out.old) }
-{
-    let end = hex(&s[0..mark], out, at);
-    let times = text::times(s, mark, s.len()) as usize;
-    if times == 0 {
-        return at;
+// A digit's value; 0 of anything else.
+fn digit(byte: u8) -> u8 {
+    match byte {
+        b'0'..=b'9' => byte - b'0',
+        b'A'..=b'F' => byte - b'A' + 10,
+        _ => 0,
     }
-    let more = text::product(text::least(end - at, 1700), text::least(times - 1, 97));
-    copy(out, at, end, more)
-}
-
-// The bytes of a field: words of hexadecimal digits.
-fn bytes(s: &[u8], out: &mut [u8]) -> usize
-    ensures { (result ≤ length out.old) × (length out.new ≡ length out.old) }
-{
-    let mut at = 0;
-    let mut k = 0;
-    while at < s.len() {
-        let w = text::next_word(s, at);
-        let from = w.from;
-        let to = w.to;
-        if from == to {
-            return k;
-        }
-        k = group(&s[from..to], out, k, w.mark - from);
-        at = to;
-    }
-    k
 }
 
 // The stamp of a station's own files: station 17, on 16 November 2026.
-fn own() -> Stamp {
-    Stamp {
-        station: 17,
-        date: 9816,
-    }
-}
+const OWN: Stamp = Stamp {
+    station: 17,
+    date: 9816,
+};
 
 // The stamp that the reader is to expect: the two numbers of field 3, or its own where the field is left out. Fewer or more are no stamp.
-fn expected(line: &[u8]) -> Expected {
-    let mut numbers = [0u16; 3];
-    let n = text::amounts(text::field(line, 3), 1, &mut numbers);
-    if n == 0 {
-        return Expected::Only(own());
-    }
-    if n != 2 {
-        return Expected::Nothing;
-    }
-    Expected::Only(Stamp {
-        station: numbers[0],
-        date: numbers[1],
-    })
-}
-
-// The mark, in an output slice.
-const FILL: u8 = 119;
-
-// 0 where the day is written to the very bytes of the file, else 15.
-fn written(
-    file: &[u8],
-    demand: &[u16],
-    capacity: &[u16],
-    setup: &[u32],
-    unit: &[u32],
-    holding: &[u32],
-    store: &[u16],
-    ends: Ends,
-) -> usize
-    ensures { result < 21 }
-{
-    let mut out = [0u8; 1837];
-    match dayfile_writer::write(
-        demand,
-        capacity,
-        setup,
-        unit,
-        holding,
-        store,
-        &mut out,
-        ends,
-        own(),
-    ) {
-        WriteAnswer::Refused(_) => 15,
-        WriteAnswer::Bytes(m) => {
-            let end = text::least(m, 1837);
-            if text::same(&out[0..end], file) {
-                0
-            } else {
-                15
-            }
-        }
+fn expected(alloc: Global, line: Line<'_>) -> Result<Expected, AllocError> {
+    match numbers(alloc, line.field(3))?.as_slice() {
+        [] => Ok(Expected::Only(OWN)),
+        [station, date] => Ok(Expected::Only(Stamp {
+            station: *station,
+            date: *date,
+        })),
+        _ => Ok(Expected::Nothing),
     }
 }
 
-// How a file of two periods fares: the number of its refusal, 0 where it is read and written to the same bytes, and for anything else
-// 15, which is no file's refusal.
-fn fare(file: &[u8]) -> usize
-    ensures { result < 21 }
-{
-    let mut demand = [MARK; 2];
-    let mut capacity = [MARK; 2];
-    let mut setup = [119u32; 2];
-    let mut unit = [119u32; 2];
-    let mut holding = [119u32; 2];
-    let mut store = [MARK; 2];
-    match dayfile_reader::read(
+// The reader, on tables of its own.
+fn read_into(file: &[u8], tables: &mut Tables, expected: Expected) -> ReadAnswer {
+    dayfile_reader::read(
         file,
-        &mut demand,
-        &mut capacity,
-        &mut setup,
-        &mut unit,
-        &mut holding,
-        &mut store,
-        Expected::Only(own()),
-    ) {
-        ReadAnswer::Refused(r) => {
-            if cells::amounts_left(&demand, 0, false) {
-                return text::least(r.number() as usize, 20);
-            }
-            15
+        tables.demand.as_mut_slice(),
+        tables.capacity.as_mut_slice(),
+        tables.setup.as_mut_slice(),
+        tables.unit.as_mut_slice(),
+        tables.holding.as_mut_slice(),
+        tables.store.as_mut_slice(),
+        expected,
+    )
+}
+
+// The writer.
+fn write_into(day: Day<'_>, out: &mut [u8]) -> WriteAnswer {
+    dayfile_writer::write(
+        day.demand,
+        day.capacity,
+        day.setup,
+        day.unit,
+        day.holding,
+        day.store,
+        out,
+        day.ends,
+        OWN,
+    )
+}
+
+// How a file fares.
+#[derive(Clone, Copy)]
+enum Fare {
+    // It is read, and written to the same bytes.
+    Same,
+    Refused(Refusal),
+    // Anything else.
+    Wrong,
+}
+
+// The number of the refusal, 0 where there is none, and 15, which is no file's refusal, for anything else.
+impl From<Fare> for u8 {
+    fn from(fare: Fare) -> u8 {
+        match fare {
+            Fare::Same => 0,
+            Fare::Refused(refusal) => refusal.number(),
+            Fare::Wrong => 15,
         }
-        ReadAnswer::Periods(_, ends) => written(
-            file, &demand, &capacity, &setup, &unit, &holding, &store, ends,
-        ),
     }
 }
 
-fn cut(file: &[u8], counts: &mut [u64; 21]) {
-    let mut k = 0;
-    while k < file.len() {
-        cells::count(counts, fare(&file[0..k]));
-        k += 1;
+// Whether a day is written to the very bytes of a file.
+fn same(file: &[u8], day: Day<'_>) -> bool {
+    let mut out = [0u8; 1837];
+    match write_into(day, &mut out) {
+        WriteAnswer::Refused(_) => false,
+        WriteAnswer::Bytes(n) => out.get(..n) == Some(file),
     }
+}
+
+// How a file of two periods fares. Where it is refused the needs' cells are left as they were.
+fn fare_of(alloc: Global, file: &[u8]) -> Result<Fare, AllocError> {
+    let mut tables = Tables::marked(alloc, 2)?;
+    match read_into(file, &mut tables, Expected::Only(OWN)) {
+        ReadAnswer::Refused(refusal) if marked(tables.demand.as_slice()) => {
+            Ok(Fare::Refused(refusal))
+        }
+        ReadAnswer::Periods(_, ends) if same(file, tables.day(ends)) => Ok(Fare::Same),
+        _ => Ok(Fare::Wrong),
+    }
+}
+
+// The file cut at each length.
+fn cut(alloc: Global, file: &[u8]) -> Result<Counts, AllocError> {
+    let mut counts = Counts::new(alloc);
+    for n in 0..file.len() {
+        counts.count(fare_of(alloc, &file[..n])?)?;
+    }
+    Ok(counts)
 }
 
 // With every value at one place, which is then as it was.
-fn change_at(file: &mut [u8], at: usize, counts: &mut [u64; 21])
+fn change_at(
+    alloc: Global,
+    file: &mut [u8],
+    at: usize,
+    counts: &mut Counts,
+) -> Result<(), AllocError>
     requires { at < length file.old }
-    ensures { length file.new ≡ length file.old }
 {
     let was = file[at];
-    let mut v: usize = 0;
-    while v < 256 {
-        file[at] = v as u8;
-        cells::count(counts, fare(file));
-        v += 1;
+    for value in 0..=u8::MAX {
+        file[at] = value;
+        counts.count(fare_of(alloc, file)?)?;
     }
     file[at] = was;
+    Ok(())
 }
 
-fn change(file: &mut [u8], counts: &mut [u64; 21])
-    ensures { length file.new ≡ length file.old }
-{
-    let mut k = 0;
-    while k < file.len() {
-        change_at(file, k, counts);
-        k += 1;
+// With every value at each place.
+fn change(alloc: Global, file: &mut [u8]) -> Result<Counts, AllocError> {
+    let mut counts = Counts::new(alloc);
+    for at in 0..file.len() {
+        change_at(alloc, file, at, &mut counts)?;
     }
-}
-
-fn stores(rt: &impl Print, store: [u16; 98], n: usize) -> io::Result<()> {
-    let end = text::least(n, 98);
-    print::stores(rt, &store[0..end])
+    Ok(counts)
 }
 
 // The reader, with so many cells in each table, and the stamp that it expects.
-fn read(rt: &impl Print, file: &[u8], room: usize, stamp: Expected) -> io::Result<()> {
-    let mut demand = [MARK; 98];
-    let mut capacity = [MARK; 98];
-    let mut setup = [119u32; 98];
-    let mut unit = [119u32; 98];
-    let mut holding = [119u32; 98];
-    let mut store = [MARK; 98];
-    let k = text::least(room, 98);
-    match dayfile_reader::read(
-        file,
-        &mut demand[0..k],
-        &mut capacity[0..k],
-        &mut setup[0..k],
-        &mut unit[0..k],
-        &mut holding[0..k],
-        &mut store[0..k],
-        stamp,
-    ) {
-        ReadAnswer::Refused(r) => print::refusal(rt, r),
+fn read<R: Print + AllocGlobal>(
+    rt: &R,
+    file: &[u8],
+    cells: usize,
+    expected: Expected,
+) -> io::Result<()> {
+    let mut tables = Tables::marked(rt.alloc(), cells)?;
+    match read_into(file, &mut tables, expected) {
+        ReadAnswer::Refused(refusal) => print!(rt; "{}", Refused(refusal)),
         ReadAnswer::Periods(n, ends) => {
-            print::number(rt, b" periods ", n as u64)?;
-            print::ends(rt, ends)?;
-            stores(rt, store, n)
+            let store = tables.store.get(..n).unwrap_or(&[]);
+            print!(rt; " periods {n}{}{}", Charge(ends), Stores(store))
         }
     }
 }
@@ -250,121 +189,54 @@ fn read(rt: &impl Print, file: &[u8], room: usize, stamp: Expected) -> io::Resul
 // How long the part is that a lookup hands out, with the demand and the store limit in it, and what its companion says.
 fn look(rt: &impl Print, file: &[u8], period: usize) -> io::Result<()> {
     let body = dayfile::lookup::body(file, period);
-    print::number(rt, b" bytes ", body.len() as u64)?;
-    if 1 < body.len() {
-        print::number(rt, b" need ", cells::wide_8(body[1]))?;
+    print!(rt; " bytes {}", body.len())?;
+    if let Some(need) = body.get(1) {
+        print!(rt; " need {need}")?;
     }
-    if 17 < body.len() {
-        let high = cells::wide_8(body[16]);
-        print::number(rt, b" store ", 256 * high + cells::wide_8(body[17]))?;
+    if let Some([high, low]) = body.get(16..18) {
+        print!(rt; " store {}", u16::from_be_bytes([*high, *low]))?;
     }
-    if let Check::Refused(r) = dayfile::lookup::check(file, period) {
-        print::refusal(rt, r)?;
+    if let Check::Refused(refusal) = dayfile::lookup::check(file, period) {
+        print!(rt; "{}", Refused(refusal))?;
     }
     Ok(())
 }
 
-// What the first word of the name says: read, look, cut or change.
-fn trial(rt: &impl Print, line: &[u8], file: &mut [u8]) -> io::Result<()> {
-    let mut counts = [0u64; 21];
-    let kind = text::kind(text::name(line));
-    if text::same(kind, b"read") {
-        return read(
-            rt,
-            file,
-            text::size(text::number_in(line, 2)),
-            expected(line),
-        );
+// A trial of the file in field 1, by the first word of the name.
+pub fn file<R: Print + AllocGlobal>(rt: &R, line: Line<'_>) -> io::Result<()> {
+    let alloc = rt.alloc();
+    let mut file = bytes(alloc, line.field(1))?;
+    print!(rt; "{}", line.name)?;
+    match line.first_word() {
+        "read" => read(rt, file.as_slice(), line.number(2), expected(alloc, line)?)?,
+        "look" => look(rt, file.as_slice(), line.number(2))?,
+        "cut" => print!(rt; "{}", cut(alloc, file.as_slice())?)?,
+        _ => print!(rt; "{}", change(alloc, file.as_mut_slice())?)?,
     }
-    if text::same(kind, b"look") {
-        return look(rt, file, text::size(text::number_in(line, 2)));
-    }
-    if text::same(kind, b"cut") {
-        cut(file, &mut counts);
-        return print::counts(rt, counts);
-    }
-    change(file, &mut counts);
-    print::counts(rt, counts)
+    println!(rt)
 }
 
-// A trial of the file in field 1.
-pub fn file(rt: &impl Print, line: &[u8]) -> io::Result<()> {
-    let mut file = [0u8; 1900];
-    let n = bytes(text::field(line, 1), &mut file);
-    print::text(rt, text::name(line))?;
-    trial(rt, line, &mut file[0..n])?;
-    print::end(rt)
-}
+// The longest file has 1,837 bytes; its room, where the line has only a day, is five bytes more.
+const ROOM: usize = 1842;
 
-// The writer, and what the reader says of the file that it made.
-fn write_into(
-    rt: &impl Print,
-    demand: &[u16],
-    capacity: &[u16],
-    setup: &[u32],
-    unit: &[u32],
-    holding: &[u32],
-    store: &[u16],
-    out: &mut [u8],
-    ends: Ends,
-) -> io::Result<()> {
-    match dayfile_writer::write(
-        demand,
-        capacity,
-        setup,
-        unit,
-        holding,
-        store,
-        out,
-        ends,
-        own(),
-    ) {
-        WriteAnswer::Refused(r) => {
-            print::refusal(rt, r)?;
-            print::unless(rt, cells::bytes_left(out, 0, false))
+// The writer, and what the reader says of the file that it made. There are as many bytes of room as field 6 says of a line that asks for it.
+pub fn write<R: Print + AllocGlobal>(rt: &R, line: Line<'_>, day: Day<'_>) -> io::Result<()> {
+    let room = if line.kind == "write" {
+        line.number(6)
+    } else {
+        ROOM
+    };
+    let mut out = vec![in rt.alloc(); MARK; room]?;
+    print!(rt; "{} file", line.name)?;
+    match write_into(day, out.as_mut_slice()) {
+        WriteAnswer::Refused(refusal) => {
+            print!(rt; "{}{}", Refused(refusal), Kept(marked(out.as_slice())))?;
         }
-        WriteAnswer::Bytes(m) => {
-            let end = text::least(m, out.len());
-            print::number(rt, b" bytes ", m as u64)?;
-            print::unless(rt, cells::bytes_left(out, m, false))?;
-            read(rt, &out[0..end], demand.len(), Expected::Only(own()))
+        WriteAnswer::Bytes(n) => {
+            let (file, later) = out.split_at(n.min(out.len()));
+            print!(rt; " bytes {n}{}", Kept(marked(later)))?;
+            read(rt, file, day.demand.len(), Expected::Only(OWN))?;
         }
     }
-}
-
-// The room for a file: as much as field 6 says, or, where the line has only a day, five bytes more than the longest file.
-fn room_of(line: &[u8]) -> usize {
-    if text::same(text::kind(line), b"write") {
-        return text::size(text::number_in(line, 6));
-    }
-    1842
-}
-
-pub fn write(
-    rt: &impl Print,
-    line: &[u8],
-    demand: &[u16],
-    capacity: &[u16],
-    setup: &[u32],
-    unit: &[u32],
-    holding: &[u32],
-    store: &[u16],
-    ends: Ends,
-) -> io::Result<()> {
-    let mut out = [FILL; 1842];
-    let end = text::least(room_of(line), 1842);
-    print::text(rt, text::name(line))?;
-    print::text(rt, b" file")?;
-    write_into(
-        rt,
-        demand,
-        capacity,
-        setup,
-        unit,
-        holding,
-        store,
-        &mut out[0..end],
-        ends,
-    )?;
-    print::end(rt)
+    println!(rt)
 }

@@ -1,12 +1,12 @@
 //! The four paths, in lent memory whose every cell holds the mark.
-ghost use Rattle.std.specs.Prelude.{◌≤◌};
+use day::{Answer, EqualAnswer, Loads, Refusal, Totals};
+use std::{fmt, io};
+use trial_text::cells::{Cells, Memory};
+use trial_text::days::{Day, total};
+use trial_text::line::Line;
+use trial_text::show::{Amounts, Cost, Kept, LoadCounts, Refused};
 
-use day::{Answer, Ends, EqualAnswer, Loads, Totals};
-use std::io;
-use trial_text::cells::MARK;
-use trial_text::{cells, print, text};
-
-#[derive(Clone, Copy)]
+#[derive(Clone, Copy, PartialEq, Eq)]
 pub enum Path {
     Full,
     Uncapped,
@@ -14,51 +14,48 @@ pub enum Path {
     Free,
 }
 
-fn named(kind: &[u8]) -> Path {
-    if text::same(kind, b"uncapped") {
-        return Path::Uncapped;
+impl Path {
+    pub const ALL: [Path; 4] = [Path::Full, Path::Uncapped, Path::Equal, Path::Free];
+
+    // The path that a kind names.
+    fn of(kind: &str) -> Path {
+        match kind {
+            "uncapped" => Path::Uncapped,
+            "equal" => Path::Equal,
+            "free" => Path::Free,
+            _ => Path::Full,
+        }
     }
-    if text::same(kind, b"equal") {
-        return Path::Equal;
-    }
-    if text::same(kind, b"free") {
-        return Path::Free;
-    }
-    Path::Full
 }
 
-fn name_of(rt: &impl Print, path: Path) -> io::Result<()> {
-    match path {
-        Path::Full => print::text(rt, b" full"),
-        Path::Uncapped => print::text(rt, b" uncapped"),
-        Path::Equal => print::text(rt, b" equal"),
-        Path::Free => print::text(rt, b" free"),
+impl fmt::Display for Path {
+    fn fmt<W: fmt::Write>(&self, f: &mut fmt::Formatter<W>) -> fmt::Result {
+        match self {
+            Path::Full => write!(f, "full"),
+            Path::Uncapped => write!(f, "uncapped"),
+            Path::Equal => write!(f, "equal"),
+            Path::Free => write!(f, "free"),
+        }
     }
 }
 
 // The cells that a path needs (document 01's table; document 02, 2.3).
-#[derive(Clone, Copy)]
-pub struct Cells {
-    pub costs: usize,
-    pub choices: usize,
-}
-
-fn cells_of(path: Path, n: usize, total: usize) -> Cells
-    requires { (n ≤ 128) × (total ≤ 4097) }
-    ensures { (result.costs ≤ 8196) × (result.choices ≤ 16785408) }
-{
+pub fn needed(path: Path, day: Day<'_>) -> Cells {
+    let n = day.demand.len();
+    let inventories = total(day).saturating_add(1);
+    let rows = n.saturating_add(1);
     match path {
         Path::Full => Cells {
-            costs: 2 * (total + 1),
-            choices: text::product(n, total + 1),
+            costs: inventories.saturating_mul(2),
+            choices: inventories.saturating_mul(n),
         },
         Path::Uncapped => Cells {
-            costs: n + 1,
-            choices: n + 1,
+            costs: rows,
+            choices: rows,
         },
         Path::Equal => Cells {
-            costs: 6 * (n + 1),
-            choices: text::product(4 * (n + 1), n + 1),
+            costs: rows.saturating_mul(6),
+            choices: rows.saturating_mul(4).saturating_mul(rows),
         },
         Path::Free => Cells {
             costs: n,
@@ -67,314 +64,118 @@ fn cells_of(path: Path, n: usize, total: usize) -> Cells
     }
 }
 
-pub fn needed(path: Path, demand: &[u16], ends: Ends) -> Cells
-    ensures { (result.costs ≤ 8196) × (result.choices ≤ 16785408) }
-{
-    cells_of(
-        path,
-        text::least(demand.len(), 128),
-        cells::total(demand, ends),
-    )
-}
-
-// What a call answered; the loads where it gives them, else none.
-#[derive(Clone, Copy)]
-struct Answered {
-    answer: Answer,
-    loads: Loads,
-}
-
-fn without_loads(answer: Answer) -> Answered {
-    Answered {
-        answer,
-        loads: Loads { full: 0, part: 0 },
-    }
-}
-
-fn with_loads(answer: EqualAnswer) -> Answered {
-    match answer {
-        EqualAnswer::Refused(r) => without_loads(Answer::Refused(r)),
-        EqualAnswer::Planned(t, loads) => Answered {
-            answer: Answer::Planned(t),
-            loads,
-        },
-    }
-}
-
-// What a call answered, and whether it left every lent cell as document 01 says.
+// What a call showed: a plan's totals, with its loads where the path counts them, or why it was refused; and whether it left every lent cell as
+// document 01 says.
 #[derive(Clone, Copy)]
 pub struct Outcome {
-    pub answer: Answer,
+    pub answer: Result<(Totals, Option<Loads>), Refusal>,
     pub kept: bool,
 }
 
+fn answered(answer: Answer) -> Result<(Totals, Option<Loads>), Refusal> {
+    match answer {
+        Answer::Refused(refusal) => Err(refusal),
+        Answer::Planned(totals) => Ok((totals, None)),
+    }
+}
+
+fn with_loads(answer: EqualAnswer) -> Result<(Totals, Option<Loads>), Refusal> {
+    match answer {
+        EqualAnswer::Refused(refusal) => Err(refusal),
+        EqualAnswer::Planned(totals, loads) => Ok((totals, Some(loads))),
+    }
+}
+
 // The free path takes no choice area.
-fn plan(
-    path: Path,
-    demand: &[u16],
-    capacity: &[u16],
-    setup: &[u32],
-    unit: &[u32],
-    holding: &[u32],
-    store: &[u16],
-    costs: &mut [u64],
-    choices: &mut [u16],
-    slots: &mut [u16],
-    ends: Ends,
-) -> Answered {
+fn plan(path: Path, day: Day<'_>, memory: &mut Memory) -> Result<(Totals, Option<Loads>), Refusal> {
+    let costs = memory.costs.as_mut_slice();
+    let choices = memory.choices.as_mut_slice();
+    let slots = memory.slots.as_mut_slice();
+    let Day {
+        demand,
+        capacity,
+        setup,
+        unit,
+        holding,
+        store,
+        ends,
+    } = day;
     match path {
-        Path::Full => without_loads(full::plan(
+        Path::Full => answered(full::plan(
             demand, capacity, setup, unit, holding, store, costs, choices, slots, ends,
         )),
-        Path::Uncapped => without_loads(uncapped::plan(
+        Path::Uncapped => answered(uncapped::plan(
             demand, capacity, setup, unit, holding, store, costs, choices, slots, ends,
         )),
         Path::Equal => with_loads(equal::plan(
             demand, capacity, setup, unit, holding, store, costs, choices, slots, ends,
         )),
-        Path::Free => without_loads(free::plan(
+        Path::Free => answered(free::plan(
             demand, capacity, setup, unit, holding, store, costs, slots, ends,
         )),
     }
 }
 
-// After a refusal every cell holds the mark. After a plan the needed cells hold zero; the later ones, and the slots after the plan,
-// hold the mark.
-fn as_left(costs: &[u64], choices: &[u16], slots: &[u16], needed: Cells, n: usize) -> bool {
-    cells::costs_left(costs, needed.costs, true)
-        && cells::amounts_left(choices, needed.choices, true)
-        && cells::amounts_left(slots, n, false)
-}
-
-pub fn print_plan(rt: &impl Print, t: Totals, plan: &[u16]) -> io::Result<()> {
-    print::amounts(rt, plan)?;
-    print::number(rt, b" cost ", t.cost)?;
-    print::number(rt, b" starts ", t.setups)
-}
-
-// Only the equal path counts them.
-fn print_loads(rt: &impl Print, path: Path, loads: Loads) -> io::Result<()> {
-    if let Path::Equal = path {
-        print::number(rt, b" full-load ", loads.full)?;
-        print::number(rt, b" part-loaded ", loads.part)?;
-    }
-    Ok(())
-}
-
-fn print_answer(
-    rt: &impl Print,
-    line: &[u8],
-    path: Path,
-    given: Answered,
-    slots: &[u16],
-    n: usize,
-    kept: bool,
-) -> io::Result<()> {
-    if line.len() == 0 {
-        return Ok(());
-    }
-    print::text(rt, text::name(line))?;
-    name_of(rt, path)?;
-    let answer = given.answer;
-    match answer {
-        Answer::Refused(r) => print::refusal(rt, r)?,
-        Answer::Planned(t) => {
-            let end = text::least(n, slots.len());
-            print_plan(rt, t, &slots[0..end])?;
-            print_loads(rt, path, given.loads)?;
-        }
-    }
-    print::unless(rt, kept)?;
-    print::end(rt)
-}
-
-// The cells that a call clears: none where it refuses.
-fn cleared(path: Path, answer: Answer, demand: &[u16], ends: Ends) -> Cells {
-    match answer {
-        Answer::Refused(_) => Cells {
-            costs: 0,
-            choices: 0,
-        },
-        Answer::Planned(_) => needed(path, demand, ends),
-    }
-}
-
-fn planned(answer: Answer, n: usize) -> usize {
-    match answer {
-        Answer::Refused(_) => 0,
-        Answer::Planned(_) => n,
-    }
-}
-
-// A path in lent memory. It prints the line's name and the answer, unless the line is empty.
-pub fn run(
-    rt: &impl Print,
-    path: Path,
-    line: &[u8],
-    demand: &[u16],
-    capacity: &[u16],
-    setup: &[u32],
-    unit: &[u32],
-    holding: &[u32],
-    store: &[u16],
-    costs: &mut [u64],
-    choices: &mut [u16],
-    slots: &mut [u16],
-    ends: Ends,
-) -> io::Result<Outcome> {
-    let given = plan(
-        path, demand, capacity, setup, unit, holding, store, costs, choices, slots, ends,
-    );
-    let answer = given.answer;
-    let n = planned(answer, demand.len());
-    let kept = as_left(
-        costs,
-        choices,
-        slots,
-        cleared(path, answer, demand, ends),
-        n,
-    );
-    print_answer(rt, line, path, given, slots, n, kept)?;
-    Ok(Outcome { answer, kept })
+// A path in lent memory.
+pub fn run(path: Path, day: Day<'_>, memory: &mut Memory) -> Outcome {
+    let answer = plan(path, day, memory);
+    let kept = match answer {
+        Ok(_) => memory.is_cleared(needed(path, day), day.demand.len()),
+        Err(_) => memory.is_marked(),
+    };
+    Outcome { answer, kept }
 }
 
 // One path in so many cells and slots.
-fn within(
-    rt: &impl Print,
+fn within<R: Print + AllocGlobal>(
+    rt: &R,
+    line: Line<'_>,
     path: Path,
-    line: &[u8],
-    demand: &[u16],
-    capacity: &[u16],
-    setup: &[u32],
-    unit: &[u32],
-    holding: &[u32],
-    store: &[u16],
-    costs: usize,
-    choices: usize,
+    day: Day<'_>,
+    cells: Cells,
     slots: usize,
-    ends: Ends,
 ) -> io::Result<()> {
-    let mut cost_area = [119u64; 8196];
-    let mut choice_area = [MARK; 393314];
-    let mut slot_area = [MARK; 130];
-    let a = text::least(costs, 8196);
-    let b = text::least(choices, 393314);
-    let c = text::least(slots, 130);
-    run(
-        rt,
-        path,
-        line,
-        demand,
-        capacity,
-        setup,
-        unit,
-        holding,
-        store,
-        &mut cost_area[0..a],
-        &mut choice_area[0..b],
-        &mut slot_area[0..c],
-        ends,
-    )?;
-    Ok(())
-}
-
-// One path in two cells and a slot more than it needs.
-fn roomy(
-    rt: &impl Print,
-    path: Path,
-    line: &[u8],
-    demand: &[u16],
-    capacity: &[u16],
-    setup: &[u32],
-    unit: &[u32],
-    holding: &[u32],
-    store: &[u16],
-    ends: Ends,
-) -> io::Result<()> {
-    let need = needed(path, demand, ends);
-    let slots = text::least(demand.len(), 128) + 1;
-    within(
-        rt,
-        path,
-        line,
-        demand,
-        capacity,
-        setup,
-        unit,
-        holding,
-        store,
-        need.costs + 2,
-        need.choices + 2,
-        slots,
-        ends,
-    )
-}
-
-// The four paths, by number.
-pub fn path_of(k: usize) -> Path {
-    match k {
-        0 => Path::Full,
-        1 => Path::Uncapped,
-        2 => Path::Equal,
-        _ => Path::Free,
+    let mut memory = Memory::new(rt.alloc(), cells, slots)?;
+    let outcome = run(path, day, &mut memory);
+    print!(rt; "{} {path}", line.name)?;
+    match outcome.answer {
+        Err(refusal) => print!(rt; "{}", Refused(refusal))?,
+        Ok((totals, loads)) => {
+            let plan = memory.plan(day.demand.len());
+            print!(rt; "{}{}", Amounts(plan), Cost(totals))?;
+            if let Some(loads) = loads {
+                print!(rt; "{}", LoadCounts(loads))?;
+            }
+        }
     }
+    println!(rt; "{}", Kept(outcome.kept))
 }
 
-pub fn all(
-    rt: &impl Print,
-    line: &[u8],
-    demand: &[u16],
-    capacity: &[u16],
-    setup: &[u32],
-    unit: &[u32],
-    holding: &[u32],
-    store: &[u16],
-    ends: Ends,
-) -> io::Result<()> {
-    let mut k = 0;
-    while k < 4 {
-        roomy(
+// Each path in two cells and a slot more than it needs.
+pub fn all<R: Print + AllocGlobal>(rt: &R, line: Line<'_>, day: Day<'_>) -> io::Result<()> {
+    for path in Path::ALL {
+        let need = needed(path, day);
+        let cells = Cells {
+            costs: need.costs.saturating_add(2),
+            choices: need.choices.saturating_add(2),
+        };
+        within(
             rt,
-            path_of(k),
             line,
-            demand,
-            capacity,
-            setup,
-            unit,
-            holding,
-            store,
-            ends,
+            path,
+            day,
+            cells,
+            day.demand.len().saturating_add(1),
         )?;
-        k += 1;
     }
     Ok(())
 }
 
 // One path in as many cost cells, choice cells and slots as fields 6, 7 and 8 say.
-pub fn lent(
-    rt: &impl Print,
-    line: &[u8],
-    demand: &[u16],
-    capacity: &[u16],
-    setup: &[u32],
-    unit: &[u32],
-    holding: &[u32],
-    store: &[u16],
-    ends: Ends,
-) -> io::Result<()> {
-    within(
-        rt,
-        named(text::kind(line)),
-        line,
-        demand,
-        capacity,
-        setup,
-        unit,
-        holding,
-        store,
-        text::size(text::number_in(line, 6)),
-        text::size(text::number_in(line, 7)),
-        text::size(text::number_in(line, 8)),
-        ends,
-    )
+pub fn lent<R: Print + AllocGlobal>(rt: &R, line: Line<'_>, day: Day<'_>) -> io::Result<()> {
+    let cells = Cells {
+        costs: line.number(6),
+        choices: line.number(7),
+    };
+    within(rt, line, Path::of(line.kind), day, cells, line.number(8))
 }

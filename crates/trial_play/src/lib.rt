@@ -3,180 +3,115 @@
 
 use day::Ends;
 use play::{Flows, PlayAnswer};
+use std::alloc::AllocError;
 use std::io;
-use tiny_days::{Capacities, Stores};
-use trial_paths::tiny;
-use trial_text::{cells, print, text};
+use trial_paths::tiny::{day_of, days_of};
+use trial_plans::Broken;
+use trial_text::counts::Counts;
+use trial_text::days::{Day, summed};
+use trial_text::line::{Line, numbers};
+use trial_text::show::Refused;
 
-fn print_answer(rt: &impl Print, answer: PlayAnswer) -> io::Result<()> {
-    match answer {
-        PlayAnswer::Refused(r) => print::refusal(rt, r),
-        PlayAnswer::Broken(rule, period) => trial_plans::broken(rt, rule, period),
-        PlayAnswer::Played(f) => {
-            print::number(rt, b" made ", f.produced)?;
-            print::number(rt, b" delivered ", f.delivered)?;
-            print::number(rt, b" missed ", f.lost)?;
-            print::number(rt, b" spilled ", f.disposed)?;
-            print::number(rt, b" left ", f.left)
-        }
-    }
+// A plan of a day against a table of actual needs.
+fn played(day: Day<'_>, plan: &[u16], actual: &[u16]) -> PlayAnswer {
+    play::play(
+        day.demand,
+        day.capacity,
+        day.setup,
+        day.unit,
+        day.holding,
+        day.store,
+        plan,
+        actual,
+        day.ends,
+    )
 }
 
 // The plan of field 6 against the needs of field 7.
-pub fn play(
-    rt: &impl Print,
-    line: &[u8],
-    demand: &[u16],
-    capacity: &[u16],
-    setup: &[u32],
-    unit: &[u32],
-    holding: &[u32],
-    store: &[u16],
-    ends: Ends,
-) -> io::Result<()> {
-    let mut plan = [0u16; 128];
-    let mut actual = [0u16; 128];
-    let n = text::amounts(text::field(line, 6), 1, &mut plan);
-    let m = text::amounts(text::field(line, 7), 1, &mut actual);
-    print::text(rt, text::name(line))?;
-    print::text(rt, b" play")?;
-    let answer = play::play(
-        demand,
-        capacity,
-        setup,
-        unit,
-        holding,
-        store,
-        &plan[0..n],
-        &actual[0..m],
-        ends,
-    );
-    print_answer(rt, answer)?;
-    print::end(rt)
+pub fn play<R: Print + AllocGlobal>(rt: &R, line: Line<'_>, day: Day<'_>) -> io::Result<()> {
+    let plan = numbers(rt.alloc(), line.field(6))?;
+    let actual = numbers(rt.alloc(), line.field(7))?;
+    print!(rt; "{} play", line.name)?;
+    match played(day, plan.as_slice(), actual.as_slice()) {
+        PlayAnswer::Refused(refusal) => println!(rt; "{}", Refused(refusal)),
+        PlayAnswer::Broken(rule, period) => println!(rt; "{}", Broken { rule, period }),
+        PlayAnswer::Played(
+            Flows {
+                produced,
+                delivered,
+                lost,
+                disposed,
+                left,
+            },
+        ) => {
+            println!(rt;
+                " made {produced} delivered {delivered} missed {lost} spilled {disposed} left {left}"
+            )
+        }
+    }
+}
+
+// What is counted.
+#[derive(Clone, Copy)]
+enum Seen {
+    // Days with a plan.
+    Plans = 0,
+    // Plans played against the needs that they were made for, balanced and as planned.
+    AsPlanned = 1,
+    // Plans played against other needs, balanced; those that then miss; those that spill.
+    Balanced = 2,
+    Missed = 3,
+    Spilled = 4,
+    // Days on which nothing is played, and the search found no plan.
+    Unplayed = 5,
+}
+
+impl From<Seen> for u8 {
+    fn from(seen: Seen) -> u8 {
+        seen as u8
+    }
 }
 
 // Whether both sums of document 02 come out: opening + made = delivered + spilled + left, and delivered + missed = needed.
-fn balanced(f: Flows, needed: usize, ends: Ends) -> bool {
-    let gone = f.delivered.wrapping_add(f.disposed);
-    (ends.opening as u64).wrapping_add(f.produced) == gone.wrapping_add(f.left)
-        && f.delivered.wrapping_add(f.lost) == needed as u64
+fn balanced(flows: Flows, needs: &[u16], ends: Ends) -> bool {
+    let gone = flows.delivered.wrapping_add(flows.disposed);
+    u64::from(ends.opening).wrapping_add(flows.produced) == gone.wrapping_add(flows.left)
+        && flows.delivered.wrapping_add(flows.lost) == summed(needs) as u64
 }
 
 // Whether a plan did what it was made for: nothing missed or spilled, and the closing charge left.
-fn as_planned(f: Flows, closing: u16) -> bool {
-    f.lost == 0 && f.disposed == 0 && f.left == closing as u64
+fn as_planned(flows: Flows, ends: Ends) -> bool {
+    flows.lost == 0 && flows.disposed == 0 && flows.left == u64::from(ends.closing)
 }
 
-// Count 1: plans played against the needs that they were made for, balanced and as planned.
-fn count_planned(counts: &mut [u64; 21], answer: PlayAnswer, needed: usize, ends: Ends) {
-    if let PlayAnswer::Played(f) = answer {
-        cells::count_if(
-            counts,
-            1,
-            balanced(f, needed, ends) && as_planned(f, ends.closing),
-        );
+// The search's plan of a day, against the day's needs and against others.
+fn compare(day: Day<'_>, other: &[u16], counts: &mut Counts) -> Result<(), AllocError> {
+    let best = trial_plans::search(day);
+    let plan = best.map_or([0; 4], |best| best.plan);
+    counts.count_if(Seen::Plans, best.is_some())?;
+    if let PlayAnswer::Played(flows) = played(day, &plan, day.demand) {
+        let right = balanced(flows, day.demand, day.ends) && as_planned(flows, day.ends);
+        counts.count_if(Seen::AsPlanned, right)?;
     }
-}
-
-// Counts 2, 3 and 4: plans played against other needs, balanced; those that miss; those that spill. 5: days on which nothing is played, and
-// the search found no plan.
-fn count_other(counts: &mut [u64; 21], answer: PlayAnswer, needed: usize, ends: Ends, found: bool) {
-    match answer {
-        PlayAnswer::Played(f) => {
-            cells::count_if(counts, 2, balanced(f, needed, ends));
-            cells::count_if(counts, 3, 0 < f.lost);
-            cells::count_if(counts, 4, 0 < f.disposed);
+    match played(day, &plan, other) {
+        PlayAnswer::Played(flows) => {
+            counts.count_if(Seen::Balanced, balanced(flows, other, day.ends))?;
+            counts.count_if(Seen::Missed, 0 < flows.lost)?;
+            counts.count_if(Seen::Spilled, 0 < flows.disposed)
         }
-        _ => cells::count_if(counts, 5, !found),
+        _ => counts.count_if(Seen::Unplayed, best.is_none()),
     }
 }
 
-// The search's plan of a day, against the day's needs and against others. Count 0: the days with a plan.
-fn compare(
-    demand: &[u16],
-    capacity: &[u16],
-    setup: &[u32],
-    unit: &[u32],
-    holding: &[u32],
-    store: &[u16],
-    drawn: [u16; 4],
-    counts: &mut [u64; 21],
-    ends: Ends,
-) {
-    let other = &drawn[0..text::least(demand.len(), 4)];
-    let best = plain::search(demand, capacity, setup, unit, holding, store, ends);
-    let plan = best.plan;
-    let planned = play::play(
-        demand, capacity, setup, unit, holding, store, &plan, demand, ends,
-    );
-    let answer = play::play(
-        demand, capacity, setup, unit, holding, store, &plan, other, ends,
-    );
-    cells::count_if(counts, 0, best.found);
-    count_planned(counts, planned, cells::summed(demand), ends);
-    count_other(counts, answer, cells::summed(other), ends, best.found);
-}
-
-// The day of a seed, its plan played against the needs of the day after it too; and that day's seed.
-fn one_day(
-    seed: u32,
-    capacities: Capacities,
-    stores: Stores,
-    counts: &mut [u64; 21],
-    most: u16,
-) -> u32 {
-    let d = tiny_days::make_up(seed, capacities, stores, most);
-    let next = tiny_days::make_up(d.seed, capacities, stores, most);
-    let n = d.n;
-    let demand = d.demand;
-    let capacity = d.capacity;
-    let setup = d.setup;
-    let unit = d.unit;
-    let holding = d.holding;
-    let store = d.store;
-    let drawn = next.demand;
-    compare(
-        &demand[0..n],
-        &capacity[0..n],
-        &setup[0..n],
-        &unit[0..n],
-        &holding[0..n],
-        &store[0..n],
-        drawn,
-        counts,
-        d.ends,
-    );
-    d.seed
-}
-
-fn days(
-    capacities: Capacities,
-    stores: Stores,
-    seed: u32,
-    days: u32,
-    counts: &mut [u64; 21],
-    most: u16,
-) {
-    let mut s = seed;
-    let mut i = 0;
-    while i < days {
-        s = one_day(s, capacities, stores, counts, most);
-        i += 1;
+// Made-up days, laid out as those of the paths; each day's plan is played against the needs of the day after it too.
+pub fn made_up<R: Print + AllocGlobal>(rt: &R, text: &str) -> io::Result<()> {
+    let days = days_of(Line::new(text));
+    let kind = days.kind;
+    let mut counts = Counts::new(rt.alloc());
+    for tiny in days {
+        let day = day_of(&tiny);
+        let other = kind.make_up(tiny.seed).demand;
+        compare(day, &other[..day.demand.len().min(4)], &mut counts)?;
     }
-}
-
-// Made-up days, laid out as those of the paths.
-pub fn made_up(rt: &impl Print, line: &[u8]) -> io::Result<()> {
-    let mut counts = [0u64; 21];
-    days(
-        tiny::named(text::name(line)),
-        tiny::stores_of(text::field(line, 4)),
-        text::number_in(line, 1),
-        text::number_in(line, 2),
-        &mut counts,
-        text::low(text::number_in(line, 3)),
-    );
-    print::text(rt, line)?;
-    print::counts(rt, counts)?;
-    print::end(rt)
+    println!(rt; "{text}{counts}")
 }
