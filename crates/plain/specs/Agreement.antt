@@ -1,8 +1,7 @@
 -- When a path's answer agrees with what the plain search found. Main definition: `Agreement`. Assumes nothing.
-use Rattle.std.specs.Prelude.{◌≡◌, if◌then◌else◌, List, ℕ, ◌≤◌, ◌<◌, nat_lt, length, Option, None, IsSomeAnd}
+use Rattle.std.specs.Prelude.{◌≡◌, if◌then◌else◌, List, ℕ, ◌≤◌, ◌<◌, nat_lt, length, Option, None, IsSomeAnd, Result, Ok, Err}
 use Rattle.day.specs.declared.Totals.{Totals}
-use Rattle.day.specs.declared.Answer.{Answer}
-use Rattle.day.specs.declared.Answer.TheVariants.{Refused, Planned}
+use Rattle.day.specs.declared.Refusal.{Refusal}
 use Rattle.day.specs.Sums.{at}
 use Rattle.day.specs.Day.{Day, periods, required}
 use Rattle.day.specs.Refusals.{number_of}
@@ -23,10 +22,10 @@ abbrev pub without_plan : Day → ℕ
 without_plan d = if nat_lt (required d) d.opening then 14 else 7
 
 -- the plan found; or that refusal, where none was found
-abbrev pub Agrees : Day → Option Best → Answer → List ℕ → Type 0
-Agrees d best (Refused r) slots = (best ≡ None) × (number_of r ≡ without_plan d)
-Agrees d best (Planned t) slots = IsSomeAnd best (λ found. Same found (periods d) t slots)
+abbrev pub Agrees : Day → Option Best → Result Totals Refusal → List ℕ → Type 0
+Agrees d best (Err r) slots = (best ≡ None) × (number_of r ≡ without_plan d)
+Agrees d best (Ok t) slots = IsSomeAnd best (λ found. Same found (periods d) t slots)
 
 -- and the day has at most four periods
-abbrev pub Agreement : Day → Option Best → Answer → List ℕ → Type 0
+abbrev pub Agreement : Day → Option Best → Result Totals Refusal → List ℕ → Type 0
 Agreement d best answer slots = (periods d ≤ 4) × Agrees d best answer slots

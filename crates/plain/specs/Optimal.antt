@@ -1,26 +1,25 @@
 -- What the search finds on a tiny day is the plan of the day: the cheapest, and of the cheapest the smallest. The plans' numbers are in the
 -- order of `Smaller`, and every plan of a tiny day has one.
 -- Main definition: `Searched`; main statement: `chosen_optimal`. Assumes nothing.
-use Rattle.std.specs.Prelude.{◌≡◌, refl, ℕ, zero, suc, ◌+◌, ◌*◌, ◌/◌, ◌%◌, ◌≤◌, ◌<◌, Option, None, Some}
+use Rattle.std.specs.Prelude.{◌≡◌, refl, ℕ, zero, suc, ◌+◌, ◌*◌, ◌/◌, ◌%◌, ◌≤◌, ◌<◌, Option, None, Some, Ok, Err}
 use Rattle.std.proofs.Common.{sym, ◌∙◌, mod-lt, arith}
-use Rattle.std.proofs.Math.Option.{none}
 use Rattle.std.proofs.Math.Nat.{div-add-mod}
+use Rattle.day.specs.declared.Totals.{Totals}
 use Rattle.day.specs.Sums.{at, sum_grows}
 use Rattle.day.specs.Search.{kept_alike, cost_alike}
 use Rattle.day.specs.Day.{Day, periods, total}
 use Rattle.day.specs.Plan.{Feasible, Smaller, Precedes, Optimal, cost}
 use Rattle.day.specs.Figures.{first_value}
 use Rattle.day.specs.Outcome.{Counts}
-use Rattle.weigher.specs.declared.Verdict.TheVariants.{Holds}
-use Rattle.weigher.specs.Verdict.{verdict_of, totals_of}
-use Rattle.weigher.specs.Answers.{weigh_refusal}
+use Rattle.weigher.specs.Verdict.{Verdict, totals_of}
+use Rattle.weigher.specs.Answers.{weigh_refusal, judged}
 use Rattle.weigher.specs.Theorems.{holds_feasible, feasible_holds}
 use Rattle.plain.specs.declared.Best.{Best}
 use Rattle.plain.specs.Search.{plan_of, plans_of, HoldsAs, Leads, Chosen}
 
 -- a day that the weigher accepts, of one to four periods, in which it makes at most 10
 pub record TinyDay (d : Day) : Type 0 where
-  pub accepted : weigh_refusal d (plan_of 0) ≡ none
+  pub accepted : weigh_refusal d (plan_of 0) ≡ None
   pub some : 1 ≤ periods d
   pub few : periods d ≤ 4
   pub low : total d ≤ 10
@@ -105,6 +104,11 @@ plans_are (suc (suc (suc zero))) a b = refl
 plans_are (suc (suc (suc (suc zero)))) a b = refl
 plans_are (suc (suc (suc (suc (suc n))))) a b = absurd (omega arith)
 
+-- a verdict is "holds" where the weigher answers so
+judged_holds : (v : Verdict) (t : Totals) → judged v ≡ Ok t → v ≡ Ok t
+judged_holds (Ok u) t e = cc
+judged_holds (Err b) t e = cc
+
 module _ (d : Day) (tiny : TinyDay d) where
   abbrev n : ℕ
   n = periods d
@@ -136,8 +140,7 @@ module _ (d : Day) (tiny : TinyDay d) where
     kept : Feasible d (at best.plan) × Counts d (at best.plan) best.totals
     kept =
         let h = rw tiny.accepted at l.holds in
-        let e : verdict_of d (at (plan_of b)) ≡ Holds best.totals = cc in
-        rw l.plan (holds_feasible d (at (plan_of b)) tiny.some best.totals e)
+        rw l.plan (holds_feasible d (at (plan_of b)) tiny.some best.totals (judged_holds _ _ h))
 
     lead_digit : (k : ℕ) → k < n → at best.plan k ≡ digit b k
     lead_digit k h = rw l.plan (plan_digit b k (omega (arith, tiny.few)))

@@ -1,14 +1,11 @@
 -- What the plain search finds among the numbered plans, by the weigher's verdicts.
 -- Main definition: `Chosen`; main statement: `chosen_more`, one plan more. Assumes nothing.
-use Rattle.std.specs.Prelude.{◌≡◌, refl, Bool, true, false, if◌then◌else◌, ◌&&◌, List, [], ◌∷◌, ℕ, suc, ◌/◌, ◌%◌, ◌^◌, ◌≤◌, ◌<◌, nat_le, Option, None, Some}
+use Rattle.std.specs.Prelude.{◌≡◌, refl, Bool, true, false, if◌then◌else◌, ◌&&◌, List, [], ◌∷◌, ℕ, suc, ◌/◌, ◌%◌, ◌^◌, ◌≤◌, ◌<◌, nat_le, Option, None, Some, Ok, Err}
 use Rattle.std.proofs.Common.{arith, leb-true, leb-false}
 use Rattle.day.specs.declared.Totals.{Totals}
 use Rattle.day.specs.Sums.{below}
 use Rattle.day.specs.Day.{Day}
-use Rattle.weigher.specs.declared.Verdict.TheVariants.{Holds, Broken}
-use Rattle.weigher.specs.declared.Weighed.{Weighed}
-use Rattle.weigher.specs.declared.Weighed.TheVariants.{Refused, Judged}
-use Rattle.weigher.specs.Answers.{weighed_of}
+use Rattle.weigher.specs.Answers.{Weighed, weighed_of}
 use Rattle.plain.specs.declared.Best.{Best}
 
 -- plan number m: its amounts are the digits of m to base 11, the last period's the highest
@@ -25,14 +22,13 @@ found_as t plan = record { totals = t; plan = plan }
 
 -- the better of the best so far and a plan that has been weighed; of equally cheap ones the best so far
 abbrev pub better_of : Option Best → List ℕ → Weighed → Option Best
-better_of best plan (Refused r) = best
-better_of best plan (Judged (Broken r i)) = best
-better_of None plan (Judged (Holds t)) = Some (found_as t plan)
-better_of (Some b) plan (Judged (Holds t)) = if nat_le b.totals.cost t.cost then Some b else Some (found_as t plan)
+better_of best plan (Err fault) = best
+better_of None plan (Ok t) = Some (found_as t plan)
+better_of (Some b) plan (Ok t) = if nat_le b.totals.cost t.cost then Some b else Some (found_as t plan)
 
 -- the weigher says of plan number j that it holds, with these totals
 abbrev pub HoldsAs : Day → ℕ → Totals → Type 0
-HoldsAs d j t = weighed_of d (plan_of j) ≡ Judged (Holds t)
+HoldsAs d j t = weighed_of d (plan_of j) ≡ Ok t
 
 -- of the first m plans, the one with number b leads: it holds, with the cost and setups found, and every plan that holds
 -- costs more, or as much and has no smaller number
@@ -101,7 +97,6 @@ module _ (d : Day) (m : ℕ) where
           taken t e (λ j l u f. omega (arith, leb-false _ _ q, (c.1.first j l u f).0))
 
       go : (w : Weighed) → weighed_of d (plan_of m) ≡ w → (best : Option Best) → Chosen d m best → Chosen d (suc m) (better_of best (plan_of m) w)
-      go (Refused r) e best c = same (λ t q. let z : ◌≡◌ {A = ℕ} 0 1 = cc in omega arith) best c
-      go (Judged (Broken r i)) e best c = same (λ t q. let z : ◌≡◌ {A = ℕ} 0 1 = cc in omega arith) best c
-      go (Judged (Holds t)) e None c = taken t e (λ j l u f. absurd (c j l u f))
-      go (Judged (Holds t)) e (Some best) c = cheaper t e best (nat_le best.totals.cost t.cost) refl c
+      go (Err fault) e best c = same (λ t q. let z : ◌≡◌ {A = ℕ} 0 1 = cc in omega arith) best c
+      go (Ok t) e None c = taken t e (λ j l u f. absurd (c j l u f))
+      go (Ok t) e (Some best) c = cheaper t e best (nat_le best.totals.cost t.cost) refl c

@@ -2,15 +2,15 @@
 //! A tiny day has one to four periods, in which it makes at most 10 in all.
 #![tactic(auto)]
 
-ghost use Rattle.std.specs.Prelude.{◌≡◌, ◌↔◌, [], ◌≤◌, length, IsTrue};
-ghost use Rattle.day.specs.Day.{day_of};
-ghost use Rattle.day.specs.Lent.{day_before};
+ghost use Rattle.std.specs.Prelude.{◌≡◌, ◌↔◌, ◌≤◌, IsTrue};
+ghost use Rattle.day.specs.Day.{periods};
+ghost use Rattle.day.specs.Lent.{lent_day};
 ghost use Rattle.plain.specs.Agreement.{SamePlan, without_plan, Agreement};
 ghost use Rattle.plain.specs.Search.{plan_of, plans_of, better_of};
 ghost use Rattle.plain.specs.Optimal.{Searched};
 
-use day::{Answer, Ends, Totals};
-use weigher::{Verdict, Weighed};
+use day::{Day, Refusal, Totals};
+use weigher::Fault;
 
 // What the search finds: the day's plan in the first cells, with its cost and setups.
 #[derive(Clone, Copy)]
@@ -39,10 +39,10 @@ fn plans(n: usize) -> u32
 }
 
 // The better of the best so far and a plan that has been weighed; of equally cheap ones the best so far.
-fn better(best: Option<Best>, plan: [u16; 4], weighed: Weighed) -> Option<Best>
+fn better(best: Option<Best>, plan: [u16; 4], weighed: Result<Totals, Fault>) -> Option<Best>
     ensures { result ≡ better_of best plan weighed }
 {
-    let Weighed::Judged(Verdict::Holds(totals)) = weighed else {
+    let Ok(totals) = weighed else {
         return best;
     };
     match best {
@@ -52,21 +52,13 @@ fn better(best: Option<Best>, plan: [u16; 4], weighed: Weighed) -> Option<Best>
 }
 
 // The plan of a tiny day: every plan with amounts up to 10 is weighed, in the order of their numbers, and the first of the cheapest kept.
-pub fn search(
-    demand: &[u16],
-    capacity: &[u16],
-    setup: &[u32],
-    unit: &[u32],
-    holding: &[u32],
-    store: &[u16],
-    ends: Ends,
-) -> Option<Best>
-    ensures { Searched (day_before demand capacity setup unit holding store ends) result }
+pub fn search(day: Day) -> Option<Best>
+    ensures { Searched (lent_day day.entry) result }
 {
     let mut best = None;
-    for m in 0..plans(demand.len()) {
+    for m in 0..plans(day.periods()) {
         let plan = plan_of(m);
-        let weighed = weigher::weigh(demand, capacity, setup, unit, holding, store, &plan, ends);
+        let weighed = weigher::weigh(day, &plan);
         best = better(best, plan, weighed);
     }
     best
@@ -81,11 +73,11 @@ fn same_plan(plan: [u16; 4], n: usize, slots: &[u16]) -> bool
 }
 
 // The refusal's number of a day without a plan: 14 where A is above R + Z, else 7.
-fn without_plan(demand: &[u16], ends: Ends) -> u8
-    requires { length demand.now ≤ 4 }
-    ensures { result ≡ without_plan (day_of demand.now [] [] [] [] [] ends) }
+fn without_plan(day: Day) -> u8
+    requires { periods (lent_day day) ≤ 4 }
+    ensures { result ≡ without_plan (lent_day day.entry) }
 {
-    if checks::required(demand, ends) < (ends.opening as u64) {
+    if checks::required(day) < u64::from(day.ends.opening) {
         14
     } else {
         7
@@ -94,18 +86,19 @@ fn without_plan(demand: &[u16], ends: Ends) -> u8
 
 // Whether a path's answer on a day of at most four periods is what the search found: its plan, cost and setups, or where there is none
 // refusal 14 or 7.
-pub fn agrees(best: Option<Best>, demand: &[u16], answer: Answer, slots: &[u16], ends: Ends) -> bool
-    ensures { IsTrue result ↔ Agreement (day_of demand.now [] [] [] [] [] ends) best answer slots.now }
+pub fn agrees(best: Option<Best>, day: Day, answer: Result<Totals, Refusal>, slots: &[u16]) -> bool
+    ensures { IsTrue result ↔ Agreement (lent_day day.entry) best answer slots.now }
 {
-    if 4 < demand.len() {
+    let n = day.periods();
+    if 4 < n {
         return false;
     }
     match (answer, best) {
-        (Answer::Refused(r), None) => r.number() == without_plan(demand, ends),
-        (Answer::Planned(t), Some(found)) => {
-            t.cost == found.totals.cost
-                && t.setups == found.totals.setups
-                && same_plan(found.plan, demand.len(), slots)
+        (Err(refusal), None) => refusal.number() == without_plan(day),
+        (Ok(totals), Some(found)) => {
+            totals.cost == found.totals.cost
+                && totals.setups == found.totals.setups
+                && same_plan(found.plan, n, slots)
         }
         _ => false,
     }
