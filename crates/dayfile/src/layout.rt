@@ -1,13 +1,12 @@
-// Records by kind and length, the stamp, and the walk from the file's front to its end record, which opens every call on a file.
+// Records by kind and length, the stamp, the head, and where the period records stand.
 ghost use Rattle.std.specs.Prelude.{◌≡◌, ◌+◌, ◌≤◌, ◌<◌, length};
-ghost use Rattle.day.specs.Refusals.{checked};
 ghost use Rattle.day.specs.File.{next, number2, number4, is_record, is_period, is_charges, is_stamped, charges_at, head_end, record_at};
-ghost use Rattle.day.specs.File.{periods_in, is_misplaced, bad_end, walk, stamp_of};
+ghost use Rattle.day.specs.File.{periods_in, stamp_of};
 ghost use Rattle.dayfile.specs.Answers.{BodyAt};
 ghost use Rattle.dayfile.specs.Kinds.{byte_of};
 
 use crate::kind::Kind;
-use day::{Check, Refusal, Stamp};
+use day::Stamp;
 
 // A store limit that limits nothing: no record holds it. It is no Option, since it stands in a lent cell of 16 bits.
 pub const NO_LIMIT: u16 = 65535;
@@ -132,46 +131,4 @@ pub fn record_at(file: &[u8], i: usize) -> usize
         at = next(file, at);
     }
     at
-}
-
-// Whether the record of `kind` at `at` is a stamp that doesn't stand first, or charges that don't stand at `charges`.
-fn is_misplaced(kind: Kind, at: usize, charges: usize) -> bool
-    ensures { result ≡ is_misplaced (byte_of kind) at charges }
-{
-    match kind {
-        Kind::Stamp => at != 0,
-        Kind::Charges => at != charges,
-        _ => false,
-    }
-}
-
-// 10, 11, 12, at the record after `n` period records, which is to be the end record.
-fn end_record(file: &[u8], at: usize, n: usize) -> Check
-    ensures { result ≡ checked (bad_end file.now at n) }
-{
-    if file.len() <= at {
-        return Check::Refused(Refusal::TruncatedFile);
-    }
-    let Ok(kind) = Kind::try_from(file[at]) else {
-        return Check::Refused(Refusal::UnknownKind);
-    };
-    if is_misplaced(kind, at, charges_at(file)) {
-        return Check::Refused(Refusal::WrongEnd);
-    }
-    let end = next(file, at);
-    if file.len() < end {
-        return Check::Refused(Refusal::TruncatedFile);
-    }
-    if kind != Kind::End || file.len() != end || usize::from(number2(body(file, at), 0)) != n {
-        return Check::Refused(Refusal::WrongEnd);
-    }
-    Check::Passed
-}
-
-// 10, 11, 12, of a file of `n` period records.
-pub fn walk(file: &[u8], n: usize) -> Check
-    requires { n ≡ periods_in file.now }
-    ensures { result ≡ checked (walk file.now) }
-{
-    end_record(file, record_at(file, n), n)
 }

@@ -5,6 +5,7 @@ ghost use Rattle.day.specs.Figures.{Checks};
 ghost use Rattle.day.specs.File.{no_such_period};
 ghost use Rattle.dayfile.specs.Answers.{bad_lookup, Lookup};
 
+use crate::file::DayFile;
 use crate::layout;
 use day::{Check, Refusal};
 
@@ -22,8 +23,9 @@ fn number(n: usize, period: usize) -> Check
 pub fn check(file: &[u8], period: usize) -> Check
     ensures { Checks (bad_lookup file.now period) result }
 {
-    let n = layout::periods(file);
-    let walked = layout::walk(file, n);
+    let file = DayFile::new(file);
+    let n = file.periods;
+    let walked = file.walk();
     checks::in_order(
         walked,
         checks::in_order(checks::count(n), number(n, period)),

@@ -46,9 +46,9 @@ pub record PeriodsRead (s : List ℕ) (n : ℕ) (before : Day) (k p : ℕ) (afte
   pub filled : Filled (numbers_at s) n before k after
 
 -- a whole period stands there
-pub period_here : (s : List ℕ) (n : ℕ) (before : Day) (k p : ℕ) (after : Day) → PeriodsRead s n before k p after → n ≡ periods_in s → k < n
+pub period_here : (s : List ℕ) (n : ℕ) (before : Day) (k p : ℕ) (after : Day) → n ≡ periods_in s → PeriodsRead s n before k p after → k < n
     → WholePeriod s p
-period_here s n before k p after w e l = rw w.here (period_at s k (omega arith))
+period_here s n before k p after e w l = rw w.here (period_at s k (omega arith))
 
 -- its body has the five numbers at least that every period has
 pub period_long : (s : List ℕ) (p : ℕ) → WholePeriod s p → 16 ≤ length (body s p)

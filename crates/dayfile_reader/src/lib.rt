@@ -14,6 +14,7 @@ ghost use Rattle.dayfile.specs.Answers.{with_day, bad_read, Reading};
 ghost use Rattle.dayfile_reader.specs.Numbers.{numbers_in};
 
 use day::{Check, Ends, Expected, Refusal};
+use dayfile::file::DayFile;
 use dayfile::kind::Kind;
 use dayfile::{ReadAnswer, layout};
 use tables::Numbers;
@@ -73,10 +74,9 @@ fn ends(file: &[u8]) -> Ends
     }
 }
 
-// The first n cells of each table take the numbers of the file's n periods; later cells stay.
+// The first cells of each table take the numbers of the file's periods; later cells stay.
 fn fill(
-    file: &[u8],
-    n: usize,
+    file: DayFile,
     demand: &mut [u16],
     capacity: &mut [u16],
     setup: &mut [u32],
@@ -84,25 +84,24 @@ fn fill(
     holding: &mut [u32],
     store: &mut [u16],
 )
-    requires periods { n ≡ periods_in file.now }
-    requires cells { Cells n (tables_of demand.old capacity.old setup.old unit.old holding.old store.old) }
+    requires { Cells file.periods (tables_of demand.old capacity.old setup.old unit.old holding.old store.old) }
     ensures { tables_after demand capacity setup unit holding store
-        ≡ with_day file.now (tables_lent demand capacity setup unit holding store) }
+        ≡ with_day file.entry.bytes.now (tables_lent demand capacity setup unit holding store) }
 {
-    let mut at = layout::head_end(file);
-    for k in 0..n {
-        let numbers = period(file, at);
+    let mut at = layout::head_end(file.bytes);
+    for k in 0..file.periods {
+        let numbers = period(file.bytes, at);
         tables::put(k, numbers, demand, capacity, setup, unit, holding, store);
-        at = layout::next(file, at);
+        at = layout::next(file.bytes, at);
     }
 }
 
 // 3. The numbers are taken into tables of its own, so that the test speaks before a lent cell changes.
-fn values(file: &[u8], n: usize) -> Check
-    requires periods { n ≡ periods_in file.now }
-    requires few { n ≤ max_periods }
-    ensures { result ≡ checked (bad_value (day_in file.now)) }
+fn values(file: DayFile) -> Check
+    requires { file.periods ≤ max_periods }
+    ensures { result ≡ checked (bad_value (day_in file.entry.bytes.now)) }
 {
+    let n = file.periods;
     let mut demand = [0u16; 96];
     let mut capacity = [0u16; 96];
     let mut setup = [0u32; 96];
@@ -111,7 +110,6 @@ fn values(file: &[u8], n: usize) -> Check
     let mut store = [0u16; 96];
     fill(
         file,
-        n,
         &mut demand,
         &mut capacity,
         &mut setup,
@@ -129,18 +127,17 @@ fn values(file: &[u8], n: usize) -> Check
     )
 }
 
-// The reader's tests in order, for a file of `n` periods and tables of at least `cells` cells.
-fn tests(file: &[u8], n: usize, cells: usize, expected: Expected) -> Check
-    requires { n ≡ periods_in file.now }
-    ensures { result ≡ checked (bad_read expected file.now cells) }
+// The reader's tests in order, for tables of at least `cells` cells.
+fn tests(file: DayFile, cells: usize, expected: Expected) -> Check
+    ensures { result ≡ checked (bad_read expected file.entry.bytes.now cells) }
 {
-    if let Check::Refused(r) = file_checks::tests(file, n, expected) {
+    if let Check::Refused(r) = file_checks::tests(file, expected) {
         return Check::Refused(r);
     }
-    if cells < n {
+    if cells < file.periods {
         return Check::Refused(Refusal::FewSlots);
     }
-    values(file, n)
+    values(file)
 }
 
 // Reads a file: 10, 11, 12, then 20, 1, 6, 3. Accepted, the tables' first cells take the numbers of its periods, whose count is given,
@@ -158,7 +155,7 @@ pub fn read(
     ensures { Reading expected file.now (tables_lent demand capacity setup unit holding store) result
         (tables_after demand capacity setup unit holding store) }
 {
-    let n = layout::periods(file);
+    let file = DayFile::new(file);
     let cells = tables::shortest(
         demand.len(),
         capacity.len(),
@@ -167,9 +164,9 @@ pub fn read(
         holding.len(),
         store.len(),
     );
-    if let Check::Refused(r) = tests(file, n, cells, expected) {
+    if let Check::Refused(r) = tests(file, cells, expected) {
         return ReadAnswer::Refused(r);
     }
-    fill(file, n, demand, capacity, setup, unit, holding, store);
-    ReadAnswer::Periods(n, ends(file))
+    fill(file, demand, capacity, setup, unit, holding, store);
+    ReadAnswer::Periods(file.periods, ends(file.bytes))
 }

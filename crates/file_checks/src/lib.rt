@@ -3,10 +3,11 @@
 
 ghost use Rattle.std.specs.Prelude.{◌≡◌};
 ghost use Rattle.day.specs.Refusals.{checked, first};
-ghost use Rattle.day.specs.File.{periods_in, same_stamp, has_stamp, is_expected, wrong_stamp};
+ghost use Rattle.day.specs.File.{same_stamp, has_stamp, is_expected, wrong_stamp};
 ghost use Rattle.dayfile.specs.Answers.{file_tests};
 
 use day::{Check, Expected, Refusal, Stamp};
+use dayfile::file::DayFile;
 use dayfile::layout;
 
 fn same_stamp(a: Stamp, b: Stamp) -> bool
@@ -41,12 +42,12 @@ fn stamp(file: &[u8], expected: Expected) -> Check
     Check::Refused(Refusal::WrongStamp)
 }
 
-// What is tested of a file of `n` periods itself: 10, 11, 12, then 20, then 1.
-pub fn tests(file: &[u8], n: usize, expected: Expected) -> Check
-    requires { n ≡ periods_in file.now }
-    ensures { result ≡ checked (first (file_tests expected file.now)) }
+// What is tested of a file itself: 10, 11, 12, then 20, then 1.
+pub fn tests(file: DayFile, expected: Expected) -> Check
+    ensures { result ≡ checked (first (file_tests expected file.entry.bytes.now)) }
 {
-    let walked = layout::walk(file, n);
-    let stamped = stamp(file, expected);
-    checks::in_order(walked, checks::in_order(stamped, checks::count(n)))
+    let walked = file.walk();
+    let stamped = stamp(file.bytes, expected);
+    let rest = checks::in_order(stamped, checks::count(file.periods));
+    checks::in_order(walked, rest)
 }

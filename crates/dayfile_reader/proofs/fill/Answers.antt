@@ -4,17 +4,17 @@ use Rattle.dayfile_reader.specs.Tables.{period_here, read_turn}
 use Rattle.dayfile_reader.proofs.fill.Goals as goal
 
 pub period-numbers-requires : goal.period-numbers-requires
-period-numbers-requires c = period_here _ _ _ _ _ _ c.loop-k.invariant c.requires.periods c.loop-k-test.true
+period-numbers-requires c = period_here _ _ _ _ _ _ c.args.file.counted c.loop-k.invariant c.loop-k-test.true
 
 pub next-at-requires : goal.next-at-requires
-next-at-requires c = omega (arith, (period_here _ _ _ _ _ _ c.loop-k.invariant c.requires.periods c.loop-k-test.true).whole)
+next-at-requires c = omega (arith, (period_here _ _ _ _ _ _ c.args.file.counted c.loop-k.invariant c.loop-k-test.true).whole)
 
 pub loop-k-preserved : goal.loop-k-preserved
 loop-k-preserved c =
-    read_turn _ _ _ _ _ _ _ c.loop-k.invariant c.loop-k-test.true c.requires.cells c.next-at.ensures c.period-numbers.ensures c.put.ensures
+    read_turn _ _ _ _ _ _ _ c.loop-k.invariant c.loop-k-test.true c.requires c.next-at.ensures c.period-numbers.ensures c.put.ensures
 
 pub returns : goal.returns
 returns c =
     let w = c.loop-k.invariant.filled in
-    let e : c.loop-k.k ≡ c.args.n = omega (arith, w.done) in
-    rw (← c.requires.periods, ← e) w.tables
+    let e : c.loop-k.k ≡ c.args.file.periods = omega (arith, w.done) in
+    rw (← c.args.file.counted, ← e) w.tables

@@ -5,5 +5,5 @@ use Rattle.dayfile_reader.proofs.fill.Given as goal
 
 abbrev pub invariant-loop-k : goal.invariant-loop-k
 invariant-loop-k l =
-    PeriodsRead l.fn.file l.fn.n (tables_of l.fn.demand l.fn.capacity l.fn.setup l.fn.unit l.fn.holding l.fn.store) l.k l.at
+    PeriodsRead l.file.bytes.now l.file.periods (tables_of l.fn.demand l.fn.capacity l.fn.setup l.fn.unit l.fn.holding l.fn.store) l.k l.at
     (tables_of l.demand l.capacity l.setup l.unit l.holding l.store)

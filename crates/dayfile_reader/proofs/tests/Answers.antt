@@ -10,32 +10,32 @@ use Rattle.dayfile_reader.proofs.tests.Goals as goal
 
 pub returns-in-Refused : goal.returns-in-Refused
 returns-in-Refused c =
-    let s = c.args.file.now in
+    let s = c.args.file.bytes.now in
     let tests = file_tests c.args.expected s in
     let room = bad_slots c.args.cells (periods_in s) in
     group_refused [] tests refl c.tests.ensures (room ∷ bad_value (day_in s) ∷ []) c.in-Refused.is
 
-pub returns-then-cells-n : goal.returns-then-cells-n
-returns-then-cells-n c =
-    let s = c.args.file.now in
+pub returns-then-cells-file : goal.returns-then-cells-file
+returns-then-cells-file c =
+    let s = c.args.file.bytes.now in
     let tests = file_tests c.args.expected s in
     let room = bad_slots c.args.cells (periods_in s) in
     let sound : first tests ≡ none = passed (first tests) c.tests.ensures c.in_default.is in
-    rw (first_passed tests (room ∷ bad_value (day_in s) ∷ []) sound, lt-ltb _ _ (rw c.requires at c.if-cells-n.true)) refl
+    rw (first_passed tests (room ∷ bad_value (day_in s) ∷ []) sound, lt-ltb _ _ (rw c.args.file.counted at c.if-cells-file.true)) refl
 
-pub values-requires-clause-few : goal.values-requires-clause-few
-values-requires-clause-few c =
-    let s = c.args.file.now in
+pub values-requires : goal.values-requires
+values-requires c =
+    let s = c.args.file.bytes.now in
     let sound = passed (first (file_tests c.args.expected s)) c.tests.ensures c.in_default.is in
-    rw c.requires (file_passed c.args.expected s sound)
+    rw c.args.file.counted (file_passed c.args.expected s sound)
 
 pub returns : goal.returns
 returns c =
-    let s = c.args.file.now in
+    let s = c.args.file.bytes.now in
     let tests = file_tests c.args.expected s in
     let room = bad_slots c.args.cells (periods_in s) in
     let value = bad_value (day_in s) in
     let sound : first tests ≡ none = passed (first tests) c.tests.ensures c.in_default.is in
-    let fits : room ≡ none = simp (le-ltb _ _ (rw c.requires at c.if-cells-n.false)) in
+    let fits : room ≡ none = simp (le-ltb _ _ (rw c.args.file.counted at c.if-cells-file.false)) in
     let ok : first (tests ++ (room ∷ [])) ≡ none = rw (first_passed tests (room ∷ []) sound, fits) refl in
     group_decides (tests ++ (room ∷ [])) (value ∷ []) ok (alone value c.values.ensures)

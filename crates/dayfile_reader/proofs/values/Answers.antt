@@ -10,11 +10,11 @@ use Rattle.dayfile_reader.proofs.values.Goals as goal
 
 pub returns : goal.returns
 returns c =
-    let s = c.args.file.now in
+    let s = c.args.file.bytes.now in
     let zeros : List ℕ = replicate 96 0 in
     let before = tables_of zeros zeros zeros zeros zeros zeros in
     let t = c.fill.new in
     let after = tables_of t.demand t.capacity t.setup t.unit t.holding t.store in
-    let front : first_of (c.args.n - 0) after (ends_of (day_in s)) ≡ day_in s =
-    day_in_front s (c.args.n - 0) _ before after (omega (arith, c.requires.periods)) refl c.fill.ensures in
+    let front : first_of (c.args.file.periods - 0) after (ends_of (day_in s)) ≡ day_in s =
+    day_in_front s (c.args.file.periods - 0) _ before after (omega (arith, c.args.file.counted)) refl c.fill.ensures in
     c.values.ensures ∙ ap (λ (d : Day). checked (bad_value d)) front

@@ -7,8 +7,8 @@ use Rattle.file_checks.proofs.tests.Goals as goal
 
 pub returns : goal.returns
 returns c =
-    let s = c.args.file.now in
+    let s = c.args.file.bytes.now in
     let stamp = wrong_stamp c.args.expected s in
     let count = bad_count (periods_in s) in
-    let rest = in_order_two stamp count c.stamp-stamped.ensures (rw c.requires at c.count.ensures) c.in_order.ensures in
-    in_order_lem (walk s) (stamp ∷ count ∷ []) c.walk-walked.ensures rest c.in_order-2.ensures
+    let rest = in_order_two stamp count c.stamp-stamped.ensures (rw c.args.file.counted at c.count.ensures) c.in_order-rest.ensures in
+    in_order_lem (walk s) (stamp ∷ count ∷ []) c.walk-walked.ensures rest c.in_order.ensures
