@@ -1,22 +1,18 @@
 -- What the calls on day files answer, and what they leave in lent memory; the documents' order of their tests.
 -- Main definitions: `Lookup`, `Reading` and `Writing`, the contracts of the calls; `lookup_figures`, `read_figures`, `write_figures`. Assumes nothing.
-use Rattle.std.specs.Prelude.{◌≡◌, List, [], ◌∷◌, ◌++◌, ℕ, ◌+◌, ◌-◌, length, drop}
-use Rattle.std.proofs.Math.Option.{Option, none, some}
+use Rattle.std.specs.Prelude.{◌≡◌, List, [], ◌∷◌, ◌++◌, ℕ, ◌+◌, ◌-◌, ◌≤◌, length, drop, Option, None, Some, Result, Ok, Err}
 use Rattle.std.specs.Borrow.{Bor}
 use Rattle.day.specs.Sums.{at}
 use Rattle.day.specs.Day.{Day, tables_of, periods}
 use Rattle.day.specs.declared.Stamp.{Stamp}
-use Rattle.day.specs.declared.Expected.{Expected}
-use Rattle.day.specs.File.{body_length, body, record_at, number2, number4, periods_in, walk, wrong_stamp, no_such_period, charge_in, field, store_in}
+use Rattle.day.specs.declared.Ends.{Ends}
+use Rattle.day.specs.File.{body_length, body, next, record_at, number2, number4, periods_in, walk, wrong_stamp, no_such_period, charge_in, field, store_in}
 use Rattle.day.specs.File.{day_in, file_of}
 use Rattle.day.specs.Refusals.{Gives, first, bad_count, bad_slots, bad_value, table_tests}
 use Rattle.day.specs.declared.Refusal.{Refusal}
-use Rattle.day.specs.Figures.{Figures, accepted_with, refused_with}
+use Rattle.day.specs.Figures.{Figures, accepted_with, refused_with, figures_by}
 use Rattle.tables.specs.Filled.{shortest, with_first}
-use Rattle.dayfile.specs.declared.ReadAnswer.{ReadAnswer}
-use Rattle.dayfile.specs.declared.ReadAnswer.TheVariants.{Refused, Periods}
-use Rattle.dayfile.specs.declared.WriteAnswer.{WriteAnswer}
-use Rattle.dayfile.specs.declared.WriteAnswer.TheVariants as Write
+use Rattle.dayfile.specs.declared.lookup.Part.{Part}
 
 -- a lookup: the walk (10, 11, 12), then 1, then 13
 abbrev pub bad_lookup : List ℕ → ℕ → Option Refusal
@@ -28,27 +24,32 @@ pub record BodyAt (file : Bor (List ℕ)) (p : ℕ) (r : Bor (List ℕ)) : Type 
   pub block : r.ref_ptr.0 ≡ file.ref_ptr.0
   pub offset : r.ref_ptr.1 ≡ file.ref_ptr.1 + (p + 1)
 
--- the part handed out for period i, counted from 1: the body of its record, or an empty part where the lookup is refused (where that lies is free)
-abbrev pub Part : Option Refusal → Bor (List ℕ) → ℕ → Bor (List ℕ) → Type 0
-Part none file i r = BodyAt file (record_at file.now (i - 1)) r
-Part (some refusal) file i r = r.now ≡ []
+-- refused, by number and period; else where the record of period i, counted from 1, begins, which is whole
+abbrev pub Finds : List ℕ → ℕ → Result ℕ Refusal → Type 0
+Finds s i (Err r) = Gives (bad_lookup s i) r
+Finds s i (Ok p) = (bad_lookup s i ≡ None) × (p ≡ record_at s (i - 1)) × (next s p ≤ length s)
 
-abbrev pub Lookup : Bor (List ℕ) → ℕ → Bor (List ℕ) → Type 0
-Lookup file i r = Part (bad_lookup file.now i) file i r
+-- refused, by number and period; else the part handed out for period i, counted from 1: the body of its record
+abbrev pub Lookup : Bor (List ℕ) → ℕ → Result (Bor (List ℕ)) Refusal → Type 0
+Lookup file i (Err r) = Gives (bad_lookup file.now i) r
+Lookup file i (Ok part) = (bad_lookup file.now i ≡ None) × BodyAt file (record_at file.now (i - 1)) part
 
 -- a lookup in figures: where the part begins in the file, counted from 0, and how long it is
 abbrev pub part_figures : Option Refusal → List ℕ → ℕ → Figures ℕ
-part_figures none s i = let p = record_at s (i - 1) in accepted_with ((p + 1) ∷ body_length (at s p) ∷ [])
-part_figures (some r) s i = refused_with r
+part_figures None s i = let p = record_at s (i - 1) in accepted_with ((p + 1) ∷ body_length (at s p) ∷ [])
+part_figures (Some r) s i = refused_with r
 
 abbrev pub lookup_figures : List ℕ → ℕ → Figures ℕ
 lookup_figures s i = part_figures (bad_lookup s i) s i
 
+abbrev pub part_values : Part → List ℕ
+part_values p = p.first ∷ p.size ∷ []
+
 -- a reading: the walk (10, 11, 12), 20, then 1; and then 6, 3
-abbrev pub file_tests : Expected → List ℕ → List (Option Refusal)
+abbrev pub file_tests : Option Stamp → List ℕ → List (Option Refusal)
 file_tests expected s = walk s ∷ wrong_stamp expected s ∷ bad_count (periods_in s) ∷ []
 
-abbrev pub bad_read : Expected → List ℕ → ℕ → Option Refusal
+abbrev pub bad_read : Option Stamp → List ℕ → ℕ → Option Refusal
 bad_read expected s cells = first (file_tests expected s ++ (bad_slots cells (periods_in s) ∷ bad_value (day_in s) ∷ []))
 
 -- tables whose first cells take the numbers of the file's periods: its day at their front
@@ -75,21 +76,21 @@ with_tables d tables =
     (d.holding ++ drop n tables.holding)
     (d.store ++ drop n tables.store)
 
--- a reading's answer in figures: the count of periods, A, Z
-abbrev pub read_figures : ReadAnswer → Figures ℕ
-read_figures (Refused r) = refused_with r
-read_figures (Periods n ends) = accepted_with (n ∷ ends.opening ∷ ends.closing ∷ [])
+-- a reading's answer: the count of periods, and the ends; in figures that count, A, Z
+abbrev pub read_values : ℕ × Ends → List ℕ
+read_values p = p.0 ∷ p.1.opening ∷ p.1.closing ∷ []
+
+abbrev pub read_figures : Result (ℕ × Ends) Refusal → Figures ℕ
+read_figures = figures_by read_values refused_with
 
 -- refused, by number and period, no cell changes; accepted, the count of periods is given, with A and Z, and the periods' numbers fill
 -- the tables' first cells
-abbrev pub ReadingAs : Option Refusal → List ℕ → Day → ReadAnswer → Day → Type 0
-ReadingAs o s before (Refused r) after = Gives o r × (after ≡ before)
-ReadingAs o s before (Periods n ends) after =
-    (o ≡ none)
-    × (read_figures (Periods n ends) ≡ accepted_with (periods_in s ∷ charge_in 0 s ∷ charge_in 2 s ∷ []))
-    × (after ≡ with_day s before)
+abbrev pub ReadingAs : Option Refusal → List ℕ → Day → Result (ℕ × Ends) Refusal → Day → Type 0
+ReadingAs o s before (Err r) after = Gives o r × (after ≡ before)
+ReadingAs o s before (Ok p) after =
+    (o ≡ None) × (read_figures (Ok p) ≡ accepted_with (periods_in s ∷ charge_in 0 s ∷ charge_in 2 s ∷ [])) × (after ≡ with_day s before)
 
-abbrev pub Reading : Expected → List ℕ → Day → ReadAnswer → Day → Type 0
+abbrev pub Reading : Option Stamp → List ℕ → Day → Result (ℕ × Ends) Refusal → Day → Type 0
 Reading expected s before = ReadingAs (bad_read expected s (shortest before)) s before
 
 -- a writing: 1, 2, 3, and 6 where the slice is shorter than the file
@@ -101,12 +102,14 @@ abbrev pub with_file : Stamp → Day → List ℕ → List ℕ
 with_file t d out = file_of t d ++ drop (length (file_of t d)) out
 
 -- a writing's answer in figures: the count of bytes
-abbrev pub write_figures : WriteAnswer → Figures ℕ
-write_figures (Write.Refused r) = refused_with r
-write_figures (Write.Bytes n) = accepted_with (n ∷ [])
+abbrev pub write_values : ℕ → List ℕ
+write_values n = n ∷ []
+
+abbrev pub write_figures : Result ℕ Refusal → Figures ℕ
+write_figures = figures_by write_values refused_with
 
 -- refused, by number and period, no byte changes; accepted, the file is written and its length given
-abbrev pub Writing : Stamp → Day → List ℕ → WriteAnswer → List ℕ → Type 0
-Writing t d before (Write.Refused r) after = Gives (bad_write t d (length before)) r × (after ≡ before)
-Writing t d before (Write.Bytes n) after =
-    (bad_write t d (length before) ≡ none) × (write_figures (Write.Bytes n) ≡ accepted_with (length (file_of t d) ∷ [])) × (after ≡ with_file t d before)
+abbrev pub Writing : Stamp → Day → List ℕ → Result ℕ Refusal → List ℕ → Type 0
+Writing t d before (Err r) after = Gives (bad_write t d (length before)) r × (after ≡ before)
+Writing t d before (Ok n) after =
+    (bad_write t d (length before) ≡ None) × (write_figures (Ok n) ≡ accepted_with (length (file_of t d) ∷ [])) × (after ≡ with_file t d before)

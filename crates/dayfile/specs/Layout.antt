@@ -6,11 +6,10 @@
 --     laid_out; counted, walk_clean                           the walk meets no fault exactly if the file is laid out as `Layout` says
 -- Assumes nothing.
 use Rattle.std.specs.Prelude.{◌≡◌, refl, Bool, true, false, not, ◌&&◌, ◌||◌, cond, List, [], ◌∷◌, ℕ, zero, suc, ◌+◌, ◌-◌, ◌≤◌, ◌<◌, eqb, leb, ltb}
-use Rattle.std.specs.Prelude.{length, take, drop}
+use Rattle.std.specs.Prelude.{length, take, drop, Option, None, Some}
 use Rattle.std.proofs.Common.{ap, ◌∙◌, arith, eq-or-lt_of_le, le_of_suc-le-suc, inl, inr, ⊎_elim, length-take, length-drop, eqb-true, leb-true}
 use Rattle.std.proofs.Common.{ltb-true, lt-ltb, le-ltb, le-leb, eq-eqb}
 use Rattle.std.proofs.Math.Bool.{or-true}
-use Rattle.std.proofs.Math.Option.{Option, none, some}
 use Rattle.std.proofs.Math.Nat.{add-sub_cancel_left}
 use Rattle.std.proofs.Math.Arith.{le-zero}
 use Rattle.std.proofs.lemmas.Bool.{not-true, not-false}
@@ -124,13 +123,13 @@ pub period_at : (s : List ℕ) (i : ℕ) → i < periods_in s → WholePeriod s 
 period_at s i = go (find (stops s) (suc (length s))) refl
   where
     go : (o : Option ℕ) → find (stops s) (suc (length s)) ≡ o → i < or_zero o → WholePeriod s (record_at s i)
-    go none e l = absurd (omega arith)
-    go (some k) e l = whole_period s (record_at s i) (not-false _ ((some_found (stops s) (suc (length s)) k e).first i l))
+    go None e l = absurd (omega arith)
+    go (Some k) e l = whole_period s (record_at s i) (not-false _ ((some_found (stops s) (suc (length s)) k e).first i l))
 
 -- a walk that has passed n whole periods stands at byte p
 pub record Walked (s : List ℕ) (n p : ℕ) : Type 0 where
   pub here : p ≡ record_at s n
-  pub passed : find (stops s) n ≡ none
+  pub passed : find (stops s) n ≡ None
   pub far : n ≤ p
   pub inside : p ≤ length s
 
@@ -158,15 +157,15 @@ walked s (suc n) h = walked_more s n (record_at s n) (walked s n (λ i l. h i (o
 pub walk_stops : (s : List ℕ) (n p : ℕ) → Walked s n p → is_period s p ≡ false → walk s ≡ bad_end s p n
 walk_stops s n p w f = rw (walked_end s n p w f, ← w.here) refl
 
-pub known_kind : (s : List ℕ) (p x : ℕ) → at s p ≡ x → is_kind x ≡ true → unknown_kind s p ≡ none
+pub known_kind : (s : List ℕ) (p x : ℕ) → at s p ≡ x → is_kind x ≡ true → unknown_kind s p ≡ None
 known_kind s p x e k = rw (e, k) (go (ltb p (length s)))
   where
-    go : (b : Bool) → refuse (b && false) UnknownKind ≡ none
+    go : (b : Bool) → refuse (b && false) UnknownKind ≡ None
     go true = refl
     go false = refl
 
 -- a file whose walk meets no fault is laid out as the documents say
-pub laid_out : (s : List ℕ) → walk s ≡ none → Layout s (periods_in s)
+pub laid_out : (s : List ℕ) → walk s ≡ None → Layout s (periods_in s)
 laid_out s e =
     let n = periods_in s in
     let p = record_at s n in
@@ -195,7 +194,7 @@ counted s n w = walked_end s n (record_at s n) (walked s n passed) (rw w.ends re
     passed : (i : ℕ) → i < n → WholePeriod s (record_at s i)
     passed i l = record { kind = w.periods i l; whole = omega (arith, w.size, record_grows s (suc i) n l) }
 
-pub walk_clean : (s : List ℕ) (n : ℕ) → Layout s n → walk s ≡ none
+pub walk_clean : (s : List ℕ) (n : ℕ) → Layout s n → walk s ≡ None
 walk_clean s n w =
     let p = record_at s n in
     let size : length s ≡ next s p = w.size in

@@ -6,13 +6,13 @@
 --                         a stamp (`no_stamp`), or with another (`other_stamp`)
 --     nothing_accepted    where nothing is expected, no file is accepted
 -- Assumes nothing.
-use Rattle.std.specs.Prelude.{◌≡◌, refl, Bool, true, false, List, [], ◌∷◌, ◌++◌, ℕ, ◌<◌, length}
+use Rattle.std.proofs.lemmas.Option.{none-some}
+use Rattle.std.specs.Prelude.{◌≡◌, refl, Bool, true, false, List, [], ◌∷◌, ◌++◌, ℕ, ◌<◌, length, Option, None, Some, Result, Ok, Err}
 use Rattle.std.proofs.Common.{sym, ap, subst, ◌∙◌, arith, lt-ltb, eq-eqb, ne_eqb}
-use Rattle.std.proofs.Math.Option.{none, some, some-ne-none}
 use Rattle.std.proofs.lemmas.Bool.{lt-leb}
 use Rattle.day.specs.declared.Ends.{Ends}
-use Rattle.day.specs.declared.Expected.{Expected}
-use Rattle.day.specs.declared.Expected.TheVariants.{Nothing, Only}
+use Rattle.day.specs.declared.Stamp.{Stamp}
+use Rattle.day.specs.declared.Refusal.{Refusal}
 use Rattle.day.specs.declared.Refusal.TheVariants.{TruncatedFile, WrongEnd, WrongStamp}
 use Rattle.day.specs.Sums.{at}
 use Rattle.day.specs.Day.{Day}
@@ -20,48 +20,46 @@ use Rattle.day.specs.Refusals.{bad_slots, bad_value}
 use Rattle.day.specs.Tests.{gives_is}
 use Rattle.day.specs.File.{stamp_kind, is_stamped, head_end, record_at, periods_in, bad_end, walk, stamp_in, is_expected, day_in}
 use Rattle.tables.specs.Filled.{shortest}
-use Rattle.dayfile.specs.declared.ReadAnswer.{ReadAnswer}
-use Rattle.dayfile.specs.declared.ReadAnswer.TheVariants.{Refused, Periods}
 use Rattle.dayfile.specs.Answers.{file_tests, bad_read, Reading}
 use Rattle.dayfile.specs.Passed.{each_passed, expected_stamp}
 use Rattle.dayfile.specs.Layout.{Walked, walked_none, walk_stops, known_kind}
 
-pub late_stamp : (s : List ℕ) → at s (record_at s (periods_in s)) ≡ stamp_kind → 0 < record_at s (periods_in s) → walk s ≡ some WrongEnd
+pub late_stamp : (s : List ℕ) → at s (record_at s (periods_in s)) ≡ stamp_kind → 0 < record_at s (periods_in s) → walk s ≡ Some WrongEnd
 late_stamp s e l =
     let p = record_at s (periods_in s) in
     rw (known_kind s p stamp_kind e refl, eq-eqb (at s p) stamp_kind e, ne_eqb p 0 (λ z. omega arith)) refl
 
-pub cut_stamp : (s : List ℕ) → at s 0 ≡ stamp_kind → length s < 5 → walk s ≡ some TruncatedFile
+pub cut_stamp : (s : List ℕ) → at s 0 ≡ stamp_kind → length s < 5 → walk s ≡ Some TruncatedFile
 cut_stamp s e l =
     let none : is_stamped s ≡ false = rw (e, lt-leb 5 (length s) l) refl in
     let front : head_end s ≡ 0 = rw (none, e) refl in
     let stops : walk s ≡ bad_end s 0 0 = walk_stops s 0 0 (subst (Walked s 0) front (walked_none s)) (rw e refl) in
     stops ∙ rw (known_kind s 0 stamp_kind e refl) (rw (e, lt-ltb (length s) 5 l) refl)
 
-pub stamp_refused : (expected : Expected) (s : List ℕ) (before after : Day) (answer : ReadAnswer)
-    → walk s ≡ none → is_expected expected s ≡ false → Reading expected s before answer after
-    → (answer ≡ Refused WrongStamp) × (after ≡ before)
+pub stamp_refused : (expected : Option Stamp) (s : List ℕ) (before after : Day) (answer : Result (ℕ × Ends) Refusal)
+    → walk s ≡ None → is_expected expected s ≡ false → Reading expected s before answer after
+    → (answer ≡ Err WrongStamp) × (after ≡ before)
 stamp_refused expected s before after answer walked other = go answer
   where
-    refused : bad_read expected s (shortest before) ≡ some WrongStamp
+    refused : bad_read expected s (shortest before) ≡ Some WrongStamp
     refused = rw (walked, other) refl
 
-    go : (answer : ReadAnswer) → Reading expected s before answer after → (answer ≡ Refused WrongStamp) × (after ≡ before)
-    go (Refused r) w = let e = sym (gives_is w.0) ∙ refused in let same : r ≡ WrongStamp = cc in (ap Refused same, w.1)
-    go (Periods n ends) w = absurd (some-ne-none _ (sym refused ∙ w.0))
+    go : (answer : Result (ℕ × Ends) Refusal) → Reading expected s before answer after → (answer ≡ Err WrongStamp) × (after ≡ before)
+    go (Err r) w = let e = sym (gives_is w.0) ∙ refused in let same : r ≡ WrongStamp = cc in (ap (λ (q : Refusal). Err q) same, w.1)
+    go (Ok p) w = absurd (none-some _ (sym (sym refused ∙ w.0)))
 
-pub no_stamp : (expected : Expected) (s : List ℕ) → is_stamped s ≡ false → is_expected expected s ≡ false
-no_stamp Nothing s e = refl
-no_stamp (Only t) s e = rw e refl
+pub no_stamp : (expected : Option Stamp) (s : List ℕ) → is_stamped s ≡ false → is_expected expected s ≡ false
+no_stamp None s e = refl
+no_stamp (Some t) s e = rw e refl
 
-pub other_stamp : (expected : Expected) (s : List ℕ) → (expected ≡ Only (stamp_in s) → ⊥) → is_expected expected s ≡ false
+pub other_stamp : (expected : Option Stamp) (s : List ℕ) → (expected ≡ Some (stamp_in s) → ⊥) → is_expected expected s ≡ false
 other_stamp expected s h = go (is_expected expected s) refl
   where
     go : (b : Bool) → is_expected expected s ≡ b → b ≡ false
     go true q = absurd (h (expected_stamp expected s q).1)
     go false q = refl
 
-pub nothing_accepted : (s : List ℕ) (n : ℕ) (ends : Ends) (before after : Day) → Reading Nothing s before (Periods n ends) after → ⊥
+pub nothing_accepted : (s : List ℕ) (n : ℕ) (ends : Ends) (before after : Day) → Reading None s before (Ok (n, ends)) after → ⊥
 nothing_accepted s n ends before after w =
-    let each = each_passed (file_tests Nothing s ++ (bad_slots (shortest before) (periods_in s) ∷ bad_value (day_in s) ∷ [])) w.0 in
-    some-ne-none _ each.1.0
+    let each = each_passed (file_tests None s ++ (bad_slots (shortest before) (periods_in s) ∷ bad_value (day_in s) ∷ [])) w.0 in
+    none-some _ (sym each.1.0)

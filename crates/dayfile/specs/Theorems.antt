@@ -5,16 +5,15 @@
 --                             each store limit below 65,535
 --     longest_file            with at most 96 periods it has at most 1,837 bytes
 -- Assumes nothing.
-use Rattle.std.specs.Prelude.{◌≡◌, refl, Bool, true, false, cond, List, [], ◌∷◌, ℕ, zero, suc, ◌+◌, ◌-◌, ◌*◌, ◌≤◌, ◌<◌, ltb, length, take, drop}
+use Rattle.std.specs.Prelude.{◌≡◌, refl, Bool, true, false, cond, List, [], ◌∷◌, ℕ, zero, suc, ◌+◌, ◌-◌, ◌*◌, ◌≤◌, ◌<◌, ltb, length, take, drop, None, Ok}
 use Rattle.std.proofs.Common.{ap₂, ◌∙◌, ⊎_elim, arith, get_or-take, get_or-drop, lt-ltb}
-use Rattle.std.proofs.Math.Option.{none}
 use Rattle.std.specs.Borrow.{Bor}
 use Rattle.day.specs.Sums.{at, sum_to}
 use Rattle.day.specs.Day.{max_periods, max_store}
 use Rattle.day.specs.Figures.{accepted_with}
 use Rattle.day.specs.File.{stamp_kind, body, body_length, next, is_stamped, charges_at, has_charges, head_end, record_at, Layout, periods_in, store_in}
 use Rattle.day.specs.File.{bytes2, limit_of}
-use Rattle.dayfile.specs.Answers.{BodyAt, bad_lookup, Lookup, lookup_figures}
+use Rattle.dayfile.specs.Answers.{bad_lookup, Lookup, lookup_figures}
 use Rattle.dayfile.specs.Passed.{lookup_passed}
 use Rattle.dayfile.specs.Layout.{whole_record, whole_charges, body_whole, period_at, store_none, store_there, counted}
 
@@ -75,25 +74,23 @@ pub record Handed (file : Bor (List ℕ)) (i : ℕ) (r : Bor (List ℕ)) : Type 
   pub block : r.ref_ptr.0 ≡ file.ref_ptr.0
   pub offset : r.ref_ptr.1 ≡ file.ref_ptr.1 + body_start file.now i
 
-pub lookup_hands_out : (file : Bor (List ℕ)) (i : ℕ) (r : Bor (List ℕ)) → bad_lookup file.now i ≡ none → Lookup file i r
-    → Handed file i r
-lookup_hands_out file i r e w = go (rw e at w) (lookup_passed file.now i e)
-  where
-    go : BodyAt file (record_at file.now (i - 1)) r → (1 ≤ i) × (i ≤ periods_in file.now) → Handed file i r
-    go b l =
-        let s = file.now in
-        let k = i - 1 in
-        let p = record_place s k (omega arith) in
-        let size = period_size s k (omega arith) in
-        let long = body_length (at s (record_at s k)) in
-        record {
-          size = rw b.bytes (body_whole s (record_at s k) (period_at s k (omega arith)).whole ∙ size);
-          bytes = λ j lt. rw (b.bytes, get_or-take long (drop (record_at s k + 1) s) j 0 (omega arith), get_or-drop, p) refl;
-          block = b.block;
-          offset = rw p at b.offset;
-        }
+pub lookup_hands_out : (file : Bor (List ℕ)) (i : ℕ) (r : Bor (List ℕ)) → Lookup file i (Ok r) → Handed file i r
+lookup_hands_out file i r w =
+    let b = w.1 in
+    let l = lookup_passed file.now i w.0 in
+    let s = file.now in
+    let k = i - 1 in
+    let p = record_place s k (omega arith) in
+    let size = period_size s k (omega arith) in
+    let long = body_length (at s (record_at s k)) in
+    record {
+      size = rw b.bytes (body_whole s (record_at s k) (period_at s k (omega arith)).whole ∙ size);
+      bytes = λ j lt. rw (b.bytes, get_or-take long (drop (record_at s k + 1) s) j 0 (omega arith), get_or-drop, p) refl;
+      block = b.block;
+      offset = rw p at b.offset;
+    }
 
-pub place_holds : (s : List ℕ) (i : ℕ) → bad_lookup s i ≡ none
+pub place_holds : (s : List ℕ) (i : ℕ) → bad_lookup s i ≡ None
     → (lookup_figures s i ≡ accepted_with (body_start s i ∷ body_size s i ∷ []))
     × (take (body_size s i) (drop (body_start s i) s) ≡ body s (record_at s (i - 1)))
 place_holds s i e =

@@ -6,7 +6,7 @@ ghost use Rattle.dayfile.specs.Kinds.{byte_of};
 
 use crate::kind::Kind;
 use crate::layout;
-use day::{Check, Refusal};
+use day::Refusal;
 
 #[derive(Clone, Copy)]
 pub struct DayFile<'a> {
@@ -37,32 +37,30 @@ impl<'a> DayFile<'a> {
     }
 
     // 10, 11, 12, at the record after the period records, which is to be the end record.
-    fn end_record(self, at: usize) -> Check
+    fn end_record(self, at: usize) -> Result<(), Refusal>
         ensures { result ≡ checked (bad_end self.entry.bytes.now at self.entry.periods) }
     {
         let file = self.bytes;
         if file.len() <= at {
-            return Check::Refused(Refusal::TruncatedFile);
+            return Err(Refusal::TruncatedFile);
         }
-        let Ok(kind) = Kind::try_from(file[at]) else {
-            return Check::Refused(Refusal::UnknownKind);
-        };
+        let kind = Kind::try_from(file[at])?;
         if is_misplaced(kind, at, layout::charges_at(file)) {
-            return Check::Refused(Refusal::WrongEnd);
+            return Err(Refusal::WrongEnd);
         }
         let end = layout::next(file, at);
         if file.len() < end {
-            return Check::Refused(Refusal::TruncatedFile);
+            return Err(Refusal::TruncatedFile);
         }
         let count = layout::number2(layout::body(file, at), 0);
         if kind != Kind::End || file.len() != end || usize::from(count) != self.periods {
-            return Check::Refused(Refusal::WrongEnd);
+            return Err(Refusal::WrongEnd);
         }
-        Check::Passed
+        Ok(())
     }
 
     // 10, 11, 12
-    pub fn walk(self) -> Check
+    pub fn walk(self) -> Result<(), Refusal>
         ensures { result ≡ checked (walk self.entry.bytes.now) }
     {
         self.end_record(layout::record_at(self.bytes, self.periods))

@@ -7,19 +7,3 @@ pub mod file;
 pub mod kind;
 pub mod layout;
 pub mod lookup;
-
-use day::{Ends, Refusal};
-
-// What the reader answers: how many periods there are, and the day's ends. The periods' numbers are in the lent tables.
-#[derive(Clone, Copy)]
-pub enum ReadAnswer {
-    Refused(Refusal),
-    Periods(usize, Ends),
-}
-
-// What the writer answers: how many bytes it wrote at the slice's front.
-#[derive(Clone, Copy)]
-pub enum WriteAnswer {
-    Refused(Refusal),
-    Bytes(usize),
-}

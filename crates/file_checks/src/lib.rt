@@ -6,7 +6,7 @@ ghost use Rattle.day.specs.Refusals.{checked, first};
 ghost use Rattle.day.specs.File.{same_stamp, has_stamp, is_expected, wrong_stamp};
 ghost use Rattle.dayfile.specs.Answers.{file_tests};
 
-use day::{Check, Expected, Refusal, Stamp};
+use day::{Refusal, Stamp};
 use dayfile::file::DayFile;
 use dayfile::layout;
 
@@ -23,31 +23,28 @@ fn has_stamp(file: &[u8], stamp: Stamp) -> bool
 }
 
 // Whether the file has the expected stamp; none has where nothing is expected.
-fn is_expected(file: &[u8], expected: Expected) -> bool
+fn is_expected(file: &[u8], expected: Option<Stamp>) -> bool
     ensures { result ≡ is_expected expected file.now }
 {
-    match expected {
-        Expected::Nothing => false,
-        Expected::Only(stamp) => has_stamp(file, stamp),
-    }
+    expected.is_some_and(|stamp| has_stamp(file, stamp))
 }
 
 // 20
-fn stamp(file: &[u8], expected: Expected) -> Check
+fn stamp(file: &[u8], expected: Option<Stamp>) -> Result<(), Refusal>
     ensures { result ≡ checked (wrong_stamp expected file.now) }
 {
     if is_expected(file, expected) {
-        return Check::Passed;
+        Ok(())
+    } else {
+        Err(Refusal::WrongStamp)
     }
-    Check::Refused(Refusal::WrongStamp)
 }
 
 // What is tested of a file itself: 10, 11, 12, then 20, then 1.
-pub fn tests(file: DayFile, expected: Expected) -> Check
+pub fn tests(file: DayFile, expected: Option<Stamp>) -> Result<(), Refusal>
     ensures { result ≡ checked (first (file_tests expected file.entry.bytes.now)) }
 {
-    let walked = file.walk();
-    let stamped = stamp(file.bytes, expected);
-    let rest = checks::in_order(stamped, checks::count(file.periods));
-    checks::in_order(walked, rest)
+    file.walk()?;
+    stamp(file.bytes, expected)?;
+    checks::count(file.periods)
 }
