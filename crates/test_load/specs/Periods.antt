@@ -1,7 +1,6 @@
 -- How the tables of a test load fill: period by period, each from the seed that the one before it left.
 -- Main statements: `load_passed`, what passed tests tell; `draws_turn`, a turn of the loop. Assumes nothing.
-use Rattle.std.specs.Prelude.{◌≡◌, refl, ℕ, suc, ◌+◌, ◌*◌, ◌≤◌, ◌<◌}
-use Rattle.std.proofs.Math.Option.{none}
+use Rattle.std.specs.Prelude.{◌≡◌, refl, ℕ, suc, ◌+◌, ◌*◌, ◌≤◌, ◌<◌, None}
 use Rattle.std.proofs.Common.{arith, ltb-false}
 use Rattle.day.specs.Day.{Day, max_periods}
 use Rattle.day.specs.declared.Refusal.TheVariants.{FewSlots}
@@ -19,7 +18,7 @@ pub record Taken (n : ℕ) (tables : Day) : Type 0 where
   pub few : n ≤ max_periods
   pub cells : Cells n tables
 
-pub load_passed : (n : ℕ) (tables : Day) → bad_load n (shortest tables) ≡ none → Taken n tables
+pub load_passed : (n : ℕ) (tables : Day) → bad_load n (shortest tables) ≡ None → Taken n tables
 load_passed n tables e =
     let t = first_two (bad_count n) (bad_slots (shortest tables) n) e in
     let count = count_passed n t.0 in
@@ -31,7 +30,7 @@ load_passed n tables e =
 
 -- one period, from the seed before its draws: the first of the load that this seed gives; and the seed after them
 unfoldable pub drawn_from : ℕ → Drawn
-drawn_from seed = record { numbers = numbers_at seed 0; seed = seed_after seed 5 }
+drawn_from seed = record { entries = numbers_at seed 0; seed = seed_after seed 5 }
 
 -- the loop has drawn k periods
 pub record PeriodsDrawn (seed n : ℕ) (before : Day) (k at : ℕ) (after : Day) : Type 0 where
@@ -39,7 +38,7 @@ pub record PeriodsDrawn (seed n : ℕ) (before : Day) (k at : ℕ) (after : Day)
   pub filled : Filled (numbers_at seed) n before k after
 
 -- five draws on from there are those of the next period
-next_period : (seed k : ℕ) → drawn_from (seed_after seed (5 * k)) ≡ record { numbers = numbers_at seed k; seed = seed_after seed (5 * (k + 1)) }
+next_period : (seed k : ℕ) → drawn_from (seed_after seed (5 * k)) ≡ record { entries = numbers_at seed k; seed = seed_after seed (5 * (k + 1)) }
 unfolding drawn_from
 next_period seed k =
     let one : 5 * k + 1 ≡ suc (5 * k) = omega arith in
@@ -52,7 +51,7 @@ next_period seed k =
 
 -- a turn of it: the next period's numbers go to cell k
 pub draws_turn : (seed n : ℕ) (before : Day) (k at : ℕ) (after later : Day) {drawn : Drawn}
-    → PeriodsDrawn seed n before k at after → k < n → Cells n before → drawn ≡ drawn_from at → later ≡ stored k drawn.numbers after
+    → PeriodsDrawn seed n before k at after → k < n → Cells n before → drawn ≡ drawn_from at → later ≡ stored k drawn.entries after
     → PeriodsDrawn seed n before (k + 1) drawn.seed later
 draws_turn seed n before k at after later w l c e put =
     let same = rw (w.here, next_period seed k) at e in

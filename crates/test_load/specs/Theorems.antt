@@ -1,13 +1,11 @@
 -- What an accepted test load has left, cell by cell: `load_gives`; and that such a day is within the limits: `load_within`. Assumes nothing.
-use Rattle.std.specs.Prelude.{◌≡◌, false, ℕ, zero, suc, ◌*◌, ◌≤◌, ◌<◌}
+use Rattle.std.specs.Prelude.{◌≡◌, false, ℕ, zero, suc, ◌*◌, ◌≤◌, ◌<◌, None, Ok}
 use Rattle.std.proofs.Common.{sym, ap, subst, arith, le-ltb}
-use Rattle.std.proofs.Math.Option.{none}
 use Rattle.day.specs.declared.Refusal.TheVariants.{LowStore}
 use Rattle.day.specs.Sums.{sum_to, list_of, at-list_of, length-list_of, sum_ext}
 use Rattle.day.specs.Find.{nothing_found}
 use Rattle.day.specs.Day.{Day, no_ends, tables_of, periods, max_store, max_periods, max_total, required}
 use Rattle.day.specs.Refusals.{refuse_at, first, day_tests, tight, low_store}
-use Rattle.day.specs.declared.Check.TheVariants.{Passed}
 use Rattle.checks.specs.Passed.{Within, DayLimits, day_passes}
 use Rattle.tables.specs.Filled.{first_of, with_front, FrontFilled, front_filled}
 use Rattle.test_load.specs.Draws as draws
@@ -23,7 +21,7 @@ pub record Loaded (seed n : ℕ) (before after : Day) : Type 0 where
   pub holding : FrontFilled n (draws.upkeep seed) before.holding after.holding
   pub store : FrontFilled n (λ _. max_store) before.store after.store
 
-pub load_gives : (seed n : ℕ) (before after : Day) → Loading seed n before Passed after → Loaded seed n before after
+pub load_gives : (seed n : ℕ) (before after : Day) → Loading seed n before (Ok tt) after → Loaded seed n before after
 load_gives seed n before after w =
     let c = (load_passed n before w.0).cells in
     rw w.1
@@ -67,11 +65,11 @@ required_low seed n few =
     rw (length-list_of (draws.need seed) n) (omega (arith, needs_low seed n, same))
 
 limits : (seed n : ℕ) → 1 ≤ n → n ≤ max_periods → DayLimits max_total (load_day seed n)
-limits seed n some few =
+limits seed n above few =
     let size = length-list_of (draws.need seed) n in
     record {
       limits = record {
-        nonempty = rw size some;
+        nonempty = rw size above;
         few = rw size few;
         lengths = record {
           capacity = simp length-list_of;
@@ -86,7 +84,7 @@ limits seed n some few =
       used = omega arith;
     }
 
-stores : (seed n : ℕ) → n ≤ max_periods → low_store (load_day seed n) ≡ none
+stores : (seed n : ℕ) → n ≤ max_periods → low_store (load_day seed n) ≡ None
 stores seed n few =
     let d = load_day seed n in
     ap (refuse_at LowStore) (nothing_found (tight d) (periods d) (λ k l. high k (rw (length-list_of (draws.need seed) n) at l)))
@@ -95,12 +93,12 @@ stores seed n few =
     high k l = rw (at-list_of (λ _. max_store) n k l) (le-ltb max_store (required (load_day seed n)) (omega (arith, required_low seed n few)))
 
 -- the day in the tables' first n cells passes 1 to 4, 14 and 16
-pub load_within : (seed n : ℕ) (before after : Day) → Loading seed n before Passed after
-    → let d = first_of n after no_ends in (first (day_tests max_total d) ≡ none) × (low_store d ≡ none)
+pub load_within : (seed n : ℕ) (before after : Day) → Loading seed n before (Ok tt) after
+    → let d = first_of n after no_ends in (first (day_tests max_total d) ≡ None) × (low_store d ≡ None)
 load_within seed n before after w =
     let c = load_passed n before w.0 in
     let front : first_of n after no_ends ≡ load_day seed n = rw w.1 (simp with_front) in
     subst
-    (λ (d : Day). (first (day_tests max_total d) ≡ none) × (low_store d ≡ none))
+    (λ (d : Day). (first (day_tests max_total d) ≡ None) × (low_store d ≡ None))
     (sym front)
     (day_passes (load_day seed n) (limits seed n c.nonempty c.few), stores seed n c.few)

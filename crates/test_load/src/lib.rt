@@ -10,8 +10,7 @@ ghost use Rattle.test_load.specs.Draws.{next_seed, upper};
 ghost use Rattle.test_load.specs.Load.{bad_load, with_load, Loading};
 ghost use Rattle.test_load.specs.Periods.{drawn_from};
 
-use day::{Check, Refusal};
-use tables::Numbers;
+use day::{Entries, Refusal};
 
 // One draw: what it sets the seed to.
 pub fn next_seed(seed: u32) -> u32
@@ -30,7 +29,7 @@ pub fn upper(seed: u32) -> u16
 // One period of a test load, and the seed after its draws.
 #[derive(Clone, Copy)]
 struct Drawn {
-    numbers: Numbers,
+    entries: Entries,
     seed: u32,
 }
 
@@ -45,7 +44,7 @@ fn draw(seed: u32) -> Drawn
     let d = next_seed(c);
     let e = next_seed(d);
     Drawn {
-        numbers: Numbers {
+        entries: Entries {
             demand: upper(a) % 41,
             capacity: upper(b) % 61,
             setup: (upper(c) % 30001) as u32,
@@ -74,24 +73,24 @@ fn draw_periods(
 {
     let mut at = seed;
     for k in 0..n {
-        let drawn = draw(at);
-        let numbers = drawn.numbers;
-        tables::put(k, numbers, demand, capacity, setup, unit, holding, store);
-        at = drawn.seed;
+        let Drawn {
+            entries,
+            seed: last,
+        } = draw(at);
+        tables::put(k, entries, demand, capacity, setup, unit, holding, store);
+        at = last;
     }
 }
 
 // 1, then 6; `cells` is how many the shortest table has.
-fn tests(n: usize, cells: usize) -> Check
+fn tests(n: usize, cells: usize) -> Result<(), Refusal>
     ensures { result ≡ checked (bad_load n cells) }
 {
-    if let Check::Refused(r) = checks::count(n) {
-        return Check::Refused(r);
-    }
+    checks::count(n)?;
     if cells < n {
-        return Check::Refused(Refusal::FewSlots);
+        return Err(Refusal::FewSlots);
     }
-    Check::Passed
+    Ok(())
 }
 
 // Fills the tables with the test load of n periods that the seed gives.
@@ -104,7 +103,7 @@ pub fn fill(
     unit: &mut [u32],
     holding: &mut [u32],
     store: &mut [u16],
-) -> Check
+) -> Result<(), Refusal>
     ensures { Loading seed n (tables_lent demand capacity setup unit holding store) result (tables_after demand capacity setup unit holding store) }
 {
     let cells = tables::shortest(
@@ -115,9 +114,7 @@ pub fn fill(
         holding.len(),
         store.len(),
     );
-    if let Check::Refused(r) = tests(n, cells) {
-        return Check::Refused(r);
-    }
+    tests(n, cells)?;
     draw_periods(seed, n, demand, capacity, setup, unit, holding, store);
-    Check::Passed
+    Ok(())
 }

@@ -4,4 +4,4 @@ use Rattle.test_load.proofs.draw_periods.Goals as goal
 
 pub loop-k-preserved : goal.loop-k-preserved
 loop-k-preserved c =
-    draws_turn _ _ _ _ _ _ _ c.loop-k.invariant c.loop-k-test.true c.requires c.draw-drawn.ensures c.put.ensures
+    draws_turn _ _ _ _ _ _ _ c.loop-k.invariant c.loop-k-test.true c.requires c.draw-last.ensures c.put.ensures
