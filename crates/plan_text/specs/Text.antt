@@ -1,7 +1,6 @@
 -- What `dayplan` prints for a day (document 01, "Marked days"): a refusal's line, or the lines of the day's plan.
 -- Main definition: `SaysPlanOf`, the contract of the text. Assumes nothing.
-use Rattle.std.specs.Prelude.{◌≡◌, List, [], ◌++◌, ℕ, zero, suc}
-use Rattle.std.proofs.Math.Option.{Option, none, some}
+use Rattle.std.specs.Prelude.{◌≡◌, List, [], ◌++◌, ℕ, zero, suc, Option, None, Some}
 use Rattle.day.specs.declared.Refusal.{Refusal}
 use Rattle.day.specs.Day.{Day, periods}
 use Rattle.day.specs.Plan.{Optimal, cost, setups}
@@ -27,8 +26,8 @@ pub record SaysPlan (d : Day) (text : List ℕ) : Type 0 where
 
 -- where there is a refusal, text is its line; else it says the plan
 abbrev pub Says : Option Refusal → Day → List ℕ → Type 0
-Says (some r) d text = text ≡ refusal_line r
-Says none d text = SaysPlan d text
+Says (Some r) d text = text ≡ refusal_line r
+Says None d text = SaysPlan d text
 
 -- text says a day's plan, by the full path with the program's areas
 abbrev pub SaysPlanOf : Day → List ℕ → Type 0

@@ -1,47 +1,37 @@
 //! The text that `dayplan` prints for a day (document 01, "Marked days").
 #![tactic(auto)]
 
-ghost use Rattle.std.specs.Prelude.{◌≡◌, [], ◌++◌, length};
+ghost use Rattle.std.specs.Prelude.{◌≡◌, ◌++◌};
 ghost use Rattle.day.specs.Sums.{at};
-ghost use Rattle.day.specs.Day.{day_of};
-ghost use Rattle.day.specs.Lent.{day_before};
+ghost use Rattle.day.specs.Day.{periods};
+ghost use Rattle.day.specs.Lent.{lent_day};
 ghost use Rattle.lines.specs.Text.{plan_line, HavePeriods};
 ghost use Rattle.plan_text.specs.Text.{amount_lines, SaysPlanOf};
 
-use day::{Answer, Ends, Totals};
+use day::{Day, Totals};
 use lines::Text;
 
 // The lines of a plan: its first, and one for each period.
-fn plan_lines(demand: &[u16], plan: &[u16], totals: Totals, ends: Ends) -> Text
-    requires { HavePeriods demand.now plan.now (length demand.now) }
-    ensures { result.bytes ≡ plan_line (length demand.now) totals.cost totals.setups
-        ++ amount_lines (day_of demand.now [] [] [] [] [] ends) (at plan.now) (length demand.now) }
+fn plan_lines(day: Day, plan: &[u16], totals: Totals) -> Text
+    requires { HavePeriods day.demand.now plan.now (periods (lent_day day)) }
+    ensures { result.bytes ≡ plan_line (periods (lent_day day.entry)) totals.cost totals.setups
+        ++ amount_lines (lent_day day.entry) (at plan.now) (periods (lent_day day.entry)) }
 {
     let mut text = Text::new();
-    text.push_str(&lines::plan_line(demand.len() as u64, totals.cost, totals.setups));
-    for i in 0..demand.len() {
-        text.push_str(&lines::amount_line(demand, plan, i, ends));
+    text.push_str(&lines::plan_line(day.periods() as u64, totals.cost, totals.setups));
+    for i in 0..day.periods() {
+        text.push_str(&lines::amount_line(day, plan, i));
     }
     text
 }
 
 // The text of a day: its plan by the full path, or the refusal.
-pub fn day_text(
-    demand: &[u16],
-    capacity: &[u16],
-    setup: &[u32],
-    unit: &[u32],
-    holding: &[u32],
-    store: &[u16],
-    ends: Ends,
-) -> Text
-    ensures { SaysPlanOf (day_before demand capacity setup unit holding store ends) result.bytes }
+pub fn day_text(day: Day) -> Text
+    ensures { SaysPlanOf (lent_day day.entry) result.bytes }
 {
     let mut slots = [0u16; 96];
-    match program_plan::plan(
-        demand, capacity, setup, unit, holding, store, &mut slots, ends,
-    ) {
-        Answer::Refused(r) => lines::refusal_line(r),
-        Answer::Planned(totals) => plan_lines(demand, &slots, totals, ends),
+    match program_plan::plan(day, &mut slots) {
+        Ok(totals) => plan_lines(day, &slots, totals),
+        Err(refusal) => lines::refusal_line(refusal),
     }
 }
