@@ -1,61 +1,25 @@
 //! Trials of the weigher, on plans that a line gives, and of the plain search, which weighs them all.
 #![tactic(auto)]
 
-use plain::Best;
+use day::Day;
 use std::{fmt, io};
-use trial_text::days::{Day, total};
+use trial_text::days::total;
 use trial_text::line::{Line, numbers};
 use trial_text::show::{Amounts, Cost, Refused};
-use weigher::{Compared, Rule, Verdict, Weighed};
+use weigher::{Breach, Fault};
 
-// What every call that judges a plan prints of one that breaks a rule.
+// What every call that judges a plan prints of one that it refuses, or that breaks a rule.
 #[derive(Clone, Copy)]
-pub struct Broken {
-    pub rule: Rule,
-    pub period: u16,
-}
+pub struct Failed(pub Fault);
 
-impl fmt::Display for Broken {
+impl fmt::Display for Failed {
     fn fmt<W: fmt::Write>(&self, f: &mut fmt::Formatter<W>) -> fmt::Result {
-        let period = self.period;
-        write!(f, " broken {} period {period}", self.rule.number())
-    }
-}
-
-fn weigh(rt: &impl Print, day: Day<'_>, plan: &[u16]) -> io::Result<()> {
-    match weigher::weigh(
-        day.demand,
-        day.capacity,
-        day.setup,
-        day.unit,
-        day.holding,
-        day.store,
-        plan,
-        day.ends,
-    ) {
-        Weighed::Refused(refusal) => println!(rt; "{}", Refused(refusal)),
-        Weighed::Judged(Verdict::Broken(rule, period)) => {
-            println!(rt; "{}", Broken { rule, period })
+        match self.0 {
+            Fault::Refused(refusal) => write!(f, "{}", Refused(refusal)),
+            Fault::Broken(Breach { rule, period }) => {
+                write!(f, " broken {} period {period}", rule.number())
+            }
         }
-        Weighed::Judged(Verdict::Holds(totals)) => println!(rt; "{}", Cost(totals)),
-    }
-}
-
-fn compare(rt: &impl Print, day: Day<'_>, plan: &[u16], other: &[u16]) -> io::Result<()> {
-    match weigher::compare(
-        day.demand,
-        day.capacity,
-        day.setup,
-        day.unit,
-        day.holding,
-        day.store,
-        plan,
-        other,
-        day.ends,
-    ) {
-        Compared::Refused(refusal) => println!(rt; "{}", Refused(refusal)),
-        Compared::Broken(rule, period) => println!(rt; "{}", Broken { rule, period }),
-        Compared::Difference(difference) => println!(rt; " difference {difference}"),
     }
 }
 
@@ -65,33 +29,26 @@ pub fn plans<R: Print + AllocGlobal>(rt: &R, line: Line<'_>, day: Day<'_>) -> io
     let other = numbers(rt.alloc(), line.field(7))?;
     print!(rt; "{}", line.name)?;
     if line.kind == "compare" {
-        compare(rt, day, plan.as_slice(), other.as_slice())
+        match weigher::compare(day, plan.as_slice(), other.as_slice()) {
+            Ok(difference) => println!(rt; " difference {difference}"),
+            Err(fault) => println!(rt; "{}", Failed(fault)),
+        }
     } else {
-        weigh(rt, day, plan.as_slice())
+        match weigher::weigh(day, plan.as_slice()) {
+            Ok(totals) => println!(rt; "{}", Cost(totals)),
+            Err(fault) => println!(rt; "{}", Failed(fault)),
+        }
     }
-}
-
-// The plain search on a day.
-pub fn search(day: Day<'_>) -> Option<Best> {
-    plain::search(
-        day.demand,
-        day.capacity,
-        day.setup,
-        day.unit,
-        day.holding,
-        day.store,
-        day.ends,
-    )
 }
 
 // What the plain search finds, where the day is tiny.
 pub fn searched(rt: &impl Print, line: Line<'_>, day: Day<'_>) -> io::Result<()> {
-    let n = day.demand.len();
+    let n = day.periods();
     if 4 < n || 10 < total(day) {
         return Ok(());
     }
     print!(rt; "{} search", line.name)?;
-    match search(day) {
+    match plain::search(day) {
         Some(best) => println!(rt; "{}{}", Amounts(&best.plan[..n]), Cost(best.totals)),
         None => println!(rt; " no plan"),
     }

@@ -1,4 +1,5 @@
 //! Lent cells, every one of which holds the mark before a call.
+use day::Sizes;
 use std::alloc::{AllocError, Global};
 
 // The mark.
@@ -15,13 +16,6 @@ fn cleared<T: Copy + Into<u64>>(cells: &[T], n: usize) -> bool {
     first.iter().all(|cell| (*cell).into() == 0) && marked(later)
 }
 
-// So many cells.
-#[derive(Clone, Copy)]
-pub struct Cells {
-    pub costs: usize,
-    pub choices: usize,
-}
-
 // Memory that is lent to a call.
 #[derive(Drop)]
 pub struct Memory {
@@ -32,11 +26,11 @@ pub struct Memory {
 
 impl Memory {
     // Every cell and slot holds the mark.
-    pub fn new(alloc: Global, cells: Cells, slots: usize) -> Result<Memory, AllocError> {
+    pub fn new(alloc: Global, sizes: Sizes) -> Result<Memory, AllocError> {
         Ok(Memory {
-            costs: vec![in alloc; MARK.into(); cells.costs]?,
-            choices: vec![in alloc; MARK.into(); cells.choices]?,
-            slots: vec![in alloc; MARK.into(); slots]?,
+            costs: vec![in alloc; MARK.into(); sizes.costs]?,
+            choices: vec![in alloc; MARK.into(); sizes.choices]?,
+            slots: vec![in alloc; MARK.into(); sizes.slots]?,
         })
     }
 
@@ -47,12 +41,12 @@ impl Memory {
             && marked(self.slots.as_slice())
     }
 
-    // Whether it is as a call must leave it that answers with a plan of n periods: the needed cells hold zero; the later ones, and the slots
-    // after the plan, hold the mark.
-    pub fn is_cleared(&self, needed: Cells, n: usize) -> bool {
+    // Whether it is as a call must leave it that needs so much for its answer: the needed cells hold zero; the later ones, and the slots after the
+    // plan, hold the mark.
+    pub fn is_cleared(&self, needed: Sizes) -> bool {
         cleared(self.costs.as_slice(), needed.costs)
             && cleared(self.choices.as_slice(), needed.choices)
-            && marked(self.slots.get(n..).unwrap_or(&[]))
+            && marked(self.slots.get(needed.slots..).unwrap_or(&[]))
     }
 
     // The plan of n periods in the slots.

@@ -1,20 +1,8 @@
-//! Days: as a line gives them, and as calls take them.
+//! Days, as lines give them.
 use crate::cells::MARK;
 use crate::line::{Line, first, for_all, numbers};
-use day::Ends;
+use day::{Day, Ends};
 use std::alloc::{AllocError, Global};
-
-// A day: its six tables and its ends.
-#[derive(Clone, Copy)]
-pub struct Day<'a> {
-    pub demand: &'a [u16],
-    pub capacity: &'a [u16],
-    pub setup: &'a [u32],
-    pub unit: &'a [u32],
-    pub holding: &'a [u32],
-    pub store: &'a [u16],
-    pub ends: Ends,
-}
 
 // A day's tables, of its own.
 #[derive(Drop)]
@@ -61,15 +49,15 @@ impl Tables {
 
     // The day of these tables.
     pub fn day(&self, ends: Ends) -> Day<'_> {
-        Day {
-            demand: self.demand.as_slice(),
-            capacity: self.capacity.as_slice(),
-            setup: self.setup.as_slice(),
-            unit: self.unit.as_slice(),
-            holding: self.holding.as_slice(),
-            store: self.store.as_slice(),
+        Day::new(
+            self.demand.as_slice(),
+            self.capacity.as_slice(),
+            self.setup.as_slice(),
+            self.unit.as_slice(),
+            self.holding.as_slice(),
+            self.store.as_slice(),
             ends,
-        }
+        )
     }
 }
 

@@ -15,7 +15,7 @@ impl fmt::Display for Amounts<'_> {
     }
 }
 
-// A refusal, by the documents' number and period.
+// A refusal, by its number and period.
 #[derive(Clone, Copy)]
 pub struct Refused(pub Refusal);
 
