@@ -1,7 +1,8 @@
--- What a made-up day is: its numbers are draws as those of a test load (document 02, 2.7).
+-- What a made-up day is: its numbers are draws as those of a test load.
 -- Main definitions: `made_up`, `days_from`. Assumes nothing.
-use Rattle.std.specs.Prelude.{◌≡◌, List, [], ◌∷◌, ℕ, zero, suc, ◌+◌, ◌%◌, ◌≤◌, length}
+use Rattle.std.specs.Prelude.{◌≡◌, List, [], ◌∷◌, ℕ, zero, suc, ◌+◌, ◌%◌, ◌≤◌, length, min, take}
 use Rattle.day.specs.declared.Ends.{Ends}
+use Rattle.day.specs.Day.{Day, day_of}
 use Rattle.test_load.specs.Draws.{seed_after, drawn}
 use Rattle.tiny_days.specs.declared.Capacities.{Capacities}
 use Rattle.tiny_days.specs.declared.Capacities.TheVariants.{Any, Equal, Unbound}
@@ -86,6 +87,12 @@ pub record MadeUp (seed : ℕ) (kind : Kind) (r : Tiny) : Type 0 where
   pub unit : r.n ≤ length r.unit
   pub holding : r.n ≤ length r.holding
   pub store : r.n ≤ length r.store
+
+-- the day that its first n cells hold
+abbrev pub day_in : Tiny → Day
+day_in t =
+    let n = min t.n 4 in
+    day_of (take n t.demand) (take n t.capacity) (take n t.setup) (take n t.unit) (take n t.holding) (take n t.store) t.ends
 
 -- so many made-up days, each from the seed that the one before it leaves
 abbrev pub days_from : (count seed : ℕ) → Kind → List Tiny

@@ -4,10 +4,11 @@
 
 ghost use Rattle.std.specs.Prelude.{◌≡◌, ◌+◌, ◌%◌};
 ghost use Rattle.std.specs.Iterator.{YieldsFirst, item_count};
+ghost use Rattle.day.specs.Lent.{lent_day};
 ghost use Rattle.test_load.specs.Draws.{next_seed, seed_after, upper};
-ghost use Rattle.tiny_days.specs.MadeUp.{capacity_of, store_of, drawn_of, ends_from, stores_from, MadeUp, days_left};
+ghost use Rattle.tiny_days.specs.MadeUp.{capacity_of, store_of, drawn_of, ends_from, stores_from, MadeUp, day_in, days_left};
 
-use day::Ends;
+use day::{Day, Ends};
 use test_load::{next_seed, upper};
 
 // Which capacities a made-up day has: any, one throughout, or such as cannot bind.
@@ -135,6 +136,25 @@ pub struct Tiny {
     pub holding: [u32; 4],
     pub store: [u16; 4],
     pub ends: Ends,
+}
+
+impl Tiny {
+    // The day.
+    pub fn day(&self) -> Day<'_>
+        ensures { lent_day result ≡ day_in self.now }
+    {
+        // n is at most 4, as `MadeUp` says: `min` says it where no clause does.
+        let n = self.n.min(4);
+        Day::new(
+            &self.demand[..n],
+            &self.capacity[..n],
+            &self.setup[..n],
+            &self.unit[..n],
+            &self.holding[..n],
+            &self.store[..n],
+            self.ends,
+        )
+    }
 }
 
 // What made-up days are like; each of their ends is at most `most`.
