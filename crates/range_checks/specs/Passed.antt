@@ -1,8 +1,7 @@
 -- What a caller of the tests on needs known as ranges learns. Main statements: `pair_passed`, 1, and 2 and 3 on both tables; `range_passed`, all
 -- before 7; `all_passed`. Assumes nothing.
-use Rattle.std.specs.Prelude.{◌≡◌, refl, false, List, [], ◌∷◌, ◌++◌, ℕ, ◌≤◌, ◌<◌, ltb, length}
+use Rattle.std.specs.Prelude.{◌≡◌, refl, false, List, [], ◌∷◌, ◌++◌, ℕ, ◌≤◌, ◌<◌, ltb, length, None}
 use Rattle.std.proofs.Common.{◌∙◌, arith, ltb-false, eqb-true}
-use Rattle.std.proofs.Math.Option.{none}
 use Rattle.std.proofs.lemmas.Bool.{not-false}
 use Rattle.day.specs.declared.Refusal.TheVariants.{TableLength, AboveLimit, OpeningInventory, ReversedRange}
 use Rattle.day.specs.Sums.{at}
@@ -11,18 +10,19 @@ use Rattle.day.specs.Day.{Day, periods, total, with_demand, max_total}
 use Rattle.day.specs.Refusals.{first, bad_count, bad_lengths, above_limit, bad_second, either_above, bad_values, table_tests}
 use Rattle.day.specs.Refusals.{pair_tests, total_tests, opened, reverses, reversed, shortage}
 use Rattle.day.specs.Tests.{first_split, first_passed, first_one, first_two, not_refused, nowhere, neither}
-use Rattle.day.specs.Outcome.{Sizes, area_test}
+use Rattle.day.specs.declared.Sizes.{Sizes}
+use Rattle.day.specs.Outcome.{area_test}
 use Rattle.day.specs.Paths.{full}
 use Rattle.day.specs.Ranges.{bound_tests, range_tests, range_refusal}
 use Rattle.checks.specs.Passed.{Limits, DayLimits, Passes, tables_passed, day_passed, area_passed, shortage_passed}
 
 -- what tests 1, and 2 and 3 on both tables, leave: 1, 2 and 3 pass for the day, and for the day with the second needs, which are as many
 pub record PairPassed (needs : List ℕ) (d : Day) : Type 0 where
-  pub tables : first (table_tests d) ≡ none
-  pub second : first (table_tests (with_demand needs d)) ≡ none
+  pub tables : first (table_tests d) ≡ None
+  pub second : first (table_tests (with_demand needs d)) ≡ None
   pub size : length needs ≡ periods d
 
-pub pair_passed : (needs : List ℕ) (d : Day) → first (pair_tests needs d) ≡ none → PairPassed needs d
+pub pair_passed : (needs : List ℕ) (d : Day) → first (pair_tests needs d) ≡ None → PairPassed needs d
 pair_passed needs d e =
     let halves = first_split (bad_count (periods d) ∷ bad_lengths d ∷ []) (bad_second needs d ∷ bad_values needs d ∷ []) e in
     let day = first_two (bad_count (periods d)) (bad_lengths d) halves.0 in
@@ -49,7 +49,7 @@ pub record Ranged (lowest : List ℕ) (d : Day) (s : Sizes) : Type 0 where
   pub empty : d.opening ≡ 0
   pub below : (k : ℕ) → k < periods d → at lowest k ≤ at d.demand k
 
-pub range_passed : (lowest : List ℕ) (d : Day) (s : Sizes) → first (range_tests lowest d s) ≡ none → Ranged lowest d s
+pub range_passed : (lowest : List ℕ) (d : Day) (s : Sizes) → first (range_tests lowest d s) ≡ None → Ranged lowest d s
 range_passed lowest d s e =
     let one = first_split (pair_tests lowest d) (total_tests max_total d ++ bound_tests lowest d s) e in
     let two = first_split (total_tests max_total d) (bound_tests lowest d s) one.1 in
@@ -68,7 +68,7 @@ range_passed lowest d s e =
     }
 
 -- and 7 with them
-pub all_passed : (lowest : List ℕ) (d : Day) (s : Sizes) → range_refusal lowest d s ≡ none
+pub all_passed : (lowest : List ℕ) (d : Day) (s : Sizes) → range_refusal lowest d s ≡ None
     → Ranged lowest d s × ((k : ℕ) → k < periods d → Passes d k)
 all_passed lowest d s e =
     let t = first_split (range_tests lowest d s) (shortage d ∷ []) e in
