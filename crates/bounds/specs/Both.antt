@@ -7,7 +7,8 @@ use Rattle.day.specs.declared.Totals.{Totals}
 use Rattle.day.specs.Sums.{at, drop_later}
 use Rattle.day.specs.Day.{Day, periods, total, with_demand, max_total}
 use Rattle.day.specs.Figures.{first_value}
-use Rattle.day.specs.Outcome.{Memory, memory_of, Sizes, cleared, Accepted}
+use Rattle.day.specs.declared.Sizes.{Sizes}
+use Rattle.day.specs.Outcome.{Memory, memory_of, cleared, Accepted}
 use Rattle.day.specs.Paths.{full}
 use Rattle.day.specs.Ranges.{Easier, LeastCost, BothBounded}
 use Rattle.checks.specs.Passed.{DayLimits, Passes, Admitted}

@@ -1,12 +1,11 @@
 -- What the answer on needs known as ranges says of every table between the two (document 02, 2.9), over the call's contract.
 -- Main statements: `between_least`; `bounded_iff`, `refused_short` (demand 2). Assumes nothing.
+use Rattle.std.proofs.lemmas.Option.{none-some}
+use Rattle.std.specs.Prelude.{None, Result, Ok, Err}
 use Rattle.std.proofs.Common.{◌≡◌, List, [], ◌∷◌, ◌↔◌, ℕ, ◌≤◌}
 use Rattle.std.proofs.Common.{sym, ◌∙◌, arith}
-use Rattle.std.proofs.Math.Option.{none, none-ne-some}
 use Rattle.day.specs.declared.Refusal.{Refusal}
 use Rattle.day.specs.declared.Bounds.{Bounds}
-use Rattle.day.specs.declared.BoundsAnswer.{BoundsAnswer}
-use Rattle.day.specs.declared.BoundsAnswer.TheVariants.{Refused, Bounded}
 use Rattle.day.specs.Day.{Day, with_demand}
 use Rattle.day.specs.Plan.{Feasible}
 use Rattle.day.specs.Refusals.{first, shortage, FirstShort}
@@ -21,7 +20,7 @@ use Rattle.theory.proofs.Easier.{easier_least, least_one}
 use Rattle.bounds.specs.Both.{lower_easier}
 
 -- Every table of needs between the two, period by period, has a plan, and its least cost lies between the two that are given.
-pub between_least : (lowest : List ℕ) (d : Day) (before after : Memory) (b : Bounds) → Bounding lowest d before (Bounded b) after
+pub between_least : (lowest : List ℕ) (d : Day) (before after : Memory) (b : Bounds) → Bounding lowest d before (Ok b) after
     → (needs : List ℕ) → Between lowest needs d.demand → (c : ℕ) × LeastCost (with_demand needs d) c × (b.lowest ≤ c) × (c ≤ b.highest)
 between_least lowest d before after b runs needs t =
     let r = (all_passed lowest d (sizes_of before) runs.0).0 in
@@ -42,12 +41,12 @@ between_least lowest d before after b runs needs t =
     (c, least, omega (arith, up.4, first_value given.gives), omega (arith, down.4, second_value given.gives))
 
 -- the answer has the two costs
-abbrev pub IsBounded : BoundsAnswer → Type 0
-IsBounded (Refused r) = ⊥
-IsBounded (Bounded b) = Unit {0}
+abbrev pub IsBounded : Result Bounds Refusal → Type 0
+IsBounded (Err r) = ⊥
+IsBounded (Ok b) = Unit {0}
 
 -- Needs that no test before 7 refuses.
-module _ (lowest : List ℕ) (d : Day) (m : Memory) (ok : first (range_tests lowest d (sizes_of m)) ≡ none) where
+module _ (lowest : List ℕ) (d : Day) (m : Memory) (ok : first (range_tests lowest d (sizes_of m)) ≡ None) where
   fits : Fits d
   fits = limits_fit (range_passed lowest d (sizes_of m) ok).day
 
@@ -55,11 +54,11 @@ module _ (lowest : List ℕ) (d : Day) (m : Memory) (ok : first (range_tests low
   only_shortage = first_passed (range_tests lowest d (sizes_of m)) (shortage d ∷ []) ok ∙ first_one (shortage d)
 
   -- Demand 2: the answer has the two costs exactly if some amounts keep the conditions with the highest needs.
-  pub bounded_iff : (r : BoundsAnswer) (after : Memory) → Bounding lowest d m r after → IsBounded r ↔ ((x : ℕ → ℕ) × Feasible d x)
-  bounded_iff (Refused q) after runs =
-      (λ none. absurd none, λ w. none-ne-some q (sym ((shortage_iff d fits).1 w) ∙ (sym only_shortage ∙ gives_is runs.0)))
-  bounded_iff (Bounded b) after runs = (λ _. (runs.1.high.plan, runs.1.high.optimal.feasible), λ _. tt)
+  pub bounded_iff : (r : Result Bounds Refusal) (after : Memory) → Bounding lowest d m r after → IsBounded r ↔ ((x : ℕ → ℕ) × Feasible d x)
+  bounded_iff (Err q) after runs =
+      (λ empty. absurd empty, λ w. none-some q (sym ((shortage_iff d fits).1 w) ∙ (sym only_shortage ∙ gives_is runs.0)))
+  bounded_iff (Ok b) after runs = (λ _. (runs.1.high.plan, runs.1.high.optimal.feasible), λ _. tt)
 
   -- Demand 2: otherwise it is refusal 7 with the first period for which no amounts up to it keep the conditions through it.
-  pub refused_short : (q : Refusal) (after : Memory) → Bounding lowest d m (Refused q) after → FirstShort d q
+  pub refused_short : (q : Refusal) (after : Memory) → Bounding lowest d m (Err q) after → FirstShort d q
   refused_short q after runs = shortage_names d fits q (sym only_shortage ∙ gives_is runs.0)
