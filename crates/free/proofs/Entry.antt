@@ -1,7 +1,6 @@
 -- Laws of the call: what passed tests leave for the loops, and what the loops leave is what an accepted call leaves.
 -- Assumes nothing.
-use Rattle.std.proofs.Common.{◌≡◌, refl, ap, ap₂, ◌∙◌, subst, List, ◌++◌, ℕ, ◌≤◌, arith, length, drop, replicate, drop_at}
-use Rattle.std.proofs.Math.Option.{some}
+use Rattle.std.proofs.Common.{◌≡◌, refl, ap, ◌∙◌, subst, List, ◌++◌, ℕ, ◌≤◌, arith, length, drop, replicate, drop_at}
 use Rattle.std.proofs.Math.ListN.{length-replicate}
 use Rattle.day.specs.declared.Totals.{Totals}
 use Rattle.day.specs.Sums.{at}
@@ -16,20 +15,16 @@ use Rattle.checks.specs.Passed.{Admitted, free_passed}
 use Rattle.weigher.specs.Verdict.{totals_of}
 use Rattle.weigher.specs.Walk.{FeasiblePlan, path_plan}
 use Rattle.theory.specs.Model.{Model}
-use Rattle.theory.specs.Problem.{Problem, periods, model_of, model_rising, model_unlimited}
-use Rattle.theory.specs.Net.{net_needs, rates_of, NetTables, problem_of, periods_is, bounded}
+use Rattle.theory.specs.Problem.{periods, model_of, model_rising, model_unlimited}
+use Rattle.theory.specs.Net.{net_needs, NetTables, problem_by, problem_of, problem_is, periods_is, bounded}
 use Rattle.theory.specs.Store.{Loose}
 use Rattle.theory.proofs.Loose.{limits_loose}
 use Rattle.theory.proofs.Store.{loose_supplied}
 use Rattle.theory.proofs.Base.{loose_optimal}
 use Rattle.theory.specs.FreeSetups.{Free}
-use Rattle.theory.specs.Batches.{Filled, Solves, greedy}
+use Rattle.theory.specs.Batches.{Filled, Solves}
 use Rattle.theory.proofs.Batches.{cleared_length, cleared_fresh, greedy_right}
-use Rattle.free.specs.Solved.{free_of, Solvable, Solved}
-
--- what the loops run on, for a day
-abbrev loops_of : Day → Problem
-loops_of d = free_of (net_needs d) d.capacity d.unit (rates_of d.holding)
+use Rattle.free.specs.Solved.{Solvable, Solved}
 
 module _ (d : Day) (m : Memory) (ok : Admitted free d (sizes_of m)) where
   abbrev n : ℕ
@@ -51,39 +46,29 @@ module _ (d : Day) (m : Memory) (ok : Admitted free d (sizes_of m)) where
 
   -- The net needs and the rates as they were filled in.
   module _ (net rates : List ℕ) (filled : NetTables d net rates) where
-    abbrev loops : Problem
-    loops = free_of net d.capacity d.unit rates
-
-    loops_are : loops ≡ loops_of d
-    loops_are = ap₂ (λ (needs rate : List ℕ). free_of needs d.capacity d.unit rate) filled.needs filled.rates
-
-    pub solvable : Solvable loops m
+    pub solvable : Solvable (problem_by net rates d) m
     solvable =
         let b = bounded d ok.day in
-        rw loops_are
+        rw (problem_is d filled)
         (record {
           few = b.few;
           capacities = b.capacities;
           units = b.units;
           holdings = b.holdings;
+          unpaid = unpaid;
           supplied = loose_supplied d loose ok.supplied;
           cost_cells = omega (arith, periods_is d, ok.room.costs);
           room = room;
         })
 
     -- The memory once the plan is found.
-    module _ (after : Memory) (found : Solved loops m after) where
-      left : Solved (loops_of d) m after
-      left = rw loops_are at found
-
-      -- the rule looks at no setup cost
-      is : greedy M n (at (net_needs d)) (cleared n m.slots) ≡ some after.slots
-      unfolding greedy
-      is = left.slots
+    module _ (after : Memory) (found : Solved (problem_by net rates d) m after) where
+      left : Solved (problem_of d) m after
+      left = rw (problem_is d filled) at found
 
       plan : Filled M n (cleared n m.slots) after.slots
       plan =
-          subst (Solves M n (cleared n m.slots)) is
+          subst (Solves M n (cleared n m.slots)) left.slots
           (greedy_right M (model_rising (problem_of d)) (model_unlimited (problem_of d)) n unpaid (cleared n m.slots)
           (cleared_fresh n m.slots room) (at (net_needs d)) (λ k l. refl))
 

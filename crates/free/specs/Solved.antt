@@ -1,27 +1,24 @@
 -- What `solve` asks and leaves. Main definitions: `Solvable`, `Solved`. Assumes nothing.
-use Rattle.std.specs.Prelude.{◌≡◌, List, [], ℕ, ◌≤◌, length, drop}
-use Rattle.std.proofs.Math.Option.{some}
+use Rattle.std.specs.Prelude.{◌≡◌, Some, ◌≤◌, length, drop}
 use Rattle.day.specs.Sums.{at}
 use Rattle.day.specs.Day.{max_periods}
 use Rattle.day.specs.Outcome.{Memory, cleared}
-use Rattle.theory.specs.Problem.{Problem, problem_with, periods, model_of, Supplied}
+use Rattle.theory.specs.Problem.{Problem, periods, model_of, Supplied}
+use Rattle.theory.specs.FreeSetups.{Free}
 use Rattle.theory.specs.Batches.{greedy}
 
--- a problem without setup cost: entries past a table's end are 0
-abbrev pub free_of : (demand capacity unit holding : List ℕ) → Problem
-free_of demand capacity unit holding = problem_with demand capacity [] unit holding
-
--- tables of one length, no period short, a cost cell and a slot for each period
+-- tables of one length, no setup cost, no period short, a cost cell and a slot for each period
 pub record Solvable (p : Problem) (m : Memory) : Type 0 where
   pub few : periods p ≤ max_periods
   pub capacities : length p.capacity ≡ periods p
   pub units : length p.unit ≡ periods p
   pub holdings : length p.holding ≡ periods p
+  pub unpaid : Free (model_of p) (periods p)
   pub supplied : Supplied p
   pub cost_cells : periods p ≤ length m.costs
   pub room : periods p ≤ length m.slots
 
 -- the slots hold what the greedy rule gives; n cost cells are free, and all else is as it was
 pub record Solved (p : Problem) (before after : Memory) : Type 0 where
-  pub slots : greedy (model_of p) (periods p) (at p.demand) (cleared (periods p) before.slots) ≡ some after.slots
+  pub slots : greedy (model_of p) (periods p) (at p.demand) (cleared (periods p) before.slots) ≡ Some after.slots
   pub costs : drop (periods p) after.costs ≡ drop (periods p) before.costs
