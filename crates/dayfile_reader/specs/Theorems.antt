@@ -1,11 +1,9 @@
 -- What demand 2 asks of the reader: what it gives is what the layout says, and the file has the expected stamp (`reader_gives`). Assumes nothing.
-use Rattle.std.specs.Prelude.{◌≡◌, refl, true, List, ℕ}
+use Rattle.std.specs.Prelude.{◌≡◌, refl, true, List, ℕ, Option, Some, Ok}
 use Rattle.day.specs.declared.Ends.{Ends}
-use Rattle.day.specs.declared.Expected.{Expected}
-use Rattle.day.specs.declared.Expected.TheVariants.{Only}
+use Rattle.day.specs.declared.Stamp.{Stamp}
 use Rattle.day.specs.Day.{Day}
 use Rattle.day.specs.File.{number2, number4, is_stamped, Layout, periods_in, stamp_in, charge_in, field, store_in}
-use Rattle.dayfile.specs.declared.ReadAnswer.TheVariants.{Periods}
 use Rattle.tables.specs.Filled.{FrontFilled, front_filled}
 use Rattle.dayfile.specs.Answers.{Reading}
 use Rattle.dayfile.specs.Passed.{stamp_passed, read_given}
@@ -14,10 +12,10 @@ use Rattle.dayfile_reader.specs.Tables.{read_passed}
 
 -- an accepted reading: the file is laid out as the documents say, with n periods, its stamp is the expected one, and A, Z, r, c, b, p, h, s come from
 -- their places; where the head has no charges, A and Z are both 0, and where a record holds no store limit, that is 65,535
-pub record Read (expected : Expected) (s : List ℕ) (n : ℕ) (ends : Ends) (before after : Day) : Type 0 where
+pub record Read (expected : Option Stamp) (s : List ℕ) (n : ℕ) (ends : Ends) (before after : Day) : Type 0 where
   pub layout : Layout s n
   pub stamped : is_stamped s ≡ true
-  pub stamp : expected ≡ Only (stamp_in s)
+  pub stamp : expected ≡ Some (stamp_in s)
   pub opening : ends.opening ≡ charge_in 0 s
   pub closing : ends.closing ≡ charge_in 2 s
   pub demand : FrontFilled n (field number2 0 s) before.demand after.demand
@@ -27,7 +25,7 @@ pub record Read (expected : Expected) (s : List ℕ) (n : ℕ) (ends : Ends) (be
   pub holding : FrontFilled n (field number4 12 s) before.holding after.holding
   pub store : FrontFilled n (store_in s) before.store after.store
 
-pub reader_gives : (expected : Expected) (s : List ℕ) (n : ℕ) (ends : Ends) (before after : Day) → Reading expected s before (Periods n ends) after
+pub reader_gives : (expected : Option Stamp) (s : List ℕ) (n : ℕ) (ends : Ends) (before after : Day) → Reading expected s before (Ok (n, ends)) after
     → Read expected s n ends before after
 reader_gives expected s n ends before after w =
     let c = read_passed expected s before w.0 in

@@ -13,11 +13,10 @@ ghost use Rattle.dayfile.specs.Layout.{WholePeriod};
 ghost use Rattle.dayfile.specs.Answers.{with_day, bad_read, Reading};
 ghost use Rattle.dayfile_reader.specs.Numbers.{numbers_in};
 
-use day::{Check, Ends, Expected, Refusal};
+use day::{Day, Ends, Entries, Refusal, Stamp};
 use dayfile::file::DayFile;
 use dayfile::kind::Kind;
-use dayfile::{ReadAnswer, layout};
-use tables::Numbers;
+use dayfile::layout;
 
 // The store limit of a period record: only kind 4 holds one.
 fn store_limit(kind: Kind, body: &[u8]) -> u16
@@ -31,12 +30,12 @@ fn store_limit(kind: Kind, body: &[u8]) -> u16
 }
 
 // The field decoder: the numbers that the body of a period record of this kind holds.
-fn decode(kind: Kind, body: &[u8]) -> Numbers
+fn decode(kind: Kind, body: &[u8]) -> Entries
     requires long { 16 ≤ length body.now }
     requires length_by_kind { length body.now ≡ body_length (byte_of kind) }
     ensures { result ≡ numbers_in (byte_of kind) body.now }
 {
-    Numbers {
+    Entries {
         demand: layout::number2(body, 0),
         capacity: layout::number2(body, 2),
         setup: layout::number4(body, 4),
@@ -47,7 +46,7 @@ fn decode(kind: Kind, body: &[u8]) -> Numbers
 }
 
 // The numbers of the period record that begins at `at`.
-fn period(file: &[u8], at: usize) -> Numbers
+fn period(file: &[u8], at: usize) -> Entries
     requires { WholePeriod file.now at }
     ensures { result ≡ numbers_in (slice_index file.now at) (body file.now at) }
 {
@@ -90,14 +89,14 @@ fn fill(
 {
     let mut at = layout::head_end(file.bytes);
     for k in 0..file.periods {
-        let numbers = period(file.bytes, at);
-        tables::put(k, numbers, demand, capacity, setup, unit, holding, store);
+        let p = period(file.bytes, at);
+        tables::put(k, p, demand, capacity, setup, unit, holding, store);
         at = layout::next(file.bytes, at);
     }
 }
 
 // 3. The numbers are taken into tables of its own, so that the test speaks before a lent cell changes.
-fn values(file: DayFile) -> Check
+fn values(file: DayFile) -> Result<(), Refusal>
     requires { file.periods ≤ max_periods }
     ensures { result ≡ checked (bad_value (day_in file.entry.bytes.now)) }
 {
@@ -117,25 +116,24 @@ fn values(file: DayFile) -> Check
         &mut holding,
         &mut store,
     );
-    checks::values(
-        &demand[0..n],
-        &capacity[0..n],
-        &setup[0..n],
-        &unit[0..n],
-        &holding[0..n],
-        &store[0..n],
-    )
+    checks::values(Day::new(
+        &demand[..n],
+        &capacity[..n],
+        &setup[..n],
+        &unit[..n],
+        &holding[..n],
+        &store[..n],
+        ends(file.bytes),
+    ))
 }
 
 // The reader's tests in order, for tables of at least `cells` cells.
-fn tests(file: DayFile, cells: usize, expected: Expected) -> Check
+fn tests(file: DayFile, cells: usize, expected: Option<Stamp>) -> Result<(), Refusal>
     ensures { result ≡ checked (bad_read expected file.entry.bytes.now cells) }
 {
-    if let Check::Refused(r) = file_checks::tests(file, expected) {
-        return Check::Refused(r);
-    }
+    file_checks::tests(file, expected)?;
     if cells < file.periods {
-        return Check::Refused(Refusal::FewSlots);
+        return Err(Refusal::FewSlots);
     }
     values(file)
 }
@@ -150,8 +148,8 @@ pub fn read(
     unit: &mut [u32],
     holding: &mut [u32],
     store: &mut [u16],
-    expected: Expected,
-) -> ReadAnswer
+    expected: Option<Stamp>,
+) -> Result<(usize, Ends), Refusal>
     ensures { Reading expected file.now (tables_lent demand capacity setup unit holding store) result
         (tables_after demand capacity setup unit holding store) }
 {
@@ -164,9 +162,7 @@ pub fn read(
         holding.len(),
         store.len(),
     );
-    if let Check::Refused(r) = tests(file, cells, expected) {
-        return ReadAnswer::Refused(r);
-    }
+    tests(file, cells, expected)?;
     fill(file, demand, capacity, setup, unit, holding, store);
-    ReadAnswer::Periods(file.periods, ends(file.bytes))
+    Ok((file.periods, ends(file.bytes)))
 }
