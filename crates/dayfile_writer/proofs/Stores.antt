@@ -2,16 +2,17 @@
 use Rattle.std.specs.Prelude.{◌≡◌, refl, List, [], ◌∷◌, ◌++◌, ℕ, zero, suc, ◌+◌, ◌-◌, ◌≤◌, length, take, drop, set}
 use borrow.Rule.Slice.PartMut.{put_mid}
 use Rattle.std.specs.List.{sum_by}
-use Rattle.std.proofs.Common.{ap, ◌∙◌, append_assoc, arith, add-one, drop-drop, take_all, sum, map}
+use Rattle.std.proofs.Common.{◌∙◌, append_assoc, arith, add-one, drop-drop, take_all, sum, map}
 use Rattle.std.proofs.lemmas.List.Sums.{sum-map, sum_by_more}
 use Rattle.std.proofs.lemmas.List.Edits.{sets, sets-eq}
 use Rattle.day.specs.Sums.{at}
-use Rattle.day.specs.Day.{Day, tables_of, periods}
+use Rattle.day.specs.Day.{Day, periods, entries_at}
+use Rattle.day.specs.declared.Entries.{Entries}
 use Rattle.day.specs.declared.Stamp.{Stamp}
-use Rattle.day.specs.File.{end_kind, bytes2, head_of, limit_of, record_of, records_of, file_of}
+use Rattle.day.specs.File.{end_kind, bytes2, head_of, fields_of, kind_of, limit_of, record_of, records_of, file_of}
 use Rattle.dayfile.specs.Answers.{with_file}
 use Rattle.dayfile.specs.Theorems.{record_bytes}
-use Rattle.dayfile_writer.specs.RoundTrip.{long_record, record_front, records_length}
+use Rattle.dayfile_writer.specs.RoundTrip.{record_front, records_length}
 
 -- one run after another
 pub sets_then : (a b l : List ℕ) (i j : ℕ) → j ≡ i + length a → sets (sets l i a) j b ≡ sets l i (a ++ b)
@@ -45,10 +46,11 @@ sets_front : (vs l : List ℕ) → length vs ≤ length l → sets l 0 vs ≡ vs
 sets_front vs l h = let e : 0 + length vs ≡ length vs = omega arith in rw e at (sets-eq vs l 0 (omega arith))
 
 -- the part of a long record that is the record
-pub record_part : (d : Day) (k : ℕ) {size : ℕ} {bytes : List ℕ}
-    → size ≡ 17 + length (limit_of (at d.store k)) → bytes ≡ long_record d k
+pub record_part : (d : Day) (k : ℕ) {p : Entries} {size : ℕ} {bytes : List ℕ}
+    → p ≡ entries_at d k → size ≡ 17 + length (limit_of p.store)
+    → bytes ≡ kind_of p.store ∷ fields_of p.demand p.capacity p.setup p.unit p.holding ++ bytes2 p.store
     → take size bytes ≡ record_of d k
-record_part d k e r = rw (e, r) (record_front d k)
+record_part d k is e r = rw (e, r, is) (record_front d k)
 
 -- a turn of the loop that stores the records
 pub record_stored : (d : Day) (l : List ℕ) (first k : ℕ) {out part after : List ℕ} {place : ℕ}
@@ -57,14 +59,6 @@ pub record_stored : (d : Day) (l : List ℕ) (first k : ℕ) {out part after : L
 record_stored d l first k {place = place} here before p e =
     e ∙ rw (before, p) (sets_then (records_of d k) (record_of d k) l first place (omega (arith, here, records_length d k)))
 
--- the period records hold nothing of the ends
-abbrev tables : Day → Day
-tables d = tables_of d.demand d.capacity d.setup d.unit d.holding d.store
-
-records_alike : (d : Day) (k : ℕ) → records_of (tables d) k ≡ records_of d k
-records_alike d zero = refl
-records_alike d (suc k) = ap (λ (r : List ℕ). r ++ record_of d k) (records_alike d k)
-
 -- the head, the period records, and then the end record, make the file
 module _ (t : Stamp) (d : Day) (out : List ℕ) where
   abbrev head : List ℕ
@@ -72,14 +66,14 @@ module _ (t : Stamp) (d : Day) (out : List ℕ) where
 
   pub file_stored : (first mid after : List ℕ) {place last : ℕ} {end : List ℕ}
       → length (file_of t d) ≤ length out → place ≡ length head → first ≡ sets out 0 head
-      → (last ≡ place + record_bytes (at d.store) (periods d)) × (mid ≡ sets first place (records_of (tables d) (periods d)))
+      → last ≡ place + record_bytes (at d.store) (periods d) → mid ≡ sets first place (records_of d (periods d))
       → end ≡ end_kind ∷ bytes2 (periods d) → after ≡ sets mid last end
       → after ≡ with_file t d out
-  file_stored first mid after {last = last} room here h r l e =
+  file_stored first mid after {last = last} room here h to r l e =
       let n = periods d in
-      let records : mid ≡ sets first (length head) (records_of d n) = r.1 ∙ rw (here, records_alike d n) refl in
+      let records : mid ≡ sets first (length head) (records_of d n) = r ∙ rw here refl in
       let end-at : after ≡ sets mid last (end_kind ∷ bytes2 n) = e ∙ rw l refl in
-      let body = sets_then (records_of d n) (end_kind ∷ bytes2 n) first (length head) last (omega (arith, here, r.0, records_length d n)) in
+      let body = sets_then (records_of d n) (end_kind ∷ bytes2 n) first (length head) last (omega (arith, here, to, records_length d n)) in
       let whole = sets_then head (records_of d n ++ end_kind ∷ bytes2 n) out 0 (length head) (omega arith) in
       let from-head : after ≡ sets first (length head) (records_of d n ++ end_kind ∷ bytes2 n) = end-at ∙ rw records body in
       let from_front : after ≡ sets out 0 (file_of t d) = from-head ∙ rw h whole in

@@ -5,18 +5,15 @@
 ghost use Rattle.std.specs.Prelude.{◌≡◌, ◌∷◌, ◌++◌, ◌+◌, ◌*◌, ◌≤◌, not, length};
 ghost use Rattle.std.proofs.lemmas.List.Edits.{sets};
 ghost use Rattle.day.specs.Sums.{Term, at};
-ghost use Rattle.day.specs.Day.{day_of, tables_of, max_periods};
+ghost use Rattle.day.specs.Day.{periods, max_periods};
 ghost use Rattle.day.specs.File.{end_kind, both_zero, bytes2, charges_of, head_of, fields_of, kind_of, limit_of, records_of, file_of};
 ghost use Rattle.checks.specs.Passed.{SameLengths, Readable};
-ghost use Rattle.day.specs.Lent.{day_before, tables_before};
-ghost use Rattle.tables.specs.Filled.{Cells};
+ghost use Rattle.day.specs.Lent.{lent_day};
 ghost use Rattle.dayfile.specs.Kinds.{byte_of};
 ghost use Rattle.dayfile.specs.Answers.{with_file, Writing};
 ghost use Rattle.dayfile.specs.Theorems.{record_bytes};
-ghost use Rattle.dayfile_writer.specs.RoundTrip.{long_record};
 
-use day::{Check, Ends, Refusal, Stamp};
-use dayfile::WriteAnswer;
+use day::{Day, Ends, Entries, Refusal, Stamp};
 use dayfile::kind::Kind;
 use dayfile::layout::NO_LIMIT;
 
@@ -38,50 +35,19 @@ fn record_size(store: u16) -> usize
     1 + kind_of(store).body_length()
 }
 
-// A period's record of this kind, with its store limit in any case. Numbers stand most significant byte first.
-fn period_record(
-    kind: Kind,
-    demand: u16,
-    capacity: u16,
-    setup: u32,
-    unit: u32,
-    holding: u32,
-    store: u16,
-) -> [u8; 19]
-    ensures { result ≡ byte_of kind ∷ fields_of demand capacity setup unit holding ++ bytes2 store }
+// A period's record, with its store limit in any case. Numbers stand most significant byte first.
+fn period_record(p: Entries) -> [u8; 19]
+    ensures { result ≡ kind_of p.store ∷ fields_of p.demand p.capacity p.setup p.unit p.holding ++ bytes2 p.store }
 {
     let mut record = [0; 19];
-    record[0] = u8::from(kind);
-    record[1..3].copy_from_slice(&demand.to_be_bytes());
-    record[3..5].copy_from_slice(&capacity.to_be_bytes());
-    record[5..9].copy_from_slice(&setup.to_be_bytes());
-    record[9..13].copy_from_slice(&unit.to_be_bytes());
-    record[13..17].copy_from_slice(&holding.to_be_bytes());
-    record[17..19].copy_from_slice(&store.to_be_bytes());
+    record[0] = u8::from(kind_of(p.store));
+    record[1..3].copy_from_slice(&p.demand.to_be_bytes());
+    record[3..5].copy_from_slice(&p.capacity.to_be_bytes());
+    record[5..9].copy_from_slice(&p.setup.to_be_bytes());
+    record[9..13].copy_from_slice(&p.unit.to_be_bytes());
+    record[13..17].copy_from_slice(&p.holding.to_be_bytes());
+    record[17..19].copy_from_slice(&p.store.to_be_bytes());
     record
-}
-
-fn record_of(
-    k: usize,
-    demand: &[u16],
-    capacity: &[u16],
-    setup: &[u32],
-    unit: &[u32],
-    holding: &[u32],
-    store: &[u16],
-) -> [u8; 19]
-    requires { Cells (k + 1) (tables_of demand.now capacity.now setup.now unit.now holding.now store.now) }
-    ensures { result ≡ long_record (tables_before demand capacity setup unit holding store) k }
-{
-    period_record(
-        kind_of(store[k]),
-        demand[k],
-        capacity[k],
-        setup[k],
-        unit[k],
-        holding[k],
-        store[k],
-    )
 }
 
 // A record of the head: its kind and two numbers.
@@ -157,26 +123,17 @@ fn records_size(store: &[u16]) -> usize
 }
 
 // The records of all periods, from byte `first` on; where they end.
-fn put_periods(
-    demand: &[u16],
-    capacity: &[u16],
-    setup: &[u32],
-    unit: &[u32],
-    holding: &[u32],
-    store: &[u16],
-    out: &mut [u8],
-    first: usize,
-) -> usize
-    requires same_lengths { SameLengths (tables_of demand.now capacity.now setup.now unit.now holding.now store.now) }
-    requires room { first + record_bytes (at store.now) (length demand.now) ≤ length out.old }
-    ensures { (result ≡ first + record_bytes (at store.now) (length demand.now))
-        × (out.new
-        ≡ sets out.old first (records_of (tables_before demand capacity setup unit holding store) (length demand.now))) }
+fn put_periods(day: Day, out: &mut [u8], first: usize) -> usize
+    requires same_lengths { SameLengths (lent_day day) }
+    requires room { first + record_bytes (at day.store.now) (periods (lent_day day)) ≤ length out.old }
+    ensures end { result ≡ first + record_bytes (at day.entry.store.now) (periods (lent_day day.entry)) }
+    ensures written { out.new ≡ sets out.old first (records_of (lent_day day.entry) (periods (lent_day day.entry))) }
 {
     let mut at = first;
-    for k in 0..demand.len() {
-        let record = record_of(k, demand, capacity, setup, unit, holding, store);
-        let size = record_size(store[k]);
+    for k in 0..day.periods() {
+        let p = day.entries(k);
+        let record = period_record(p);
+        let size = record_size(p.store);
         copy(&record[..size], out, at);
         at += size;
     }
@@ -184,51 +141,26 @@ fn put_periods(
 }
 
 // The file, at the slice's front.
-fn put_file(
-    demand: &[u16],
-    capacity: &[u16],
-    setup: &[u32],
-    unit: &[u32],
-    holding: &[u32],
-    store: &[u16],
-    out: &mut [u8],
-    ends: Ends,
-    stamp: Stamp,
-)
-    requires readable { Readable (day_of demand.now capacity.now setup.now unit.now holding.now store.now ends) }
-    requires room { length (file_of stamp (day_of demand.now capacity.now setup.now unit.now holding.now store.now ends)) ≤ length out.old }
-    ensures { out.new ≡ with_file stamp (day_before demand capacity setup unit holding store ends) out.old }
+fn put_file(day: Day, out: &mut [u8], stamp: Stamp)
+    requires readable { Readable (lent_day day) }
+    requires room { length (file_of stamp (lent_day day)) ≤ length out.old }
+    ensures { out.new ≡ with_file stamp (lent_day day.entry) out.old }
 {
-    put_head(out, ends, stamp);
-    let first = head_size(ends);
-    let end = put_periods(demand, capacity, setup, unit, holding, store, out, first);
-    let record = end_record(demand.len() as u16);
+    put_head(out, day.ends, stamp);
+    let end = put_periods(day, out, head_size(day.ends));
+    let record = end_record(day.periods() as u16);
     copy(&record, out, end);
 }
 
 // Writes the file of a stamp and a day: 1, 2, 3, then 6. Accepted, the file stands at the slice's front, and its length is given.
-pub fn write(
-    demand: &[u16],
-    capacity: &[u16],
-    setup: &[u32],
-    unit: &[u32],
-    holding: &[u32],
-    store: &[u16],
-    out: &mut [u8],
-    ends: Ends,
-    stamp: Stamp,
-) -> WriteAnswer
-    ensures { Writing stamp (day_before demand capacity setup unit holding store ends) out.old result out.new }
+pub fn write(day: Day, out: &mut [u8], stamp: Stamp) -> Result<usize, Refusal>
+    ensures { Writing stamp (lent_day day.entry) out.old result out.new }
 {
-    if let Check::Refused(r) = checks::tables(demand, capacity, setup, unit, holding, store) {
-        return WriteAnswer::Refused(r);
-    }
-    let size = head_size(ends) + records_size(store) + 3;
+    checks::tables(day)?;
+    let size = head_size(day.ends) + records_size(day.store) + 3;
     if out.len() < size {
-        return WriteAnswer::Refused(Refusal::FewSlots);
+        return Err(Refusal::FewSlots);
     }
-    put_file(
-        demand, capacity, setup, unit, holding, store, out, ends, stamp,
-    );
-    WriteAnswer::Bytes(size)
+    put_file(day, out, stamp);
+    Ok(size)
 }

@@ -1,11 +1,13 @@
 -- The tables' refusal, or that of the room after it; else the file, of the length that was summed.
 use Rattle.std.proofs.Common.{◌≡◌, ◌+◌, [], ◌∷◌, ℕ, refl, ap, arith, length, lt-ltb, le-ltb}
-use Rattle.std.proofs.Math.Option.{none}
+use Rattle.std.specs.Prelude.{None}
+use Rattle.std.proofs.lemmas.Result.{err_from_is_err_and}
 use Rattle.day.specs.Sums.{at}
-use Rattle.day.specs.Day.{Day, day_of}
+use Rattle.day.specs.Day.{Day}
+use Rattle.day.specs.Lent.{lent_day}
 use Rattle.day.specs.declared.Stamp.{Stamp}
 use Rattle.day.specs.Refusals.{first, table_tests, bad_slots}
-use Rattle.day.specs.Tests.{passed, is_gives, first_passed}
+use Rattle.day.specs.Tests.{passed, refused, is_gives, first_refused, first_passed}
 use Rattle.day.specs.File.{charges_of, file_of}
 use Rattle.checks.specs.Passed.{Limits, tables_passed}
 use Rattle.dayfile.specs.Answers.{bad_write}
@@ -20,11 +22,20 @@ size_is t d head records w h r =
     let same = ap (record_bytes (at d.store)) w.lengths.store in
     omega (arith, file_length t d, h, r, same)
 
+pub returns-in_err-tables : goal.returns-in_err-tables
+returns-in_err-tables c =
+    let a = c.args in
+    let d = lent_day a.day in
+    let last = bad_slots (length a.out.now) (length (file_of a.stamp d)) in
+    let p = err_from_is_err_and c.from_residual.result c.from_residual.ensures.1 in
+    let r = refused (first (table_tests d)) c.tables.ensures c.in_err-tables.was in
+    rw (p.1, p.2) (is_gives (first_refused (table_tests d) (last ∷ []) r), refl)
+
 pub returns-then-out-size : goal.returns-then-out-size
 returns-then-out-size c =
     let a = c.args in
-    let d = day_of a.demand.now a.capacity.now a.setup.now a.unit.now a.holding.now a.store.now a.ends in
-    let admitted : first (table_tests d) ≡ none = passed _ c.tables.ensures c.in_default.is in
+    let d = lent_day a.day in
+    let admitted : first (table_tests d) ≡ None = passed _ c.tables.ensures c.in_ok-tables.was in
     let is = size_is a.stamp d _ _ (tables_passed d admitted) c.head_size.ensures.is c.records_size.ensures.is in
     let last = bad_slots (length a.out.now) (length (file_of a.stamp d)) in
     (is_gives (rw (first_passed (table_tests d) (last ∷ []) admitted, ← is, lt-ltb _ _ c.if-out-size.true) refl), refl)
@@ -32,17 +43,17 @@ returns-then-out-size c =
 pub put_file-requires-clause-room : goal.put_file-requires-clause-room
 put_file-requires-clause-room c =
     let a = c.args in
-    let d = day_of a.demand.now a.capacity.now a.setup.now a.unit.now a.holding.now a.store.now a.ends in
-    let admitted : first (table_tests d) ≡ none = passed _ c.tables.ensures c.in_default.is in
+    let d = lent_day a.day in
+    let admitted : first (table_tests d) ≡ None = passed _ c.tables.ensures c.in_ok-tables.was in
     rw (size_is a.stamp d _ _ (tables_passed d admitted) c.head_size.ensures.is c.records_size.ensures.is) at c.if-out-size.false
 
 pub returns : goal.returns
 returns c =
     let a = c.args in
-    let d = day_of a.demand.now a.capacity.now a.setup.now a.unit.now a.holding.now a.store.now a.ends in
-    let admitted : first (table_tests d) ≡ none = passed _ c.tables.ensures c.in_default.is in
+    let d = lent_day a.day in
+    let admitted : first (table_tests d) ≡ None = passed _ c.tables.ensures c.in_ok-tables.was in
     let is = size_is a.stamp d _ _ (tables_passed d admitted) c.head_size.ensures.is c.records_size.ensures.is in
     let last = bad_slots (length a.out.now) (length (file_of a.stamp d)) in
-    let ok : bad_write a.stamp d (length a.out.now) ≡ none =
+    let ok : bad_write a.stamp d (length a.out.now) ≡ None =
     rw (first_passed (table_tests d) (last ∷ []) admitted, ← is, le-ltb _ _ c.if-out-size.false) refl in
     (ok, rw is refl, c.put_file.ensures)
