@@ -3,13 +3,12 @@
 
 ghost use Rattle.std.specs.Prelude.{◌<◌, length};
 
-use day::{Check, Expected, Refusal, Stamp};
-use dayfile::{ReadAnswer, WriteAnswer};
+use day::{Day, Ends, Refusal, Stamp};
 use std::alloc::{AllocError, Global};
 use std::io;
 use trial_text::cells::{MARK, marked};
 use trial_text::counts::Counts;
-use trial_text::days::{Day, Tables};
+use trial_text::days::Tables;
 use trial_text::line::{Line, numbers, repeated};
 use trial_text::show::{Charge, Kept, Refused, Stores};
 
@@ -51,19 +50,23 @@ const OWN: Stamp = Stamp {
 };
 
 // The stamp that the reader is to expect: the two numbers of field 3, or its own where the field is left out. Fewer or more are no stamp.
-fn expected(alloc: Global, line: Line<'_>) -> Result<Expected, AllocError> {
+fn expected(alloc: Global, line: Line<'_>) -> Result<Option<Stamp>, AllocError> {
     match numbers(alloc, line.field(3))?.as_slice() {
-        [] => Ok(Expected::Only(OWN)),
-        [station, date] => Ok(Expected::Only(Stamp {
+        [] => Ok(Some(OWN)),
+        [station, date] => Ok(Some(Stamp {
             station: *station,
             date: *date,
         })),
-        _ => Ok(Expected::Nothing),
+        _ => Ok(None),
     }
 }
 
 // The reader, on tables of its own.
-fn read_into(file: &[u8], tables: &mut Tables, expected: Expected) -> ReadAnswer {
+fn read_into(
+    file: &[u8],
+    tables: &mut Tables,
+    expected: Option<Stamp>,
+) -> Result<(usize, Ends), Refusal> {
     dayfile_reader::read(
         file,
         tables.demand.as_mut_slice(),
@@ -73,21 +76,6 @@ fn read_into(file: &[u8], tables: &mut Tables, expected: Expected) -> ReadAnswer
         tables.holding.as_mut_slice(),
         tables.store.as_mut_slice(),
         expected,
-    )
-}
-
-// The writer.
-fn write_into(day: Day<'_>, out: &mut [u8]) -> WriteAnswer {
-    dayfile_writer::write(
-        day.demand,
-        day.capacity,
-        day.setup,
-        day.unit,
-        day.holding,
-        day.store,
-        out,
-        day.ends,
-        OWN,
     )
 }
 
@@ -115,20 +103,18 @@ impl From<Fare> for u8 {
 // Whether a day is written to the very bytes of a file.
 fn same(file: &[u8], day: Day<'_>) -> bool {
     let mut out = [0u8; 1837];
-    match write_into(day, &mut out) {
-        WriteAnswer::Refused(_) => false,
-        WriteAnswer::Bytes(n) => out.get(..n) == Some(file),
+    match dayfile_writer::write(day, &mut out, OWN) {
+        Ok(n) => out.get(..n) == Some(file),
+        Err(_) => false,
     }
 }
 
 // How a file of two periods fares. Where it is refused the needs' cells are left as they were.
 fn fare_of(alloc: Global, file: &[u8]) -> Result<Fare, AllocError> {
     let mut tables = Tables::marked(alloc, 2)?;
-    match read_into(file, &mut tables, Expected::Only(OWN)) {
-        ReadAnswer::Refused(refusal) if marked(tables.demand.as_slice()) => {
-            Ok(Fare::Refused(refusal))
-        }
-        ReadAnswer::Periods(_, ends) if same(file, tables.day(ends)) => Ok(Fare::Same),
+    match read_into(file, &mut tables, Some(OWN)) {
+        Err(refusal) if marked(tables.demand.as_slice()) => Ok(Fare::Refused(refusal)),
+        Ok((_, ends)) if same(file, tables.day(ends)) => Ok(Fare::Same),
         _ => Ok(Fare::Wrong),
     }
 }
@@ -174,21 +160,21 @@ fn read<R: Print + AllocGlobal>(
     rt: &R,
     file: &[u8],
     cells: usize,
-    expected: Expected,
+    expected: Option<Stamp>,
 ) -> io::Result<()> {
     let mut tables = Tables::marked(rt.alloc(), cells)?;
     match read_into(file, &mut tables, expected) {
-        ReadAnswer::Refused(refusal) => print!(rt; "{}", Refused(refusal)),
-        ReadAnswer::Periods(n, ends) => {
+        Err(refusal) => print!(rt; "{}", Refused(refusal)),
+        Ok((n, ends)) => {
             let store = tables.store.get(..n).unwrap_or(&[]);
             print!(rt; " periods {n}{}{}", Charge(ends), Stores(store))
         }
     }
 }
 
-// How long the part is that a lookup hands out, with the demand and the store limit in it, and what its companion says.
+// How long the part is that a lookup hands out, none where it is refused, with the demand and the store limit in it; and what the test of a lookup says.
 fn look(rt: &impl Print, file: &[u8], period: usize) -> io::Result<()> {
-    let body = dayfile::lookup::body(file, period);
+    let body = dayfile::lookup::body(file, period).unwrap_or(&[]);
     print!(rt; " bytes {}", body.len())?;
     if let Some(need) = body.get(1) {
         print!(rt; " need {need}")?;
@@ -196,7 +182,7 @@ fn look(rt: &impl Print, file: &[u8], period: usize) -> io::Result<()> {
     if let Some([high, low]) = body.get(16..18) {
         print!(rt; " store {}", u16::from_be_bytes([*high, *low]))?;
     }
-    if let Check::Refused(refusal) = dayfile::lookup::check(file, period) {
+    if let Err(refusal) = dayfile::lookup::check(file, period) {
         print!(rt; "{}", Refused(refusal))?;
     }
     Ok(())
@@ -228,14 +214,14 @@ pub fn write<R: Print + AllocGlobal>(rt: &R, line: Line<'_>, day: Day<'_>) -> io
     };
     let mut out = vec![in rt.alloc(); MARK; room]?;
     print!(rt; "{} file", line.name)?;
-    match write_into(day, out.as_mut_slice()) {
-        WriteAnswer::Refused(refusal) => {
+    match dayfile_writer::write(day, out.as_mut_slice(), OWN) {
+        Err(refusal) => {
             print!(rt; "{}{}", Refused(refusal), Kept(marked(out.as_slice())))?;
         }
-        WriteAnswer::Bytes(n) => {
+        Ok(n) => {
             let (file, later) = out.split_at(n.min(out.len()));
             print!(rt; " bytes {n}{}", Kept(marked(later)))?;
-            read(rt, file, day.demand.len(), Expected::Only(OWN))?;
+            read(rt, file, day.periods(), Some(OWN))?;
         }
     }
     println!(rt)
