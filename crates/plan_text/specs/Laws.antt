@@ -1,4 +1,4 @@
--- What the full path's answer says of the text. Main statements: `planned_text`, `refused_text`. Assumes nothing.
+-- How the text comes about: a plan's lines one after another. Main statement: `lines_more`. Assumes nothing.
 use Rattle.std.specs.Prelude.{◌≡◌, List, ◌++◌, ℕ, ◌+◌, ◌*◌, ◌≤◌, length}
 use Rattle.std.proofs.Common.{add-one, arith, append_assoc, length-append}
 use Rattle.day.specs.Day.{Day}

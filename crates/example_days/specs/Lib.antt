@@ -1,2 +1,0 @@
--- What an accepted writing tells the program.
-pub mod Accepted
