@@ -1,8 +1,8 @@
 -- What holds of a played day (document 02, 2.11), over the call's contract. Main statements: `play_inventory`, `play_demand`, both balances;
 -- `played_keeps`, `keeps_played`, which plans are played; `plays_is`, one answer keeps the promise; `as_planned`. Assumes nothing.
 use Rattle.std.proofs.Common.{◌≡◌, refl, List, [], ◌∷◌, ◌++◌, ℕ, zero, suc, ◌+◌, ◌-◌, ◌≤◌, length}
-use Rattle.std.proofs.Common.{ap, ◌∙◌, arith}
-use Rattle.std.proofs.Math.Option.{none, none-ne-some, some-ne-none}
+use Rattle.std.proofs.Common.{sym, ap, ◌∙◌, arith, None, Ok, Err}
+use Rattle.std.proofs.lemmas.Option.{none-some}
 use Rattle.day.specs.declared.Totals.{Totals}
 use Rattle.day.specs.Sums.{at, sum_to}
 use Rattle.day.specs.Day.{Day, periods, demand_to, max_total}
@@ -12,17 +12,14 @@ use Rattle.day.specs.Tests.{gives_is, first_split}
 use Rattle.day.specs.Figures.{Figures, same_values}
 use Rattle.checks.specs.Passed.{tables_passed}
 use Rattle.range_checks.specs.Passed.{pair_passed}
-use Rattle.weigher.specs.declared.Rule.{Rule}
-use Rattle.weigher.specs.declared.Verdict.{Verdict}
-use Rattle.weigher.specs.declared.Verdict.TheVariants as verdict
-use Rattle.weigher.specs.Verdict.{verdict_of}
+use Rattle.weigher.specs.declared.Breach.{Breach}
+use Rattle.weigher.specs.declared.Fault.TheVariants.{Refused, Broken}
+use Rattle.weigher.specs.Verdict.{Verdict, verdict_of}
 use Rattle.weigher.specs.Answers.{verdict_figures, same_verdict}
 use Rattle.weigher.specs.Theorems.{holds_feasible, feasible_holds}
 use Rattle.play.specs.declared.Flows.{Flows}
-use Rattle.play.specs.declared.PlayAnswer.{PlayAnswer}
-use Rattle.play.specs.declared.PlayAnswer.TheVariants.{Refused, Broken, Played}
 use Rattle.play.specs.Play.{AsPlanned, lost_of, disposed_of, left_of, inventory_to, flows_to, flows_of}
-use Rattle.play.specs.Answers.{play_refusal, played_on, play_figures, play_answer, Plays}
+use Rattle.play.specs.Answers.{Played, play_refusal, played_on, play_figures, play_answer, Plays}
 use Rattle.play.proofs.Running.{inventory_balance, demand_balance}
 
 -- the figures fix the flows
@@ -30,24 +27,24 @@ abbrev flows_with : List ℕ → Flows
 flows_with l = record { produced = at l 0; delivered = at l 1; lost = at l 2; disposed = at l 3; left = at l 4 }
 
 -- where an answer plays, the verdict is "holds", and its flows are those of the play
-plays_held : (v : Verdict) (p q : Flows) → play_figures (Played p) ≡ play_figures (played_on v q) → ((t : Totals) × (v ≡ verdict.Holds t)) × (p ≡ q)
-plays_held (verdict.Holds t) p q e = ((t, refl), ap flows_with (same_values e))
-plays_held (verdict.Broken r i) p q e = absurd (some-ne-none _ (ap (λ (f : Figures ℕ). f.values) e))
+plays_held : (v : Verdict) (p q : Flows) → play_figures (Ok p) ≡ play_figures (played_on v q) → ((t : Totals) × (v ≡ Ok t)) × (p ≡ q)
+plays_held (Ok t) p q e = ((t, refl), ap flows_with (same_values e))
+plays_held (Err b) p q e = absurd (none-some _ (sym (ap (λ (f : Figures ℕ). f.values) e)))
 
 -- where it gives a broken rule, that is the verdict
-plays_broken : (v : Verdict) (r : Rule) (i : ℕ) (q : Flows) → play_figures (Broken r i) ≡ play_figures (played_on v q)
-    → verdict_figures (verdict.Broken r i) ≡ verdict_figures v
-plays_broken (verdict.Holds t) r i q e = absurd (none-ne-some _ (ap (λ (f : Figures ℕ). f.values) e))
-plays_broken (verdict.Broken s k) r i q e = e
+plays_broken : (v : Verdict) (b : Breach) (q : Flows) → play_figures (Err (Broken b)) ≡ play_figures (played_on v q)
+    → verdict_figures (Err b) ≡ verdict_figures v
+plays_broken (Ok t) b q e = absurd (none-some _ (ap (λ (f : Figures ℕ). f.values) e))
+plays_broken (Err c) b q e = e
 
 module _ (actual : List ℕ) (d : Day) (plan : List ℕ) where
   -- a day that 1 lets pass has a period
-  nonempty : play_refusal actual d plan ≡ none → 1 ≤ periods d
+  nonempty : play_refusal actual d plan ≡ None → 1 ≤ periods d
   nonempty e =
       let paired = (first_split (pair_tests actual d) (total_tests max_total d ++ (bad_slots (length plan) (periods d) ∷ [])) e).0 in
       (tables_passed d (pair_passed actual d paired).tables).nonempty
 
-  module _ {p : Flows} (h : Plays actual d plan (Played p)) where
+  module _ {p : Flows} (h : Plays actual d plan (Ok p)) where
     pub played_flows : p ≡ flows_of d (at plan) (at actual)
     played_flows = (plays_held (verdict_of d (at plan)) p (flows_of d (at plan) (at actual)) h.1).1
 
@@ -66,19 +63,19 @@ module _ (actual : List ℕ) (d : Day) (plan : List ℕ) where
         (holds_feasible d (at plan) (nonempty h.0) held.0 held.1).0
 
   -- it is the only one
-  pub plays_is : (answer : PlayAnswer) → Plays actual d plan answer → answer ≡ play_answer actual d plan
-  plays_is (Refused r) g = rw (gives_is g) refl
-  plays_is (Broken r i) e =
+  pub plays_is : (answer : Played) → Plays actual d plan answer → answer ≡ play_answer actual d plan
+  plays_is (Err (Refused r)) g = rw (gives_is g) refl
+  plays_is (Err (Broken b)) e =
       let v = verdict_of d (at plan) in
-      let same = same_verdict (verdict.Broken r i) v (plays_broken v r i (flows_of d (at plan) (at actual)) e.1) in
+      let same = same_verdict (Err b) v (plays_broken v b (flows_of d (at plan) (at actual)) e.1) in
       rw (e.0, ← same) refl
-  plays_is (Played p) e =
+  plays_is (Ok p) e =
       let held = plays_held (verdict_of d (at plan)) p (flows_of d (at plan) (at actual)) e.1 in
       rw (e.0, held.0.1, held.1) refl
 
   -- where no test refuses, a plan that keeps the conditions is played
-  pub keeps_played : play_refusal actual d plan ≡ none → Feasible d (at plan) → (answer : PlayAnswer) → Plays actual d plan answer
-      → answer ≡ Played (flows_of d (at plan) (at actual))
+  pub keeps_played : play_refusal actual d plan ≡ None → Feasible d (at plan) → (answer : Played) → Plays actual d plan answer
+      → answer ≡ Ok (flows_of d (at plan) (at actual))
   keeps_played passed f answer h = plays_is answer h ∙ rw (passed, feasible_holds d (at plan) f) refl
 
 module _ (d : Day) (x : ℕ → ℕ) (f : Feasible d x) where

@@ -4,4 +4,4 @@ use Rattle.play.proofs.Running.{running_room}
 use Rattle.play.proofs.run.Goals as goal
 
 pub advance-p-requires : goal.advance-p-requires
-advance-p-requires c = running_room c.loop-i.invariant c.requires.few (omega (arith, c.ranges.opening.fits))
+advance-p-requires c = running_room c.loop-amount.invariant c.requires.few (omega (arith, c.ranges.opening.fits))
