@@ -1,15 +1,14 @@
 -- A row found from the rows before it: what the loop over its candidates keeps, and that it ends with the plan.
 -- Main statements: `best_none`, `old_stays`, `new_goes`, `row_found`. Assumes nothing.
-use Rattle.std.specs.Prelude.{◌≡◌, refl, List, [], ◌∷◌, ℕ, zero, suc, ◌+◌, ◌*◌, ◌≤◌, ◌<◌, take, drop}
+use Rattle.std.specs.Prelude.{◌≡◌, refl, List, [], ◌∷◌, ℕ, zero, suc, ◌+◌, ◌*◌, ◌≤◌, ◌<◌, take, drop, Option, None, Some}
 use Rattle.std.proofs.Common.{sym, ap, ◌∙◌, ⊎_elim, eq-or-lt_of_le, le_of_suc-le-suc, arith, take-take, get_or-take}
-use Rattle.std.proofs.Math.Option.{Option, none, some}
 use Rattle.day.specs.Sums.{at}
 use Rattle.day.specs.Plan.{Precedes}
 use Rattle.theory.specs.Model.{cost_to}
 use Rattle.theory.specs.Problem.{Problem, periods, demand_to, model_of, model_rising, model_unlimited}
 use Rattle.theory.specs.Stages.{Solution, Leads, Answers}
 use Rattle.theory.specs.Recursion.{PlanOf}
-use Rattle.theory.specs.Candidates.{Some, keep_old, take_new}
+use Rattle.theory.specs.Candidates.{OneOf, keep_old, take_new}
 use Rattle.theory.specs.Regeneration.{Fits, Right}
 use Rattle.theory.specs.FlorianKlein.{Equal, by_loads, florian_klein_cover}
 use Rattle.theory.specs.Reachable.{Covered, interval}
@@ -19,7 +18,7 @@ use Rattle.equal_rows.specs.Rows.{Areas, PlanTold, FrontKept, row_of, solution_o
 
 -- two that are as they are told, by what they cost and make
 module _ (Q Q' : (ℕ → ℕ) → Type 0) (costs : (ℕ → ℕ) → ℕ) (n B v w : ℕ) (x y : List ℕ) (a b : Solution) where
-  sooner_precedes : Leads Q costs n a → Leads Q' costs n b → PlanTold B v x (some a) → PlanTold B w y (some b)
+  sooner_precedes : Leads Q costs n a → Leads Q' costs n b → PlanTold B v x (Some a) → PlanTold B w y (Some b)
       → Sooner n v (at x) w (at y) → Precedes costs n (at a.plan) (at b.plan)
   sooner_precedes la lb ha hb s =
       let p = la.tells in
@@ -34,29 +33,29 @@ module _ (Q Q' : (ℕ → ℕ) → Type 0) (costs : (ℕ → ℕ) → ℕ) (n B 
 
 -- of the candidates before i, and candidate i
 module _ (P : ℕ → (ℕ → ℕ) → Type 0) (costs : (ℕ → ℕ) → ℕ) (n i B v w : ℕ) (x y : List ℕ) (low : B < marker) where
-  neither : Answers (Some P i) costs n none → Answers (P i) costs n none → Answers (Some P (suc i)) costs n none
+  neither : Answers (OneOf P i) costs n None → Answers (P i) costs n None → Answers (OneOf P (suc i)) costs n None
   neither la lb z q = ⊎_elim (λ (e : q.0 ≡ i). lb z (rw e at q.2)) (λ h. la z (q.0, h, q.2)) (eq-or-lt_of_le (le_of_suc-le-suc q.1))
 
   -- the one kept so far goes first
-  pub old_stays : (o o' : Option Solution) → Answers (Some P i) costs n o → Answers (P i) costs n o' → PlanTold B v x o → PlanTold B w y o'
-      → Sooner n v (at x) w (at y) → Answers (Some P (suc i)) costs n o
-  old_stays none none la lb ha hb s = neither la lb
-  old_stays none (some b) la lb ha hb s = absurd (omega (arith, s.cheap, ha.cost.0, hb.cost.1))
-  old_stays (some a) o' la lb ha hb s =
-      keep_old costs n P i a o' la lb (λ b e. sooner_precedes (Some P i) (P i) costs n B v w x y a b la (rw e at lb) ha (rw e at hb) s)
+  pub old_stays : (o o' : Option Solution) → Answers (OneOf P i) costs n o → Answers (P i) costs n o' → PlanTold B v x o → PlanTold B w y o'
+      → Sooner n v (at x) w (at y) → Answers (OneOf P (suc i)) costs n o
+  old_stays None None la lb ha hb s = neither la lb
+  old_stays None (Some b) la lb ha hb s = absurd (omega (arith, s.cheap, ha.cost.0, hb.cost.1))
+  old_stays (Some a) o' la lb ha hb s =
+      keep_old costs n P i a o' la lb (λ b e. sooner_precedes (OneOf P i) (P i) costs n B v w x y a b la (rw e at lb) ha (rw e at hb) s)
 
   -- the new one goes first
-  pub new_goes : (o o' : Option Solution) → Answers (Some P i) costs n o → Answers (P i) costs n o' → PlanTold B v x o → PlanTold B w y o'
-      → Sooner n w (at y) v (at x) → Answers (Some P (suc i)) costs n o'
-  new_goes none none la lb ha hb s = neither la lb
-  new_goes (some a) none la lb ha hb s = absurd (omega (arith, s.cheap, ha.cost.1, hb.cost.0))
-  new_goes o (some b) la lb ha hb s =
-      take_new costs n P i o b la lb (λ a e. sooner_precedes (P i) (Some P i) costs n B w v y x b a lb (rw e at la) hb (rw e at ha) s)
+  pub new_goes : (o o' : Option Solution) → Answers (OneOf P i) costs n o → Answers (P i) costs n o' → PlanTold B v x o → PlanTold B w y o'
+      → Sooner n w (at y) v (at x) → Answers (OneOf P (suc i)) costs n o'
+  new_goes None None la lb ha hb s = neither la lb
+  new_goes (Some a) None la lb ha hb s = absurd (omega (arith, s.cheap, ha.cost.1, hb.cost.0))
+  new_goes o (Some b) la lb ha hb s =
+      take_new costs n P i o b la lb (λ a e. sooner_precedes (P i) (OneOf P i) costs n B w v y x b a lb (rw e at la) hb (rw e at ha) s)
 
 -- the first of the candidates before i for row m, and what the row tells of it
 pub record BestSoFar (p : Problem) (c m i : ℕ) (a : Areas) : Type 0 where
   pub first : Option Solution
-  pub answers : let M = model_of p in Answers (Some (λ l. Fits M (by_loads M c l m) m l) i) (λ x. cost_to M x m) m first
+  pub answers : let M = model_of p in Answers (OneOf (λ l. Fits M (by_loads M c l m) m l) i) (λ x. cost_to M x m) m first
   pub told : PlanTold (m * stage_most) (at a.costs m) (row_of (periods p) a m) first
 
 -- row m is the plan of (m, N m)
@@ -103,7 +102,7 @@ module _ (p : Problem) (m i j : ℕ) (old new : Areas) (kept : FrontKept i j old
 -- No candidate is tried yet.
 pub best_none : (p : Problem) (c m : ℕ) (a : Areas) → at a.costs m ≡ marker → BestSoFar p c m 0 a
 best_none p c m a e =
-    record { first = none; answers = λ y q. omega (arith, q.1); told = record { cost = (omega arith, omega arith); amounts = tt } }
+    record { first = None; answers = λ y q. omega (arith, q.1); told = record { cost = (omega arith, omega arith); amounts = tt } }
 
 -- All candidates are tried: the first of them is the plan.
 pub row_found : (p : Problem) (c m : ℕ) (a : Areas) → 0 < m → Equal (model_of p) c m → Covered (model_of p) m → BestSoFar p c m m a → PlanRow p m a
@@ -114,7 +113,7 @@ row_found p c (suc m) a pos caps covered best =
     go : (o : Option Solution) → Right (model_of p) (suc m) o
         → PlanTold (suc m * stage_most) (at a.costs (suc m)) (row_of (periods p) a (suc m)) o
         → PlanRow p (suc m) a
-    go none r h =
+    go None r h =
         let w = interval (model_of p) (model_rising p) (suc m) covered (demand_to p (suc m)) (omega arith) (covered (suc m) (omega arith)) in
         absurd (r w.0 w.1)
-    go (some f) r h = record { plan = rw (h.cost.0, h.amounts) r; low = h.cost.1 }
+    go (Some f) r h = record { plan = rw (h.cost.0, h.amounts) r; low = h.cost.1 }

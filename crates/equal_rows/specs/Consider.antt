@@ -1,6 +1,5 @@
 -- The problems that the equal path is for, and one candidate more for a row. Main statement: `considered`. Assumes nothing.
-use Rattle.std.specs.Prelude.{◌≡◌, List, ℕ, zero, suc, ◌+◌, ◌-◌, ◌*◌, ◌≤◌, ◌<◌, length}
-use Rattle.std.proofs.Math.Option.{Option, some}
+use Rattle.std.specs.Prelude.{◌≡◌, List, ℕ, zero, suc, ◌+◌, ◌-◌, ◌*◌, ◌≤◌, ◌<◌, length, Option, Some}
 use Rattle.std.proofs.Common.{mul-le-mul_left, add-one}
 use native.Mathlib.Omega.{arith}
 use Rattle.day.specs.Sums.{at}
@@ -102,7 +101,7 @@ module _ (p : Problem) (c : ℕ) (constant : ConstantCapacity p c) where
   module _ (l m left v : ℕ) (old new : Areas) (plan : List ℕ) (asked : Considerable p c l m left old)
       (found : CandidateTold p c l left (m - l) old v new plan) where
     rows : ℕ → Option Solution
-    rows k = some (solution_of n old k)
+    rows k = Some (solution_of n old k)
 
     abbrev Candidates : ℕ → (ℕ → ℕ) → Type 0
     Candidates l = Fits M (by_loads M c l m) m l

@@ -1,8 +1,7 @@
 -- The areas of the equal path: the rows in front, the work on an interval past them; and what the numbers of an interval, of a row and of both mean.
 -- Main definitions: `Areas`, `PlanTold`, `row_of`. Assumes nothing.
-use Rattle.std.specs.Prelude.{◌≡◌, List, ◌++◌, ℕ, ◌+◌, ◌*◌, ◌/◌, ◌%◌, ◌≤◌, ◌<◌, min, length, take, drop}
+use Rattle.std.specs.Prelude.{◌≡◌, List, ◌++◌, ℕ, ◌+◌, ◌*◌, ◌/◌, ◌%◌, ◌≤◌, ◌<◌, min, length, take, drop, Option, None, Some}
 use Rattle.std.proofs.Common.{ap, ◌∙◌, arith}
-use Rattle.std.proofs.Math.Option.{Option, none, some}
 use Rattle.day.specs.Sums.{at}
 use Rattle.theory.specs.Model.{Model}
 use Rattle.theory.specs.Problem.{Problem, periods, model_of, Bounded}
@@ -26,8 +25,8 @@ load_sizes full part = record { full = full; part = part }
 
 -- the amounts are o's, where there is one
 abbrev pub AmountsTold : List ℕ → Option Solution → Type 0
-AmountsTold plan none = Unit {0}
-AmountsTold plan (some f) = plan ≡ f.plan
+AmountsTold plan None = Unit {0}
+AmountsTold plan (Some f) = plan ≡ f.plan
 
 -- v and the amounts are what o costs and makes, or v marks that there is none
 pub record PlanTold (B v : ℕ) (plan : List ℕ) (o : Option Solution) : Type 0 where
@@ -102,11 +101,11 @@ solution_of n a m = record { cost = at a.costs m; plan = row_of n a m }
 -- row l, and after it the interval to the period after which `count` more are past
 pub record CandidateTold (p : Problem) (c l W count : ℕ) (old : Areas) (r : ℕ) (new : Areas) (plan : List ℕ) : Type 0 where
   pub kept : RowsKept (periods p) old new
-  pub told : PlanTold ((l + count) * stage_most) r plan (glue (some (solution_of (periods p) old l)) (interval_of (model_of p) c l W count))
+  pub told : PlanTold ((l + count) * stage_most) r plan (glue (Some (solution_of (periods p) old l)) (interval_of (model_of p) c l W count))
 
 -- it costs and makes what the two do together
 pub glue_told : (A B v : ℕ) (f : Solution) (plan : List ℕ) (o : Option Solution) → f.cost ≤ A → PlanTold B v plan o
-    → PlanTold (A + B) (f.cost + v) (f.plan ++ plan) (glue (some f) o)
-glue_told A B v f plan none h t = record { cost = (omega (arith, t.cost.0), omega (arith, t.cost.1)); amounts = tt }
-glue_told A B v f plan (some g) h t =
+    → PlanTold (A + B) (f.cost + v) (f.plan ++ plan) (glue (Some f) o)
+glue_told A B v f plan None h t = record { cost = (omega (arith, t.cost.0), omega (arith, t.cost.1)); amounts = tt }
+glue_told A B v f plan (Some g) h t =
     record { cost = (omega (arith, t.cost.0), omega (arith, t.cost.1)); amounts = ap (λ (l : List ℕ). f.plan ++ l) t.amounts }

@@ -3,10 +3,10 @@
 //! Past the rows stands the work on an interval; what is left there, and in the slots, is free.
 #![tactic(auto)]
 
-ghost use Rattle.std.specs.Prelude.{◌≡◌, ℕ, ◌+◌, ◌-◌, ◌*◌, ◌≤◌, ◌<◌, min, length};
+ghost use Rattle.std.specs.Prelude.{◌≡◌, ◌+◌, ◌-◌, ◌*◌, ◌≤◌, ◌<◌, min, length};
 ghost use Rattle.day.specs.Sums.{at};
 ghost use Rattle.equal_runs.specs.States.{index_of};
-ghost use Rattle.equal_runs.specs.Run.{constant_with};
+ghost use Rattle.equal_runs.specs.Run.{lent_constant};
 ghost use Rattle.equal_rows.specs.Order.{Ordered, Decided};
 ghost use Rattle.equal_rows.specs.Rows.{areas, load_sizes, LoadsSplit, Layable, Laid, Tryable, IntervalTold, CandidateTold};
 ghost use Rattle.equal_rows.specs.Best.{PlanRow};
@@ -15,6 +15,7 @@ ghost use Rattle.equal_rows.specs.Consider.{RowsBefore, RowFound, RowsWanted};
 
 use equal_runs::{LoadSizes, NONE, read_back, run};
 use std::cmp::Ordering;
+use theory::Problem;
 
 // Whether x has the smaller amount in the last period in which the two differ.
 fn smaller(x: &[u16], y: &[u16]) -> bool
@@ -65,11 +66,9 @@ fn split(left: u64, full: u16) -> Ending
 }
 
 // The intervals of `count` periods from l on, past the rows.
+// The two areas go one by one: each clause would owe of a struct of `&mut` that both references stay the same.
 fn lay(
-    demand: &[u16],
-    setup: &[u32],
-    unit: &[u32],
-    holding: &[u32],
+    p: Problem,
     full: u16,
     ending: Ending,
     l: usize,
@@ -77,14 +76,14 @@ fn lay(
     costs: &mut [u64],
     choices: &mut [u16],
 )
-    requires { Layable (constant_with demand.now full setup.now unit.now holding.now)
+    requires { Layable (lent_constant p full)
         l count ending.top (areas costs.old choices.old) }
-    ensures { Laid (constant_with demand.now full setup.now unit.now holding.now)
+    ensures { Laid (lent_constant p.entry full)
         (load_sizes full ending.part) l count ending.top
         (areas costs.old choices.old)
         (areas costs.new choices.new) }
 {
-    let n = demand.len();
+    let n = p.demand.len();
     let sizes = LoadSizes {
         full,
         part: ending.part,
@@ -94,10 +93,7 @@ fn lay(
     let from = n + 1;
     let past = n * n + n;
     run(
-        demand,
-        setup,
-        unit,
-        holding,
+        p,
         l,
         count,
         sizes,
@@ -110,10 +106,7 @@ fn lay(
 
 // The interval from l that makes `left` in as many periods as there are slots: its amounts, and its cost.
 fn trial(
-    demand: &[u16],
-    setup: &[u32],
-    unit: &[u32],
-    holding: &[u32],
+    p: Problem,
     full: u16,
     l: usize,
     left: u64,
@@ -121,27 +114,16 @@ fn trial(
     choices: &mut [u16],
     slots: &mut [u16],
 ) -> u64
-    requires { Tryable (constant_with demand.now full setup.now unit.now holding.now)
+    requires { Tryable (lent_constant p full)
         full l left (length slots.old) (areas costs.old choices.old) }
-    ensures { IntervalTold (constant_with demand.now full setup.now unit.now holding.now)
+    ensures { IntervalTold (lent_constant p.entry full)
         full l left
         (areas costs.old choices.old)
         result (areas costs.new choices.new) slots.new }
 {
-    let n = demand.len();
+    let n = p.demand.len();
     let ending = split(left, full);
-    lay(
-        demand,
-        setup,
-        unit,
-        holding,
-        full,
-        ending,
-        l,
-        slots.len(),
-        costs,
-        choices,
-    );
+    lay(p, full, ending, l, slots.len(), costs, choices);
     let top = ending.top;
     let past = n * n + n;
     read_back(full, 2 * n + 2, &choices[past..], top, slots);
@@ -150,10 +132,7 @@ fn trial(
 
 // Row l, and after it the interval from l that makes `left`: as many periods as there are slots. Its amounts, and its cost.
 fn candidate(
-    demand: &[u16],
-    setup: &[u32],
-    unit: &[u32],
-    holding: &[u32],
+    p: Problem,
     full: u16,
     l: usize,
     left: u64,
@@ -161,28 +140,17 @@ fn candidate(
     choices: &mut [u16],
     slots: &mut [u16],
 ) -> u64
-    requires { Considerable (constant_with demand.now full setup.now unit.now holding.now)
+    requires { Considerable (lent_constant p full)
         full l (length slots.old) left (areas costs.old choices.old) }
-    ensures { CandidateTold (constant_with demand.now full setup.now unit.now holding.now)
+    ensures { CandidateTold (lent_constant p.entry full)
         full l left (length slots.old - l)
         (areas costs.old choices.old)
         result (areas costs.new choices.new) slots.new }
 {
-    let from = l * demand.len();
+    let from = l * p.demand.len();
     slots[..l].copy_from_slice(&choices[from..from + l]);
     let before = costs[l];
-    let run = trial(
-        demand,
-        setup,
-        unit,
-        holding,
-        full,
-        l,
-        left,
-        costs,
-        choices,
-        &mut slots[l..],
-    );
+    let run = trial(p, full, l, left, costs, choices, &mut slots[l..]);
     before + run
 }
 
@@ -215,10 +183,7 @@ fn settle(v: u64, n: usize, slots: &[u16], costs: &mut [u64], choices: &mut [u16
 
 // The candidate that begins with row l is tried for the row of as many periods as there are slots, and kept where it goes first.
 fn consider(
-    demand: &[u16],
-    setup: &[u32],
-    unit: &[u32],
-    holding: &[u32],
+    p: Problem,
     full: u16,
     l: usize,
     left: u64,
@@ -226,34 +191,22 @@ fn consider(
     choices: &mut [u16],
     slots: &mut [u16],
 )
-    requires { Considerable (constant_with demand.now full setup.now unit.now holding.now)
+    requires { Considerable (lent_constant p full)
         full l (length slots.old) left (areas costs.old choices.old) }
-    ensures { Considered (constant_with demand.now full setup.now unit.now holding.now)
+    ensures { Considered (lent_constant p.entry full)
         full (length slots.old) (l + 1)
         (areas costs.old choices.old)
         (areas costs.new choices.new) }
 {
-    let v = candidate(
-        demand, setup, unit, holding, full, l, left, costs, choices, slots,
-    );
-    settle(v, demand.len(), slots, costs, choices);
+    let v = candidate(p, full, l, left, costs, choices, slots);
+    settle(v, p.demand.len(), slots, costs, choices);
 }
 
 // The row of as many periods as there are slots, whose demand is `need`, from the rows before it.
-fn row(
-    demand: &[u16],
-    setup: &[u32],
-    unit: &[u32],
-    holding: &[u32],
-    full: u16,
-    need: u64,
-    costs: &mut [u64],
-    choices: &mut [u16],
-    slots: &mut [u16],
-)
-    requires { RowsBefore (constant_with demand.now full setup.now unit.now holding.now)
+fn row(p: Problem, full: u16, need: u64, costs: &mut [u64], choices: &mut [u16], slots: &mut [u16])
+    requires { RowsBefore (lent_constant p full)
         full (length slots.old) need (areas costs.old choices.old) }
-    ensures { RowFound (constant_with demand.now full setup.now unit.now holding.now)
+    ensures { RowFound (lent_constant p.entry full)
         (length slots.old)
         (areas costs.old choices.old)
         (areas costs.new choices.new) }
@@ -262,43 +215,22 @@ fn row(
     costs[m] = NONE;
     let mut left = need;
     for l in 0..m {
-        consider(
-            demand, setup, unit, holding, full, l, left, costs, choices, slots,
-        );
-        left -= demand[l] as u64;
+        consider(p, full, l, left, costs, choices, slots);
+        left -= p.demand[l] as u64;
     }
 }
 
 // Every row, where each period can make a full load; the last is the plan.
-pub fn rows(
-    demand: &[u16],
-    setup: &[u32],
-    unit: &[u32],
-    holding: &[u32],
-    full: u16,
-    costs: &mut [u64],
-    choices: &mut [u16],
-    slots: &mut [u16],
-)
-    requires { RowsWanted (constant_with demand.now full setup.now unit.now holding.now)
+pub fn rows(p: Problem, full: u16, costs: &mut [u64], choices: &mut [u16], slots: &mut [u16])
+    requires { RowsWanted (lent_constant p full)
         full (areas costs.old choices.old) slots.old }
-    ensures { PlanRow (constant_with demand.now full setup.now unit.now holding.now)
-        (length demand.now) (areas costs.new choices.new) }
+    ensures { PlanRow (lent_constant p.entry full)
+        (length p.entry.demand.now) (areas costs.new choices.new) }
 {
     costs[0] = 0;
     let mut need: u64 = 0;
-    for (m, &demanded) in demand.iter().enumerate() {
+    for (m, &demanded) in p.demand.iter().enumerate() {
         need += demanded as u64;
-        row(
-            demand,
-            setup,
-            unit,
-            holding,
-            full,
-            need,
-            costs,
-            choices,
-            &mut slots[..m + 1],
-        );
+        row(p, full, need, costs, choices, &mut slots[..m + 1]);
     }
 }

@@ -1,14 +1,14 @@
 -- Once row l is copied, the slots after it are as many as the interval has periods.
 use Rattle.std.proofs.Common.{length, arith}
 use Rattle.std.proofs.lemmas.Grind.{common_steps}
-use Rattle.equal_runs.specs.Run.{constant_with}
+use Rattle.equal_runs.specs.Run.{lent_constant}
 use Rattle.equal_rows.specs.Consider.{need_low}
 use Rattle.equal_rows.proofs.candidate.Goals as goal
 
 pub trial-run-requires : goal.trial-run-requires
 trial-run-requires c =
     let a = c.args in
-    let p = constant_with a.demand.now a.full a.setup.now a.unit.now a.holding.now in
+    let p = lent_constant a.p a.full in
     record {
       bounded = c.requires.constant.bounded;
       inside = grind (arith, common_steps);

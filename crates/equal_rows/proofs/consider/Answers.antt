@@ -1,7 +1,7 @@
 -- What is settled of the candidate is one more considered.
 use Rattle.std.proofs.Common.{◌≡◌, List, ℕ, ◌+◌, ◌-◌, length}
 use Rattle.theory.specs.Problem.{Problem, periods}
-use Rattle.equal_runs.specs.Run.{constant_with}
+use Rattle.equal_runs.specs.Run.{lent_constant}
 use Rattle.equal_rows.specs.Rows.{Areas, areas, CandidateTold}
 use Rattle.equal_rows.specs.Consider.{Considerable, RowSettled, Considered, considered}
 use Rattle.equal_rows.proofs.consider.Goals as goal
@@ -18,6 +18,6 @@ tried p c l m left v old new last plan asked found size settled =
 pub returns : goal.returns
 returns c =
     let a = c.args in
-    tried (constant_with a.demand.now a.full a.setup.now a.unit.now a.holding.now) a.full a.l _ a.left c.candidate-v.result
+    tried (lent_constant a.p a.full) a.full a.l _ a.left c.candidate-v.result
     (areas a.costs.now a.choices.now) (areas c.candidate-v.new.costs c.candidate-v.new.choices) _ _ c.requires c.candidate-v.ensures
     c.candidate-v.auto.slots c.settle.ensures

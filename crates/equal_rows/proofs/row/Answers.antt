@@ -1,7 +1,7 @@
 -- A candidate more is tried; once all are, row m is found.
 use Rattle.std.proofs.Common.{ℕ, ◌+◌, length, length-set, arith}
 use Rattle.equal_runs.specs.Bounds.{marker}
-use Rattle.equal_runs.specs.Run.{constant_with}
+use Rattle.equal_runs.specs.Run.{lent_constant}
 use Rattle.equal_rows.specs.Rows.{Areas, areas, sized_as}
 use Rattle.equal_rows.specs.Consider.{Considered}
 use Rattle.equal_rows.proofs.Trying.{next_try, row_now, all_tried, less_left}
@@ -11,7 +11,7 @@ pub consider-requires : goal.consider-requires
 consider-requires c =
     let a = c.args in
     let m : ℕ = length a.slots.now in
-    let p = constant_with a.demand.now a.full a.setup.now a.unit.now a.holding.now in
+    let p = lent_constant a.p a.full in
     let inv = c.loop-l.invariant in
     let size = length-set a.costs.now m marker in
     let now : Areas = areas c.loop-l.costs c.loop-l.choices in
@@ -31,14 +31,14 @@ consider-requires c =
 pub overflow_sub-left : goal.overflow_sub-left
 overflow_sub-left c =
     let a = c.args in
-    let p = constant_with a.demand.now a.full a.setup.now a.unit.now a.holding.now in
+    let p = lent_constant a.p a.full in
     (less_left p a.full (length a.slots.now) c.loop-l.l _ c.loop-l-test.true c.loop-l.invariant.rest).0
 
 pub loop-l-preserved : goal.loop-l-preserved
 loop-l-preserved c =
     let a = c.args in
     let m : ℕ = length a.slots.now in
-    let p = constant_with a.demand.now a.full a.setup.now a.unit.now a.holding.now in
+    let p = lent_constant a.p a.full in
     let inv = c.loop-l.invariant in
     let l : ℕ = c.loop-l.l in
     let now : Areas = areas c.loop-l.costs c.loop-l.choices in
@@ -52,7 +52,7 @@ loop-l-preserved c =
 pub returns : goal.returns
 returns c =
     let a = c.args in
-    let p = constant_with a.demand.now a.full a.setup.now a.unit.now a.holding.now in
+    let p = lent_constant a.p a.full in
     let inv = c.loop-l.invariant in
     all_tried p _ (length a.slots.now) c.loop-l.l (areas a.costs.now a.choices.now) _ c.requires.constant c.requires.some c.requires.inside
     (omega arith) inv.tried

@@ -1,7 +1,7 @@
 -- One row more.
 use Rattle.std.proofs.Common.{ap, ℕ, ◌+◌, length-take-le, length-set, add-one, arith}
 use Rattle.theory.specs.Problem.{demand_to}
-use Rattle.equal_runs.specs.Run.{constant_with}
+use Rattle.equal_runs.specs.Run.{lent_constant}
 use Rattle.equal_rows.specs.Rows.{Areas, areas, sized_as}
 use Rattle.equal_rows.specs.Consider.{RowFound}
 use Rattle.equal_rows.proofs.Done.{row_more}
@@ -10,7 +10,7 @@ use Rattle.equal_rows.proofs.rows.Goals as goal
 pub loop-m-preserved : goal.loop-m-preserved
 loop-m-preserved c =
     let a = c.args in
-    let p = constant_with a.demand.now a.full a.setup.now a.unit.now a.holding.now in
+    let p = lent_constant a.p a.full in
     let inv = c.loop-m.invariant in
     let m : ℕ = c.loop-m.m in
     let now : Areas = areas c.loop-m.costs c.loop-m.choices in
@@ -19,14 +19,14 @@ loop-m-preserved c =
     let more : RowFound p (m + 1) now next = rw e at c.row.ensures in
     record {
       demanded = omega (arith, inv.demanded, ap (demand_to p) (add-one m));
-      low = omega (arith, inv.low, c.type_inv.demand m);
+      low = omega (arith, inv.low);
       rows = row_more p m now next c.loop-m-test.true inv.rows more;
     }
 
 pub row-requires : goal.row-requires
 row-requires c =
     let a = c.args in
-    let p = constant_with a.demand.now a.full a.setup.now a.unit.now a.holding.now in
+    let p = lent_constant a.p a.full in
     let inv = c.loop-m.invariant in
     let m : ℕ = c.loop-m.m in
     let next = ap (demand_to p) (add-one m) in

@@ -1,7 +1,7 @@
 -- The state that the interval ends in tells its cost, and the interval is read back from it.
+use Rattle.std.specs.Prelude.{Option, None, Some}
 use Rattle.std.proofs.Common.{◌≡◌, refl, sym, ap, ◌∙◌, List, ℕ, ◌+◌, ◌-◌, ◌*◌, ◌/◌, ◌%◌, ◌<◌, min, length, drop, arith}
 use Rattle.std.proofs.Common.{get_or-drop}
-use Rattle.std.proofs.Math.Option.{Option, none, some}
 use Rattle.std.proofs.Math.Nat.{mod-lt}
 use borrow.Rule.Slice.PartMut.{mid_of}
 use Rattle.day.specs.Sums.{at}
@@ -12,7 +12,7 @@ use Rattle.equal_runs.specs.declared.LoadSizes.{LoadSizes}
 use Rattle.equal_runs.specs.Bounds.{stage_most}
 use Rattle.equal_runs.specs.States.{index_of}
 use Rattle.equal_runs.specs.Told.{CostTold, first_to}
-use Rattle.equal_runs.specs.Run.{constant_with, back_of, back_plan}
+use Rattle.equal_runs.specs.Run.{lent_constant, back_of, back_plan}
 use Rattle.equal_rows.specs.Rows.{Areas, areas, load_sizes, LoadsSplit, AmountsTold, Laid, IntervalTold, interval_of}
 use Rattle.equal_rows.specs.declared.Ending.{Ending}
 use Rattle.equal_rows.proofs.Parts.{mid_end}
@@ -50,9 +50,9 @@ module _ (p : Problem) (c l W count : ℕ) (old new : Areas) (plan : List ℕ) (
 
   module _ (back : plan ≡ back_of c (2 * n + 2) (mid_of (n * n + n) (length new.choices - (n * n + n)) new.choices) count e.top) where
     amounts : (o : Option Solution) → interval_of M c l W count ≡ o → AmountsTold plan o
-    amounts none q = tt
-    amounts (some f) q =
-        let run : first_to M l w count j d ≡ some f = rw s.part q in
+    amounts None q = tt
+    amounts (Some f) q =
+        let run : first_to M l w count j d ≡ Some f = rw s.part q in
         let part : e.part < c = omega (arith, s.part, mod-lt W room) in
         back
         ∙ ap (λ (l : List ℕ). back_of c (2 * n + 2) l count e.top) (mid_end (n * n + n) new.choices)
@@ -66,5 +66,5 @@ module _ (p : Problem) (c l W count : ℕ) (old new : Areas) (plan : List ℕ) (
 pub returns : goal.returns
 returns c =
     let a = c.args in
-    tried (constant_with a.demand.now a.full a.setup.now a.unit.now a.holding.now) a.full a.l _ _ (areas a.costs.now a.choices.now)
+    tried (lent_constant a.p a.full) a.full a.l _ _ (areas a.costs.now a.choices.now)
     (areas c.lay.new.costs c.lay.new.choices) _ _ c.requires.room c.split-ending.ensures c.read_back.auto.slots c.lay.ensures c.read_back.ensures
