@@ -23,6 +23,9 @@ pub record Part (cells : List ℕ) (head tail : ℕ) (part : List ℕ) : Type 0 
   pub ordered : head ≤ tail
   pub inside : tail ≤ length cells
 
+pub entries_part : (q : Candidates) {part : List ℕ} → part ≡ slice_range q.cells.now q.head q.tail → Part q.cells.now q.head q.tail part
+entries_part q e = record { is = e; ordered = q.ordered; inside = q.inside }
+
 -- what holds of them by their own places
 module _ {cells part : List ℕ} {head tail : ℕ} (p : Part cells head tail part) where
   part_length : length part ≡ tail - head

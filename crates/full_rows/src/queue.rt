@@ -4,7 +4,6 @@ ghost use Rattle.std.specs.Prelude.{◌≡◌, ◌+◌, ◌-◌, ◌≤◌, leng
 ghost use Rattle.day.specs.Sums.{at};
 ghost use Rattle.full_rows.specs.Row.{best_of, After};
 ghost use Rattle.full_rows.specs.Queue.{Entry, Queue, Trimmed, Outdone};
-ghost use Rattle.full_rows.specs.Candidates.{QueueFor, WindowFor, QueueRoom, Entered, Scratch, Queued, CellFound};
 
 use crate::row::{Row, cheaper};
 use crate::{Cell, Choice};
@@ -15,6 +14,8 @@ pub struct Candidates<'a> {
     cells: &'a mut [u16],
     head: usize,
     tail: usize,
+    ghost ordered: { head ≤ tail },
+    ghost inside: { tail ≤ length cells.now },
 }
 
 // How many entries at the front lie below `least`.
@@ -34,7 +35,7 @@ fn end_for(row: &Row<'_>, entries: &[u16], newcomer: usize) -> usize
     ensures { Outdone row.now.stage (at row.now.costs.now) entries.now newcomer 0 (length entries.now) result }
 {
     let limit = row.key(newcomer);
-    // By place, which is what is sought: `rev` with `position` takes the call an eighth more time.
+    // By place, which is what is sought: `rev` with `position` takes the call a fifth more time.
     for place in (0..entries.len()).rev() {
         if row.key(usize::from(entries[place])) < limit {
             return place + 1;
@@ -44,9 +45,9 @@ fn end_for(row: &Row<'_>, entries: &[u16], newcomer: usize) -> usize
 }
 
 impl<'a> Candidates<'a> {
+    ghost use Rattle.full_rows.specs.Candidates.{QueueFor, WindowFor, QueueRoom, Entered, Scratch, Queued, CellFound};
+
     fn entries(&self) -> &[u16]
-        requires ordered { self.now.head ≤ self.now.tail }
-        requires inside { self.now.tail ≤ length self.now.cells.now }
         ensures { result.now ≡ slice_range self.now.cells.now self.now.head self.now.tail }
     {
         &self.cells[self.head..self.tail]
@@ -87,7 +88,6 @@ impl<'a> Candidates<'a> {
     // Of the amounts that lead to a total, the smallest of the cheapest: none, or what the queue's head asks for.
     fn best(&self, row: &Row<'_>, total: usize) -> Choice
         requires window { WindowFor row.now total self.now }
-        requires inside { self.now.tail ≤ length self.now.cells.now }
         requires after { After row.now.stage total }
         ensures { result ≡ best_of row.now.stage (at row.now.costs.now) total }
     {
@@ -104,7 +104,6 @@ impl<'a> Candidates<'a> {
     // Recursion (5) for one total; the entries at the head that are out of the capacity's reach leave.
     pub fn cell(&mut self, row: &Row<'_>, total: usize) -> Cell
         requires queue { QueueFor row.now total self.old }
-        requires inside { self.old.tail ≤ length self.old.cells.now }
         requires after { After row.now.stage total }
         ensures { CellFound row.now total self.old self.new result }
     {

@@ -6,16 +6,15 @@ use Rattle.full_rows.specs.Row.{cell_of}
 use Rattle.full_rows.specs.Queue.{Window}
 use Rattle.full_rows.specs.Moves.{queue_trim}
 use Rattle.full_rows.proofs.Laws.{best_small}
-use Rattle.full_rows.proofs.Queueing.{trimmed_part}
+use Rattle.full_rows.proofs.Queueing.{entries_part, trimmed_part}
 use Rattle.full_rows.proofs.queue.Candidates.cell.Goals as goal
 use Rattle.full_rows.proofs.queue.Candidates.cell.Goals.{After-below}
 
 window : (c : After-below) → let q = c.args.self.now in
     Window c.args.row.now.stage (at c.args.row.now.costs.now) q.cells.now c.args.total (q.head + c.below.result) q.tail
 window c =
-    let r = c.requires in
-    queue_trim r.queue c.saturating_sub-least.ensures
-    (trimmed_part (record { is = c.entries.ensures; ordered = r.queue.ordered; inside = r.inside }) c.below.result c.below.ensures)
+    queue_trim c.requires.queue c.saturating_sub-least.ensures
+    (trimmed_part (entries_part c.args.self.now c.entries.ensures) c.below.result c.below.ensures)
 
 pub best-requires-clause-window : goal.best-requires-clause-window
 best-requires-clause-window c = window (goal.at.best-requires-clause-window c).After-below
