@@ -2,18 +2,18 @@
 -- Main definitions: `code_of`; `seen_of`, what is seen of an answer's figures; `check_code`, of a call without an out-array. And the other way `expected_of`,
 -- the stamp that a C program expects.
 -- Main statement: `code_splits` takes a code apart. Assumes nothing.
-use Rattle.std.specs.Prelude.{◌≡◌, cond, List, ℕ, ◌+◌, ◌*◌, ◌/◌, ◌%◌, ◌<◌, eqb, length}
+use Rattle.std.specs.Prelude.{◌≡◌, cond, List, ℕ, ◌+◌, ◌*◌, ◌/◌, ◌%◌, ◌<◌, eqb, length, Option, None, Some, Result, Ok, Err}
 use Rattle.std.proofs.Common.{◌∙◌, mod-eq_of_lt, zero-add, arith}
-use Rattle.std.proofs.Math.Option.{Option, none, some}
 use Rattle.std.proofs.Math.Nat.{add-mul-mod_self_left, add-mul-div_left, div-eq_of_lt}
-use Rattle.day.specs.declared.Check.{Check}
-use Rattle.day.specs.declared.Check.TheVariants.{Passed, Refused}
-use Rattle.day.specs.declared.Expected.{Expected}
-use Rattle.day.specs.declared.Expected.TheVariants.{Nothing, Only}
+use Rattle.day.specs.declared.Refusal.{Refusal}
+use Rattle.day.specs.declared.Stamp.{Stamp}
 use Rattle.day.specs.Sums.{at}
 use Rattle.day.specs.File.{stamp_with}
 use Rattle.day.specs.Refusals.{number_of, period_of}
 use Rattle.day.specs.Figures.{Figures}
+use Rattle.weigher.specs.declared.Fault.{Fault}
+use Rattle.weigher.specs.declared.Fault.TheVariants.{Refused, Broken}
+use Rattle.weigher.specs.Answers.{rule_number}
 
 -- the code of a number and a period; 0 is the code of an accepted call, which has neither
 abbrev pub code_of : (number period : ℕ) → ℕ
@@ -36,17 +36,30 @@ seen code out = record { code = code; out = out }
 
 -- what is seen of an answer's figures: an accepted call writes its out-array, any other leaves it as it was
 abbrev pub out_of : {A : Type 0} → List A → Option (List A) → List A
-out_of before none = before
-out_of before (some values) = values
+out_of before None = before
+out_of before (Some values) = values
 
 abbrev pub seen_of : {A : Type 0} → List A → Figures A → Seen A
 seen_of before f = seen (code_of f.number f.period) (out_of before f.values)
 
+-- the figures of a call that gives nothing, by its number and period
+abbrev pub failed_with : {A : Type 0} → (number period : ℕ) → Figures A
+failed_with number period = record { number = number; period = period; values = None }
+
+-- those of a weighing's fault: of the refusal, or of the rule that is broken
+abbrev pub fault_number : Fault → ℕ
+fault_number (Refused r) = number_of r
+fault_number (Broken b) = rule_number b.rule
+
+abbrev pub fault_period : Fault → ℕ
+fault_period (Refused r) = period_of r
+fault_period (Broken b) = b.period
+
 -- where there is no out-array: the code of what the call's tests say
-abbrev pub check_code : Check → ℕ
-check_code Passed = code_of 0 0
-check_code (Refused r) = code_of (number_of r) (period_of r)
+abbrev pub check_code : Result Unit Refusal → ℕ
+check_code (Ok _) = code_of 0 0
+check_code (Err r) = code_of (number_of r) (period_of r)
 
 -- the expected stamp, where two numbers say it: station and date; none where they are fewer or more
-abbrev pub expected_of : List ℕ → Expected
-expected_of numbers = cond (eqb (length numbers) 2) (Only (stamp_with (at numbers 0) (at numbers 1))) Nothing
+abbrev pub expected_of : List ℕ → Option Stamp
+expected_of numbers = cond (eqb (length numbers) 2) (Some (stamp_with (at numbers 0) (at numbers 1))) None

@@ -1,180 +1,202 @@
 //! What a C program sees of an answer: one code, and its numbers in the call's out-array; the stamp that it expects (include/yakkurem.h).
 #![tactic(auto)]
 
-ghost use Rattle.std.specs.Prelude.{◌≡◌};
+ghost use Rattle.std.specs.Prelude.{◌≡◌, List, ℕ};
 ghost use Rattle.day.specs.Refusals.{number_of, period_of};
-ghost use Rattle.day.specs.Figures.{answer_figures, equal_figures, bounds_figures, big_figures};
-ghost use Rattle.dayfile.specs.Answers.{read_figures, write_figures};
-ghost use Rattle.weigher.specs.Answers.{weighed_figures, compared_figures, rule_number};
-ghost use Rattle.play.specs.Answers.{play_figures};
-ghost use Rattle.codes.specs.Codes.{code_of, seen, seen_of, check_code, expected_of};
+ghost use Rattle.day.specs.Figures.{figures_by, plan_values, equal_values, bounds_values, big_values};
+ghost use Rattle.dayfile.specs.Answers.{part_values, read_values, write_values};
+ghost use Rattle.weigher.specs.Answers.{compared_values, rule_number};
+ghost use Rattle.play.specs.Answers.{play_values};
+ghost use Rattle.codes.specs.Codes.{code_of, seen, seen_of, failed_with, fault_number, fault_period, check_code, expected_of};
 
-use day::{Answer, BigAnswer, BoundsAnswer, Check, EqualAnswer, Expected, Refusal, Stamp};
-use dayfile::{ReadAnswer, WriteAnswer};
-use play::PlayAnswer;
-use weigher::{Compared, Rule, Verdict, Weighed};
+use day::{Bounds, Ends, Loads, Refusal, Stamp, Totals, Trials};
+use dayfile::lookup::Part;
+use play::Flows;
+use weigher::{Breach, Fault};
+
+// Why a call gives nothing: a number, and the period that it names.
+pub trait Coded {
+    ghost number: { Self → ℕ };
+
+    ghost period: { Self → ℕ };
+
+    fn code(self) -> u64
+        ensures { result ≡ code_of (number self) (period self) };
+}
+
+// What a call gives, as the numbers of its out-array.
+pub trait Given<A, const N: usize> {
+    ghost values: { Self → List A };
+
+    fn numbers(self) -> [A; N]
+        ensures { result ≡ values self };
+}
 
 // A number and a period as one code.
 fn code(number: u8, period: u16) -> u64
     ensures { result ≡ code_of number period }
 {
-    (number as u64) + 256 * (period as u64)
+    u64::from(number) + 256 * u64::from(period)
 }
 
-// Of a refusal.
-pub fn refused(r: Refusal) -> u64
-    ensures { result ≡ code_of (number_of r) (period_of r) }
+impl Coded for Refusal {
+    ghost number = { number_of };
+
+    ghost period = { period_of };
+
+    fn code(self) -> u64 {
+        code(self.number(), self.period())
+    }
+}
+
+impl Coded for Breach {
+    ghost number = { λ b. rule_number b.rule };
+
+    ghost period = { λ b. b.period };
+
+    fn code(self) -> u64 {
+        code(self.rule.number(), self.period)
+    }
+}
+
+impl Coded for Fault {
+    ghost number = { fault_number };
+
+    ghost period = { fault_period };
+
+    fn code(self) -> u64 {
+        match self {
+            Fault::Refused(r) => r.code(),
+            Fault::Broken(b) => b.code(),
+        }
+    }
+}
+
+// A plan's cost and setups.
+impl Given<u64, 2> for Totals {
+    ghost values = { plan_values };
+
+    fn numbers(self) -> [u64; 2] {
+        [self.cost, self.setups]
+    }
+}
+
+// The plan's loads too.
+impl Given<u64, 4> for (Totals, Loads) {
+    ghost values = { equal_values };
+
+    fn numbers(self) -> [u64; 4] {
+        let (t, l) = self;
+        [t.cost, t.setups, l.full, l.part]
+    }
+}
+
+// The least cost for the lowest needs, and for the highest.
+impl Given<u64, 2> for Bounds {
+    ghost values = { bounds_values };
+
+    fn numbers(self) -> [u64; 2] {
+        [self.lowest, self.highest]
+    }
+}
+
+// The cost and setups of a big day's plan, the trials used, the gap.
+impl Given<u64, 4> for (Totals, Trials) {
+    ghost values = { big_values };
+
+    fn numbers(self) -> [u64; 4] {
+        let (t, b) = self;
+        [t.cost, t.setups, b.used, b.gap]
+    }
+}
+
+// The difference of two plans.
+impl Given<i64, 1> for i64 {
+    ghost values = { compared_values };
+
+    fn numbers(self) -> [i64; 1] {
+        [self]
+    }
+}
+
+// What was produced, delivered, lost and disposed of (made, delivered, missed, spilled), and what is left.
+impl Given<u64, 5> for Flows {
+    ghost values = { play_values };
+
+    fn numbers(self) -> [u64; 5] {
+        [
+            self.produced,
+            self.delivered,
+            self.lost,
+            self.disposed,
+            self.left,
+        ]
+    }
+}
+
+// The count of a file's periods, and the ends.
+impl Given<u64, 3> for (usize, Ends) {
+    ghost values = { read_values };
+
+    fn numbers(self) -> [u64; 3] {
+        let (n, ends) = self;
+        [n as u64, u64::from(ends.opening), u64::from(ends.closing)]
+    }
+}
+
+// The count of bytes.
+impl Given<u64, 1> for usize {
+    ghost values = { write_values };
+
+    fn numbers(self) -> [u64; 1] {
+        [self as u64]
+    }
+}
+
+// Where a part begins, and how long it is.
+impl Given<u64, 2> for Part {
+    ghost values = { part_values };
+
+    fn numbers(self) -> [u64; 2] {
+        [self.first as u64, self.size as u64]
+    }
+}
+
+// What is shown of an answer: its code, and in the out-array what it gives; an array of a call that gives nothing stays as it was.
+pub fn shown<A: Copy, T: Given<A, N> + Drop, E: Coded + Drop, const N: usize>(
+    answer: Result<T, E>,
+    out: &mut [A; N],
+) -> u64
+    ensures { seen result out.new ≡ seen_of out.old (figures_by T.values (λ e. failed_with (E.number e) (E.period e)) answer) }
 {
-    code(r.number(), r.period())
+    match answer {
+        Ok(given) => {
+            *out = given.numbers();
+            0
+        }
+        Err(why) => why.code(),
+    }
 }
 
 // Of a call that answers with its tests alone: it has no out-array.
-pub fn checked(c: Check) -> u64
-    ensures { result ≡ check_code c }
+pub fn checked(answer: Result<(), Refusal>) -> u64
+    ensures { result ≡ check_code answer }
 {
-    match c {
-        Check::Passed => 0,
-        Check::Refused(r) => refused(r),
-    }
-}
-
-fn broken(rule: Rule, period: u16) -> u64
-    ensures { result ≡ code_of (rule_number rule) period }
-{
-    code(rule.number(), period)
-}
-
-// What is shown of a path's answer: the cost and setups of its plan.
-pub fn planned(a: Answer, answer: &mut [u64; 2]) -> u64
-    ensures { seen result answer.new ≡ seen_of answer.old (answer_figures a) }
-{
-    match a {
-        Answer::Refused(r) => refused(r),
-        Answer::Planned(t) => {
-            *answer = [t.cost, t.setups];
-            0
-        }
-    }
-}
-
-// Of the equal path's answer: the plan's loads too.
-pub fn planned_equal(a: EqualAnswer, answer: &mut [u64; 4]) -> u64
-    ensures { seen result answer.new ≡ seen_of answer.old (equal_figures a) }
-{
-    match a {
-        EqualAnswer::Refused(r) => refused(r),
-        EqualAnswer::Planned(t, l) => {
-            *answer = [t.cost, t.setups, l.full, l.part];
-            0
-        }
-    }
-}
-
-// Of needs known as ranges: the least cost for the lowest, and for the highest.
-pub fn bounded(a: BoundsAnswer, answer: &mut [u64; 2]) -> u64
-    ensures { seen result answer.new ≡ seen_of answer.old (bounds_figures a) }
-{
-    match a {
-        BoundsAnswer::Refused(r) => refused(r),
-        BoundsAnswer::Bounded(b) => {
-            *answer = [b.lowest, b.highest];
-            0
-        }
-    }
-}
-
-// Of a big day's answer: the cost and setups of its plan, the trials used, the gap.
-pub fn planned_big(a: BigAnswer, answer: &mut [u64; 4]) -> u64
-    ensures { seen result answer.new ≡ seen_of answer.old (big_figures a) }
-{
-    match a {
-        BigAnswer::Refused(r) => refused(r),
-        BigAnswer::Planned(t, b) => {
-            *answer = [t.cost, t.setups, b.used, b.gap];
-            0
-        }
-    }
-}
-
-// Of a weighing: the cost and setups of a plan that holds.
-pub fn weighed(w: Weighed, answer: &mut [u64; 2]) -> u64
-    ensures { seen result answer.new ≡ seen_of answer.old (weighed_figures w) }
-{
-    match w {
-        Weighed::Refused(r) => refused(r),
-        Weighed::Judged(v) => match v {
-            Verdict::Broken(rule, period) => broken(rule, period),
-            Verdict::Holds(totals) => {
-                *answer = [totals.cost, totals.setups];
-                0
-            }
-        },
-    }
-}
-
-// Of a comparison: the difference.
-pub fn compared(c: Compared, difference: &mut [i64; 1]) -> u64
-    ensures { seen result difference.new ≡ seen_of difference.old (compared_figures c) }
-{
-    match c {
-        Compared::Refused(r) => refused(r),
-        Compared::Broken(rule, period) => broken(rule, period),
-        Compared::Difference(v) => {
-            *difference = [v];
-            0
-        }
-    }
-}
-
-// Of a played day: what was produced, delivered, lost and disposed of (made, delivered, missed, spilled), and what is left.
-pub fn played(a: PlayAnswer, answer: &mut [u64; 5]) -> u64
-    ensures { seen result answer.new ≡ seen_of answer.old (play_figures a) }
-{
-    match a {
-        PlayAnswer::Refused(r) => refused(r),
-        PlayAnswer::Broken(rule, period) => broken(rule, period),
-        PlayAnswer::Played(f) => {
-            *answer = [f.produced, f.delivered, f.lost, f.disposed, f.left];
-            0
-        }
+    match answer {
+        Ok(()) => 0,
+        Err(r) => r.code(),
     }
 }
 
 // The stamp that a C program expects, as two numbers; none where they are fewer or more.
-pub fn expected(numbers: &[u16]) -> Expected
+pub fn expected(numbers: &[u16]) -> Option<Stamp>
     ensures { result ≡ expected_of numbers.now }
 {
-    if numbers.len() != 2 {
-        return Expected::Nothing;
-    }
-    Expected::Only(Stamp {
-        station: numbers[0],
-        date: numbers[1],
-    })
-}
-
-// Of a reading: the count of periods, and the ends.
-pub fn read(a: ReadAnswer, day: &mut [u64; 3]) -> u64
-    ensures { seen result day.new ≡ seen_of day.old (read_figures a) }
-{
-    match a {
-        ReadAnswer::Refused(r) => refused(r),
-        ReadAnswer::Periods(n, ends) => {
-            *day = [n as u64, ends.opening as u64, ends.closing as u64];
-            0
-        }
-    }
-}
-
-// Of a writing: the count of bytes.
-pub fn written(a: WriteAnswer, count: &mut [u64; 1]) -> u64
-    ensures { seen result count.new ≡ seen_of count.old (write_figures a) }
-{
-    match a {
-        WriteAnswer::Refused(r) => refused(r),
-        WriteAnswer::Bytes(n) => {
-            *count = [n as u64];
-            0
-        }
+    match numbers {
+        [station, date] => Some(Stamp {
+            station: *station,
+            date: *date,
+        }),
+        _ => None,
     }
 }
