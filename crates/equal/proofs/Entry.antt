@@ -48,9 +48,12 @@ module _ (k : ℕ) (l part : List ℕ) (e : length part ≡ length (front k l)) 
   back_cleared : (l' : List ℕ) → Cleared k (back k l part) l' → Cleared k l l'
   back_cleared l' c = c ∙ ap (λ (t : List ℕ). replicate k 0 ++ t) back_rest
 
-module _ (d : Day) (m : Memory) (ok : Admitted equal d (sizes_of m)) (r : Needed) (needed : NeededBy equal (periods d) 0 r) where
-  abbrev n : ℕ
-  n = periods d
+module _ (d : Day) (m : Memory) (ok : Admitted equal d (sizes_of m)) (n : ℕ) (is_n : n ≡ periods d) (r : Needed) (asked : NeededBy equal n 0 r) where
+  needed : NeededBy equal (periods d) 0 r
+  needed = rw is_n at asked
+
+  slots_inside : n ≤ length m.slots
+  slots_inside = omega (arith, ok.room.slots)
 
   -- no store can bind
   loose : Loose d
@@ -81,7 +84,7 @@ module _ (d : Day) (m : Memory) (ok : Admitted equal d (sizes_of m)) (r : Needed
             costs = front_length r.costs m.costs costs_inside ∙ needed.costs ∙ ap (λ (k : ℕ). equal.cost_cells k 0) (sym size);
             choices = front_length r.choices m.choices choices_inside ∙ needed.choices ∙ ap (λ (k : ℕ). equal.choice_cells k 0) (sym size);
           };
-          each = front_length n m.slots ok.room.slots ∙ sym size;
+          each = front_length n m.slots slots_inside ∙ (is_n ∙ sym size);
         })
 
     module _ (slots : List ℕ) (size : length slots ≡ length (front n m.slots)) (found : PlanFound p slots) where
@@ -89,7 +92,7 @@ module _ (d : Day) (m : Memory) (ok : Admitted equal d (sizes_of m)) (r : Needed
       slots' = back n m.slots slots
 
       same : (k : ℕ) → k < Problem.periods (problem_of d) → at slots k ≡ at slots' k
-      same k h = sym (get_or-append slots _ 0 k (omega (arith, size, front_length n m.slots ok.room.slots, periods_is d)))
+      same k h = sym (get_or-append slots _ 0 k (omega (arith, size, front_length n m.slots slots_inside, periods_is d)))
 
       found_net : PlanFound (problem_of d) slots
       found_net = subst (λ (q : Problem). PlanFound q slots) (problem_is d filled) found
@@ -101,7 +104,7 @@ module _ (d : Day) (m : Memory) (ok : Admitted equal d (sizes_of m)) (r : Needed
           (optimal_ext (model_of q) (Problem.periods q) (Problem.total q) (at slots) (at slots') same found_net)
 
       pub slots_feasible : FeasiblePlan d slots'
-      slots_feasible = path_plan ok (back_length n m.slots slots size ok.room.slots) slots_optimal.feasible
+      slots_feasible = path_plan ok (back_length n m.slots slots size slots_inside) slots_optimal.feasible
 
       -- The front parts as the work leaves them, and then cleared, are as an accepted call leaves its memory.
       pub work_accepted : (t : Totals) (costs choices costs' choices' : List ℕ)
@@ -115,8 +118,8 @@ module _ (d : Day) (m : Memory) (ok : Admitted equal d (sizes_of m)) (r : Needed
           record {
             plan = slots_optimal;
             counts = rw is refl;
-            size = back_length n m.slots slots size ok.room.slots;
-            rest = back_rest n m.slots slots size ok.room.slots;
+            size = back_length n m.slots slots size slots_inside;
+            rest = subst (λ (k : ℕ). drop k slots' ≡ drop k m.slots) is_n (back_rest n m.slots slots size slots_inside);
             costs = rw needed.costs at (back_cleared r.costs m.costs costs e costs_inside costs' clear);
             choices = rw needed.choices at (back_cleared r.choices m.choices choices f choices_inside choices' clear');
           }

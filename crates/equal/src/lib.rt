@@ -3,128 +3,88 @@
 //! its loads.
 #![tactic(auto)]
 
-ghost use Rattle.std.specs.Prelude.{length};
-ghost use Rattle.day.specs.Day.{day_of};
-ghost use Rattle.day.specs.Lent.{day_before, memory_before, memory_after};
-ghost use Rattle.day.specs.Outcome.{sizes, Accepted};
+ghost use Rattle.day.specs.Lent.{lent_day, memory_before, memory_after};
+ghost use Rattle.day.specs.Outcome.{memory_of, sizes_of, Accepted};
 ghost use Rattle.day.specs.Paths.{equal};
 ghost use Rattle.day.specs.Loads.{EqualRuns};
 ghost use Rattle.checks.specs.Passed.{Admitted};
-ghost use Rattle.theory.specs.Problem.{problem_with};
+ghost use Rattle.theory.specs.Problem.{lent_problem};
 ghost use Rattle.equal_rows.specs.Rows.{areas};
 ghost use Rattle.equal.specs.Solved.{Solvable, PlanFound};
 
-use day::{Check, Ends, EqualAnswer, PathKind, Totals};
+use day::{Day, Loads, PathKind, Refusal, Sizes, Totals};
+use theory::Problem;
 
 // The plan into the slots. Where nothing can be made, nothing is demanded. What is left in the areas is free.
-fn solve(
-    demand: &[u16],
-    capacity: &[u16],
-    setup: &[u32],
-    unit: &[u32],
-    holding: &[u32],
-    costs: &mut [u64],
-    choices: &mut [u16],
-    slots: &mut [u16],
-)
-    requires { Solvable (problem_with demand.now capacity.now setup.now unit.now holding.now)
-        (areas costs.old choices.old) slots.old }
-    ensures { PlanFound
-        (problem_with demand.now capacity.now setup.now unit.now holding.now)
-        slots.new }
+fn solve(p: Problem, costs: &mut [u64], choices: &mut [u16], slots: &mut [u16])
+    requires { Solvable (lent_problem p) (areas costs.old choices.old) slots.old }
+    ensures { PlanFound (lent_problem p.entry) slots.new }
 {
-    let full = capacity[0];
+    let full = p.capacity[0];
     if full == 0 {
         slots.fill(0);
         return;
     }
-    equal_rows::rows(demand, setup, unit, holding, full, costs, choices, slots);
-    let n = demand.len();
+    equal_rows::rows(p, full, costs, choices, slots);
+    let n = p.demand.len();
     slots.copy_from_slice(&choices[n * n..n * n + n]);
 }
 
 // The work, once the tests have passed.
-fn work(
-    demand: &[u16],
-    capacity: &[u16],
-    setup: &[u32],
-    unit: &[u32],
-    holding: &[u32],
-    store: &[u16],
-    costs: &mut [u64],
-    choices: &mut [u16],
-    slots: &mut [u16],
-    ends: Ends,
-) -> Totals
-    requires { Admitted equal
-        (day_of demand.now capacity.now setup.now unit.now holding.now store.now ends)
-        (sizes (length costs.old) (length choices.old) (length slots.old)) }
+fn work(day: Day, costs: &mut [u64], choices: &mut [u16], slots: &mut [u16]) -> Totals
+    requires { Admitted equal (lent_day day) (sizes_of (memory_of costs.old choices.old slots.old)) }
     ensures { Accepted equal
-        (day_before demand capacity setup unit holding store ends)
+        (lent_day day.entry)
         result
         (memory_before costs choices slots)
         (memory_after costs choices slots) }
 {
-    let n = demand.len();
+    let n = day.periods();
     let mut need_table = [0u16; 96];
     let mut rate_table = [0u32; 96];
     let net = &mut need_table[..n];
     let rates = &mut rate_table[..n];
-    net::fill(demand, holding, net, rates, ends);
+    net::fill(day, net, rates);
+    let p = Problem {
+        demand: net,
+        capacity: day.capacity,
+        setup: day.setup,
+        unit: day.unit,
+        holding: rates,
+    };
     let needed = path_checks::cells(PathKind::Equal, n, 0);
     let cost_cells = needed.costs;
     let choice_cells = needed.choices;
     solve(
-        net,
-        capacity,
-        setup,
-        unit,
-        rates,
+        p,
         &mut costs[..cost_cells],
         &mut choices[..choice_cells],
         &mut slots[..n],
     );
-    areas::clear_wide(costs, cost_cells);
-    areas::clear_narrow(choices, choice_cells);
-    weigher::totals(demand, capacity, setup, unit, holding, store, slots, ends)
+    costs[..cost_cells].fill(0);
+    choices[..choice_cells].fill(0);
+    weigher::totals(day, slots)
 }
 
 // The plan of a day with one capacity throughout whose stores can't bind, into the first n slots; the answer counts its loads.
 pub fn plan(
-    demand: &[u16],
-    capacity: &[u16],
-    setup: &[u32],
-    unit: &[u32],
-    holding: &[u32],
-    store: &[u16],
+    day: Day,
     costs: &mut [u64],
     choices: &mut [u16],
     slots: &mut [u16],
-    ends: Ends,
-) -> EqualAnswer
+) -> Result<(Totals, Loads), Refusal>
     ensures { EqualRuns
-        (day_before demand capacity setup unit holding store ends)
+        (lent_day day.entry)
         (memory_before costs choices slots)
         result
         (memory_after costs choices slots) }
 {
-    if let Check::Refused(r) = path_checks::path(
-        PathKind::Equal,
-        demand,
-        capacity,
-        setup,
-        unit,
-        holding,
-        store,
-        costs.len(),
-        choices.len(),
-        slots.len(),
-        ends,
-    ) {
-        return EqualAnswer::Refused(r);
-    }
-    let totals = work(
-        demand, capacity, setup, unit, holding, store, costs, choices, slots, ends,
-    );
-    EqualAnswer::Planned(totals, loads::count(capacity, slots))
+    let lent = Sizes {
+        costs: costs.len(),
+        choices: choices.len(),
+        slots: slots.len(),
+    };
+    path_checks::path(PathKind::Equal, day, lent)?;
+    let totals = work(day, costs, choices, slots);
+    Ok((totals, loads::count(day.capacity, slots)))
 }

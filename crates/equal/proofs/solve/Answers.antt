@@ -3,9 +3,10 @@ use Rattle.std.proofs.Common.{◌≡◌, sym, ap, ◌∙◌, subst, List, ℕ, �
 use Rattle.std.proofs.lemmas.List.{get_or-replicate}
 use borrow.Rule.Slice.PartMut.{mid_of}
 use Rattle.day.specs.Sums.{at}
-use Rattle.theory.specs.Problem.{Problem, problem_with, periods, model_of}
+use Rattle.theory.specs.declared.Problem.{Problem as LentProblem}
+use Rattle.theory.specs.Problem.{Problem, problem_with, lent_problem, periods, model_of}
 use Rattle.theory.specs.Recursion.{leads_optimal}
-use Rattle.equal_runs.specs.Run.{constant_with}
+use Rattle.equal_runs.specs.Run.{lent_constant}
 use Rattle.equal_rows.specs.Rows.{Areas, solution_of}
 use Rattle.equal_rows.specs.Best.{PlanRow}
 use Rattle.equal_rows.specs.Consider.{ConstantCapacity}
@@ -17,44 +18,38 @@ idle : (p : Problem) (slots : List ℕ) → ConstantCapacity p (at p.capacity 0)
 idle p slots constant e clear =
     idle_found p (rw e at constant) slots (λ k h. ap (λ (l : List ℕ). at l k) clear ∙ get_or-replicate (periods p) k 0 0 h)
 
-module _ (demand capacity setup unit holding : List ℕ) (c : ℕ)
-    (constant : ConstantCapacity (problem_with demand capacity setup unit holding) c) where
+module _ (problem : LentProblem) (c : ℕ) (constant : ConstantCapacity (lent_problem problem) c) where
   abbrev p : Problem
-  p = problem_with demand capacity setup unit holding
+  p = lent_problem problem
 
   abbrev n : ℕ
   n = periods p
 
-  -- the rows run on the one capacity
-  by_one : ConstantCapacity (constant_with demand c setup unit holding) c
-  by_one = subst (λ (l : List ℕ). ConstantCapacity (problem_with demand l setup unit holding) c) (constant_is p c constant) constant
+  -- that of the one capacity, on which the rows run
+  abbrev q : Problem
+  q = lent_constant problem c
+
+  same : p ≡ q
+  same = ap (λ (l : List ℕ). problem_with p.demand l p.setup p.unit p.holding) (constant_is p c constant)
+
+  by_one : ConstantCapacity q c
+  by_one = rw same at constant
 
   -- the last row is the plan
-  last_row : (a : Areas) (slots : List ℕ) → PlanRow (constant_with demand c setup unit holding) n a
-      → slots ≡ mid_of (n * n) (n * n + n - n * n) a.choices → PlanFound p slots
+  last_row : (a : Areas) (slots : List ℕ) → PlanRow q n a → slots ≡ mid_of (n * n) (n * n + n - n * n) a.choices → PlanFound p slots
   last_row a slots row e =
-      let q : Problem = constant_with demand c setup unit holding in
-      let k : length demand * length demand + length demand - length demand * length demand ≡ length demand = omega arith in
-      let o : PlanFound (constant_with demand c setup unit holding) slots = rw (e, k) (leads_optimal (model_of q) n _ (solution_of n a n) row.plan) in
-      subst (λ (l : List ℕ). PlanFound (problem_with demand l setup unit holding) slots) (sym (constant_is p c constant)) o
+      let k : n * n + n - n * n ≡ n = omega arith in
+      let o : PlanFound q slots = rw (e, k) (leads_optimal (model_of q) n _ (solution_of n a n) row.plan) in
+      subst (λ (v : Problem). PlanFound v slots) (sym same) o
 
 pub returns-then-full-eq0 : goal.returns-then-full-eq0
 returns-then-full-eq0 c =
-    let a = c.args in
-    let clear : c.fill.new.self ≡ replicate (length a.slots.now) 0 = search rules in
-    idle (problem_with a.demand.now a.capacity.now a.setup.now a.unit.now a.holding.now) _ c.requires.constant c.if-full-eq0.true (rw c.requires.each at clear)
+    let clear : c.fill.new.self ≡ replicate (length c.args.slots.now) 0 = search rules in
+    idle (lent_problem c.args.p) _ c.requires.constant c.if-full-eq0.true (rw c.requires.each at clear)
 
 pub rows-requires : goal.rows-requires
 rows-requires c =
-    let a = c.args in
-    record {
-      constant = by_one a.demand.now a.capacity.now a.setup.now a.unit.now a.holding.now _ c.requires.constant;
-      room = omega arith;
-      sized = c.requires.sized;
-      each = c.requires.each;
-    }
+    record { constant = by_one c.args.p _ c.requires.constant; room = omega arith; sized = c.requires.sized; each = c.requires.each }
 
 pub returns : goal.returns
-returns c =
-    let a = c.args in
-    last_row a.demand.now a.capacity.now a.setup.now a.unit.now a.holding.now _ c.requires.constant _ _ c.rows.ensures c.copy_from_slice.ensures.after
+returns c = last_row c.args.p _ c.requires.constant _ _ c.rows.ensures c.copy_from_slice.ensures.after

@@ -1,5 +1,6 @@
 -- The tests leave what each step asks, and the steps what an accepted call leaves.
-use Rattle.day.specs.Day.{day_of}
+use Rattle.std.proofs.Common.{rules}
+use Rattle.day.specs.Lent.{lent_day}
 use Rattle.day.specs.Outcome.{memory_of}
 use Rattle.equal.proofs.Entry.{solvable, slots_feasible, work_accepted}
 use Rattle.equal.proofs.work.Goals as goal
@@ -7,22 +8,22 @@ use Rattle.equal.proofs.work.Goals as goal
 pub solve-requires : goal.solve-requires
 solve-requires c =
     let a = c.args in
-    let d = day_of a.demand.now a.capacity.now a.setup.now a.unit.now a.holding.now a.store.now a.ends in
+    let d = lent_day a.day in
     let m = memory_of a.costs.now a.choices.now a.slots.now in
-    solvable d m c.requires _ c.cells-needed.ensures _ _ c.fill.ensures
+    solvable d m c.requires _ c.periods-n.ensures _ c.cells-needed.ensures _ _ c.fill.ensures
 
 pub totals-requires : goal.totals-requires
 totals-requires c =
     let a = c.args in
-    let d = day_of a.demand.now a.capacity.now a.setup.now a.unit.now a.holding.now a.store.now a.ends in
+    let d = lent_day a.day in
     let m = memory_of a.costs.now a.choices.now a.slots.now in
-    slots_feasible d m c.requires _ c.cells-needed.ensures _ _ c.fill.ensures c.solve.new.slots c.solve.auto.slots c.solve.ensures
+    slots_feasible d m c.requires _ c.periods-n.ensures _ c.cells-needed.ensures _ _ c.fill.ensures c.solve.new.slots c.solve.auto.slots c.solve.ensures
 
 pub returns : goal.returns
 returns c =
     let a = c.args in
-    let d = day_of a.demand.now a.capacity.now a.setup.now a.unit.now a.holding.now a.store.now a.ends in
+    let d = lent_day a.day in
     let m = memory_of a.costs.now a.choices.now a.slots.now in
-    work_accepted d m c.requires _ c.cells-needed.ensures _ _ c.fill.ensures c.solve.new.slots c.solve.auto.slots c.solve.ensures _
-    c.solve.new.costs c.solve.new.choices _ _ c.solve.auto.costs c.solve.auto.choices c.clear_wide.ensures c.clear_narrow.ensures
+    work_accepted d m c.requires _ c.periods-n.ensures _ c.cells-needed.ensures _ _ c.fill.ensures c.solve.new.slots c.solve.auto.slots c.solve.ensures _
+    c.solve.new.costs c.solve.new.choices _ _ c.solve.auto.costs c.solve.auto.choices (search rules) (search rules)
     c.totals.ensures
