@@ -1,40 +1,47 @@
 -- What the loop over the trials keeps. Main statements: `running_search`, what the search for the next period asks; `running_comes`, what the next trial
--- finds. Assumes nothing.
-use Rattle.std.proofs.Common.{◌≡◌, Some, sym, List, ℕ, ◌+◌, ◌*◌, ◌≤◌, arith, length, drop}
-use Rattle.day.specs.Day.{Day, periods, max_periods}
-use Rattle.day.specs.Drops.{next, TriedIn}
-use Rattle.theory.proofs.Drops.{tried_stands}
+-- finds; `running_out`, where the trials are used up. Assumes nothing.
+use Rattle.std.proofs.Common.{◌≡◌, Some, sym, List, ℕ, ◌≤◌, arith, length}
+use Rattle.day.specs.Sums.{at}
+use Rattle.day.specs.Day.{Day, periods}
+use Rattle.day.specs.Drops.{last_open, in_round, next, TriedIn}
+use Rattle.theory.proofs.Drops.{tried_stands, next_allowed}
 use Rattle.rounds.specs.declared.Turn.{Turn}
 use Rattle.rounds.specs.Turns.{turn_of}
 use Rattle.drops.specs.declared.Standing.{Standing}
+use Rattle.drops.specs.Ready.{IsReady}
 use Rattle.drops.specs.Standing.{state_of, Held, NextIs, Finished}
 
 -- `used` of the allowed trials are made
-pub record Running (d : Day) (net cells₀ : List ℕ) (trials : ℕ) (allowances cells plan : List ℕ) (s : Standing) (used : ℕ) : Type 0 where
-  pub held : Held d net allowances cells plan s.cost
-  pub tried : TriedIn d used (state_of (periods d) cells s)
+pub record Running (d : Day) (trials : ℕ) (allowances marks best plan : List ℕ) (s : Standing) (used : ℕ) : Type 0 where
+  pub held : Held d allowances marks best plan s.cost
+  pub tried : TriedIn d used (state_of marks best s)
   pub within : used ≤ trials
-  pub rest : drop (3 * periods d) cells ≡ drop (3 * periods d) cells₀
 
-module _ {d : Day} {net cells₀ : List ℕ} {trials : ℕ} {allowances cells plan : List ℕ} {s : Standing} {used : ℕ}
-    (w : Running d net cells₀ trials allowances cells plan s used) where
+module _ {d : Day} {net keys : List ℕ} (ready : IsReady d net keys) {trials : ℕ} {allowances marks best plan : List ℕ} {s : Standing} {used : ℕ}
+    (w : Running d trials allowances marks best plan s used) where
   ahead_inside : s.ahead ≤ periods d
-  ahead_inside = (tried_stands d w.held.triable.loose used (state_of (periods d) cells s) w.tried).ahead
+  ahead_inside = (tried_stands d ready.loose used (state_of marks best s) w.tried).ahead
 
   -- what the search for the next period asks
-  pub running_search : (periods d ≤ max_periods) × (s.ahead ≤ periods d) × (periods d + periods d ≤ length cells)
-  running_search = (w.held.triable.limits.limits.few, ahead_inside, omega (arith, w.held.room))
+  pub running_search : s.ahead ≤ length marks
+  running_search = omega (arith, w.held.marked, ahead_inside)
 
-  pub running_comes : (turn : Turn) → turn_of (Some turn) ≡ next (periods d) (state_of (periods d) cells s) → NextIs d cells s turn
-  running_comes turn is = record { inside = ahead_inside; comes = sym is }
+  pub running_comes : (turn : Turn) → turn_of (Some turn) ≡ in_round (last_open (at marks) s.ahead) (last_open (at marks) (length marks)) s.dropped
+      → NextIs d marks best s turn
+  running_comes turn is =
+      let comes : next (periods d) (state_of marks best s) ≡ turn_of (Some turn) = sym (rw w.held.marked at is) in
+      record {
+        ahead = ahead_inside;
+        inside = (next_allowed (periods d) (state_of marks best s) _ ahead_inside comes).0;
+        comes = comes;
+      }
 
   -- where the trials are used up
-  pub running_out : trials ≤ used → Finished d trials trials cells₀ cells
+  pub running_out : trials ≤ used → Finished d trials trials marks best
   running_out out =
       let e : used ≡ trials = omega (arith, w.within) in
       record {
         ahead = s.ahead;
         dropped = s.dropped;
         ended = record { tried = rw e at w.tried; allowed = omega arith; stops = λ l. absurd (omega arith) };
-        rest = w.rest;
       }

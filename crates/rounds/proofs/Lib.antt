@@ -1,3 +1,2 @@
--- Laws of the writing loops.
-pub mod Writing
+-- The last allowed period, as a search from the back finds it.
 pub mod Last

@@ -1,3 +1,2 @@
--- The trials of a big day in lent cells, and what the search for the next period answers.
-pub mod Cells
+-- What the search for the next period answers.
 pub mod Turns

@@ -1,13 +1,13 @@
--- What the search for the next period asks, and what it finds.
+-- What the search for the next period asks, and what it finds; the trials used up.
 use Rattle.std.proofs.Common.{arith}
 use Rattle.drops.proofs.Running.{running_search, running_comes, running_out}
 use Rattle.drops.proofs.run.Goals as goal
 
 pub next-requires : goal.next-requires
-next-requires c = running_search c.loop-used.invariant
+next-requires c = running_search c.args.ready.ready c.loop-used.invariant
 
 pub step-s-requires-clause-next_is : goal.step-s-requires-clause-next_is
-step-s-requires-clause-next_is c = running_comes c.loop-used.invariant c.in-Some.turn c.in-Some.ensures
+step-s-requires-clause-next_is c = running_comes c.args.ready.ready c.loop-used.invariant c.in-Some.turn c.in-Some.ensures
 
 pub returns : goal.returns
-returns c = running_out c.loop-used.invariant (omega arith)
+returns c = running_out c.args.ready.ready c.loop-used.invariant (omega arith)
