@@ -1,5 +1,5 @@
--- What the answer on needs known as ranges says of every table between the two (document 02, 2.9), over the call's contract.
--- Main statements: `between_least`; `bounded_iff`, `refused_short` (demand 2). Assumes nothing.
+-- What the answer on needs known as ranges says of every table between the two, over the call's contract.
+-- Main statements: `between_least`; `bounded_iff`, `refused_short`. Assumes nothing.
 use Rattle.std.proofs.lemmas.Option.{none-some}
 use Rattle.std.specs.Prelude.{None, Result, Ok, Err}
 use Rattle.std.proofs.Common.{◌≡◌, List, [], ◌∷◌, ◌↔◌, ℕ, ◌≤◌}
@@ -53,12 +53,12 @@ module _ (lowest : List ℕ) (d : Day) (m : Memory) (ok : first (range_tests low
   only_shortage : range_refusal lowest d (sizes_of m) ≡ shortage d
   only_shortage = first_passed (range_tests lowest d (sizes_of m)) (shortage d ∷ []) ok ∙ first_one (shortage d)
 
-  -- Demand 2: the answer has the two costs exactly if some amounts keep the conditions with the highest needs.
+  -- The answer has the two costs exactly if some amounts keep the conditions with the highest needs.
   pub bounded_iff : (r : Result Bounds Refusal) (after : Memory) → Bounding lowest d m r after → IsBounded r ↔ ((x : ℕ → ℕ) × Feasible d x)
   bounded_iff (Err q) after runs =
       (λ empty. absurd empty, λ w. none-some q (sym ((shortage_iff d fits).1 w) ∙ (sym only_shortage ∙ gives_is runs.0)))
   bounded_iff (Ok b) after runs = (λ _. (runs.1.high.plan, runs.1.high.optimal.feasible), λ _. tt)
 
-  -- Demand 2: otherwise it is refusal 7 with the first period for which no amounts up to it keep the conditions through it.
+  -- Otherwise it is refusal 7 with the first period for which no amounts up to it keep the conditions through it.
   pub refused_short : (q : Refusal) (after : Memory) → Bounding lowest d m (Err q) after → FirstShort d q
   refused_short q after runs = shortage_names d fits q (sym only_shortage ∙ gives_is runs.0)

@@ -1,4 +1,4 @@
-//! Needs known as ranges (document 02, 2.9): the least cost of a day with its lowest needs and with its highest, by the full path.
+//! Needs known as ranges: the least cost of a day with its lowest needs and with its highest, by the full path.
 #![tactic(auto)]
 
 ghost use Rattle.std.specs.Prelude.{◌≡◌, [], None};

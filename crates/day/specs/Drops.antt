@@ -2,7 +2,8 @@
 -- Index k is period k + 1. A mark says of a period whether it is forbidden: 0 where it is allowed.
 -- Main definitions: `Ruled`, what a trial plans; `next`, which period the next trial forbids; `TriedIn`, what so many trials lead to;
 -- `Dropping`, the contract of the call. Assumes nothing.
-use Rattle.std.specs.Prelude.{◌≡◌, Bool, true, false, List, [], ◌∷◌, ◌++◌, ℕ, zero, suc, ◌-◌, ◌≤◌, ◌<◌, ltb, length, drop, replicate, set, Option, None, Some, Result, Ok, Err}
+use Rattle.std.specs.Prelude.{◌≡◌, Bool, true, false, List, [], ◌∷◌, ◌++◌, ℕ, zero, suc, ◌-◌, ◌≤◌, ◌<◌}
+use Rattle.std.specs.Prelude.{ltb, length, drop, replicate, set, Option, None, Some, Result, Ok, Err}
 use Rattle.day.specs.declared.Refusal.{Refusal}
 use Rattle.day.specs.declared.Totals.{Totals}
 use Rattle.day.specs.declared.Trials.{Trials}

@@ -1,6 +1,7 @@
 -- What a contract says of lent tables: the values that they hold when a call begins, and when it ends.
--- Main definitions: `lent_day`, of a lent day; of tables that are lent one by one `day_before`, `tables_before`, `tables_lent`, `tables_after`; `memory_before`, `memory_after`, of a path that is lent no choice area
--- `cells_before`, `cells_after`, and of a call that is lent no slots `areas_before`, `areas_after`. Assumes nothing.
+-- Main definitions: `lent_day`, of a lent day; of tables that are lent one by one `day_before`, `tables_before`, `tables_lent`, `tables_after`;
+-- `memory_before`, `memory_after`, of a path that is lent no choice area `cells_before`, `cells_after`, and of a call that is lent no slots
+-- `areas_before`, `areas_after`. Assumes nothing.
 use Rattle.std.specs.Prelude.{List, [], ℕ}
 use Rattle.std.specs.Borrow.{Bor, MutBor}
 use denote.Triple.Both.{Both}

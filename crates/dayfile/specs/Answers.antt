@@ -1,4 +1,4 @@
--- What the calls on day files answer, and what they leave in lent memory; the documents' order of their tests.
+-- What the calls on day files answer, and what they leave in lent memory; the order of their tests.
 -- Main definitions: `Lookup`, `Reading` and `Writing`, the contracts of the calls; `lookup_figures`, `read_figures`, `write_figures`. Assumes nothing.
 use Rattle.std.specs.Prelude.{◌≡◌, List, [], ◌∷◌, ◌++◌, ℕ, ◌+◌, ◌-◌, ◌≤◌, length, drop, Option, None, Some, Result, Ok, Err}
 use Rattle.std.specs.Borrow.{Bor}

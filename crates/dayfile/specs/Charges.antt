@@ -1,4 +1,4 @@
--- What document 02, 2.1 and 2.12, says of a record of kind 3 that is not as it must be, of the walk and so of every call on a file:
+-- What is said of a record of kind 3 that is not as it must be, of the walk and so of every call on a file:
 --     late_charges    one that stands neither first nor next to the stamp is refused 12 at its kind byte, also where the file ends inside it
 --     cut_charges     one that stands there and is cut short is refused 11
 --     zero_charges    one that stands there and holds two zeros is refused 12 after its body, whatever follows

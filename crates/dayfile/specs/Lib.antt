@@ -9,5 +9,5 @@ pub mod Layout
 pub mod Charges
 pub mod StoreLimits
 pub mod Stamps
--- Demand 2's statements on the lookup and on a file's size.
+-- Statements on the lookup and on a file's size.
 pub mod Theorems

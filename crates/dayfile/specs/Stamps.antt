@@ -1,4 +1,4 @@
--- What document 02, 2.12, says of a record of kind 5 that is not as it must be. Of the walk, and so of every call on a file:
+-- What is said of a record of kind 5 that is not as it must be. Of the walk, and so of every call on a file:
 --     late_stamp          one that doesn't stand first is refused 12 at its kind byte, also where the file ends inside it
 --     cut_stamp           one that stands first and is cut short is refused 11
 -- Of the reader, from its contract (`Answers`):

@@ -1,4 +1,4 @@
--- What document 02, 2.5, says of a record of kind 4 that is not as it must be, of the walk and so of every call on a file:
+-- What is said of a record of kind 4 that is not as it must be, of the walk and so of every call on a file:
 --     cut_limit       one that is cut short is refused 11
 --     no_limit        one that holds 65,535 is refused 12 after its body, whatever follows
 -- Assumes nothing.

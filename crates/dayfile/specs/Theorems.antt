@@ -1,4 +1,4 @@
--- What demand 2 asks of the lookup, from its contract (`Answers`) and the layout (the crate day's `File`):
+-- What the lookup gives, from its contract (`Answers`) and the layout (the crate day's `File`):
 --     lookup_hands_out        the part that a lookup hands out is where the layout has that period
 --     place_holds             the figures of a lookup point there, and there the record's body stands
 --     file_size               a file of n periods has 17 × n + 3 bytes, 5 more where there is a stamp, 5 more where there are charges, and 2 more for

@@ -1,4 +1,4 @@
-//! The day file (document 01, "Day file"; document 02, 2.1, 2.5, 2.12): its layout, and the lookup of one record's body. The reader and the writer stand
+//! The day file: its layout, and the lookup of one record's body. The reader and the writer stand
 //! on it.
 //! What the calls do is said by `Lookup`, `Reading` and `Writing` in specs/; the layout itself is in the crate day's `File`.
 #![tactic(auto)]

@@ -1,5 +1,5 @@
 -- What the field decoder gives, and how the tables fill.
 pub mod Numbers
 pub mod Tables
--- Demand 2's statement on the reader.
+-- The statement on the reader.
 pub mod Theorems

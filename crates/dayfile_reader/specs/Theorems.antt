@@ -1,4 +1,4 @@
--- What demand 2 asks of the reader: what it gives is what the layout says, and the file has the expected stamp (`reader_gives`). Assumes nothing.
+-- What the reader gives is what the layout says, and the file has the expected stamp (`reader_gives`). Assumes nothing.
 use Rattle.std.specs.Prelude.{◌≡◌, refl, true, List, ℕ, Option, Some, Ok}
 use Rattle.day.specs.declared.Ends.{Ends}
 use Rattle.day.specs.declared.Stamp.{Stamp}

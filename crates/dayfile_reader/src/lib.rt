@@ -1,4 +1,4 @@
-//! The reader (document 01, "Day file"; document 02, 2.1, 2.5, 2.12): the periods of a file into six lent tables. What it does is `Reading` of the
+//! The reader: the periods of a file into six lent tables. What it does is `Reading` of the
 //! crate dayfile.
 #![tactic(auto)]
 

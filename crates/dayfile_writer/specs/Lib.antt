@@ -1,3 +1,3 @@
--- The layout both ways, and demand 2's statements on reader and writer.
+-- The layout both ways, and the statements on reader and writer.
 pub mod RoundTrip
 pub mod Theorems

@@ -1,4 +1,4 @@
--- What demand 2 asks of reader and writer, of their contracts `Reading` and `Writing`:
+-- What reader and writer do together, by their contracts `Reading` and `Writing`:
 --     written_is_read     what the writer wrote with a stamp, the reader that expects it accepts: it fills the tables with the very day, and gives its
 --                         ends
 --     written_for_others  a reader that expects another stamp, or none, refuses it 20, and changes no cell

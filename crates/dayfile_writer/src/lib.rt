@@ -1,4 +1,4 @@
-//! The writer (document 01, "Day file"; document 02, 2.1, 2.5, 2.12): the file of a stamp and a day at the front of a lent slice.
+//! The writer: the file of a stamp and a day at the front of a lent slice.
 //! What it does is `Writing` of the crate dayfile.
 #![tactic(auto)]
 

@@ -1,5 +1,5 @@
-//! Plans the day file on standard input by the full path, and prints the plan, or the refusal (document 01, "Marked days"). Whose file it must be says
-//! `station.id` in the folder that it is run in (document 02, 2.12).
+//! Plans the day file on standard input by the full path, and prints the plan, or the refusal. Whose file it must be says
+//! `station.id` in the folder that it is run in.
 //! What it prints is proved in the crates program_text and plan_text, from the bytes that were read.
 #![tactic(auto)]
 

@@ -1,4 +1,4 @@
--- Laws of one trial: what the loops of the greedy rule tell is what the rule of 2.3 gives for the day with starts taken as free.
+-- Laws of one trial: what the loops of the greedy rule tell is what the rule gives by itself for the day with starts taken as free.
 -- Main statements: `trial_none`, `trial_some`; `trial_feasible`, its plan is one of the day. Assumes nothing.
 use Rattle.std.proofs.Common.{◌≡◌, refl, sym, ap, ◌∙◌, subst, Option, Some, None, List, ℕ, arith, length, replicate}
 use Rattle.std.proofs.lemmas.List.{length-replicate, get_or-replicate}

@@ -11,7 +11,7 @@ pub record Triable (d : Day) (allowances plan : List ℕ) : Type 0 where
   pub low : (k : ℕ) → k < periods d → at allowances k ≤ at d.capacity k
   pub size : length plan ≡ periods d
 
--- the rule of 2.3, starts taken as free, finds no plan under the capacities that are allowed; or it finds this one, which costs c, starts included
+-- the greedy rule, starts taken as free, finds no plan under the capacities that are allowed; or it finds this one, which costs c, starts included
 abbrev pub Comes : Day → (allowances : List ℕ) → Option ℕ → (plan : List ℕ) → Type 0
 Comes d allowances None plan = Ruled (starts_free allowances d) None
 Comes d allowances (Some c) plan = Ruled (starts_free allowances d) (Some plan) × (c ≡ cost d (at plan))

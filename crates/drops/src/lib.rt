@@ -1,4 +1,4 @@
-//! The trials of a big day in turn (document 02, 2.10): each plans by the rule of 2.3 with starts taken as free, under capacities of which one more is 0.
+//! The trials of a big day in turn: each plans by the greedy rule with starts taken as free, under capacities of which one more is 0.
 #![tactic(auto)]
 
 mod ready;

@@ -4,7 +4,7 @@ ghost use Rattle.drops.specs.Ready.{IsReady};
 
 use day::Day;
 
-// Beside the day its net needs, and for each period a key by which the rule of 2.3 chooses.
+// Beside the day its net needs, and for each period a key by which the greedy rule chooses.
 #[derive(Clone, Copy)]
 pub struct Ready<'a> {
     pub day: Day<'a>,

@@ -1,5 +1,5 @@
-//! The regeneration intervals of the equal path (document 01: runs). A state of one is how many full loads are made and whether the fractional
-//! load (document 01: the part load) is:
+//! The regeneration intervals of the equal path (operators say: runs). A state of one is how many full loads are made and whether the fractional
+//! load (operators say: the part load) is:
 //! j and d stand at index 2 × j + d of a row of costs.
 #![tactic(auto)]
 

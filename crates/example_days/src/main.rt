@@ -1,6 +1,6 @@
-//! Writes the day files of examples/ by the project's own writer: the marked days M1 to M12 (document 01), a day on which two plans cost the
-//! same (document 02, 2.2), one with charge at both ends (2.1), one with a low store (2.5), and a day of 96 periods; and `station.id`, which says
-//! whose they are (2.12).
+//! Writes the day files of examples/ by the project's own writer: the marked days M1 to M12, a day on which two plans cost the
+//! same, one with charge at both ends, one with a low store, and a day of 96 periods; and `station.id`, which says
+//! whose they are.
 #![tactic(auto)]
 
 use day::{Day, Ends, Stamp};

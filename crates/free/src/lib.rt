@@ -1,4 +1,4 @@
-//! The free path: the greedy rule (report, section 4; document 02, 2.3), for days without setup cost whose stores can't bind.
+//! The free path: the greedy rule (report, section 4), for days without setup cost whose stores can't bind.
 //! It tests, takes the net needs and the rates, writes the keys of the periods into its cost area, serves the needs in turn, clears the area, and
 //! weighs the plan.
 #![tactic(auto)]

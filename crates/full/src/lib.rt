@@ -1,4 +1,4 @@
-//! The full path (document 01, "Three paths, one plan"): the plan of any day by recursion (5), over lent areas.
+//! The full path: the plan of any day by recursion (5), over lent areas.
 #![tactic(auto)]
 
 ghost use Rattle.day.specs.Lent.{lent_day, memory_before, memory_after};

@@ -18,7 +18,7 @@ pub record InReach (S : Stage) (X : ℕ) : Type 0 where
   pub rises : S.low ≤ X
   pub near : X ≤ S.high + S.capacity
 
--- the limits of document 01 on a stage and a total
+-- the limits on a stage and a total
 pub record Limited (S : Stage) (X : ℕ) : Type 0 where
   pub setup : S.setup ≤ max_setup
   pub unit : S.unit ≤ max_rate

@@ -1,4 +1,4 @@
-//! The greedy rule of the free path (report, section 4; document 02, 2.3): the needs in turn, each in batches from the period that is best for it.
+//! The greedy rule of the free path (report, section 4): the needs in turn, each in batches from the period that is best for it.
 //! A batch ends the need or fills a period, so there are at most twice as many batches as periods, each found in one pass.
 #![tactic(auto)]
 

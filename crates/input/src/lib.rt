@@ -26,7 +26,7 @@ pub fn read<R: Read>(input: &mut R, room: &mut [u8]) -> io::Result<usize>
     Ok(have)
 }
 
-// Reads a file likewise. One that does not exist counts as one of no bytes, since it is refused as one of another length is (document 02, 2.11, 2.12).
+// Reads a file likewise. One that does not exist counts as one of no bytes, since it is refused as one of another length is.
 fn read_file<R: Files>(rt: &R, name: &str, room: &mut [u8]) -> io::Result<usize>
     ensures { IfOk result (λ n. n ≤ length room.old) }
 {

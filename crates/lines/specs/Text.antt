@@ -1,4 +1,4 @@
--- The lines that `dayplan` prints (document 01, "Marked days") and those of `margins` (document 02, 2.11), as bytes.
+-- The lines that `dayplan` prints and those of `margins`, as bytes.
 -- Main definitions: `plan_line`, `amount_line`, `refusal_line`; `played_line`, `margin_refusal_line`. Assumes nothing.
 use Rattle.std.specs.Prelude.{codes, List, [], ◌∷◌, ◌++◌, ℕ, suc, ◌+◌, ◌^◌, ◌≤◌, ltb, length, Option, None, Some}
 use Rattle.std.specs.Borrow.{Bor}

@@ -1,4 +1,4 @@
-//! How a plan loads the cell (document 02, 2.6): its full-load periods and its part-loaded ones, counted.
+//! How a plan loads the cell: its full-load periods and its part-loaded ones, counted.
 #![tactic(auto)]
 
 ghost use Rattle.std.specs.Prelude.{◌≡◌, ◌&&◌, ◌≤◌, ltb, length};

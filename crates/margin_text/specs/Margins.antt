@@ -1,4 +1,4 @@
--- What `margins` prints for a day and a file of actual needs (document 02, 2.11): a refusal's line, or a line for each margin.
+-- What `margins` prints for a day and a file of actual needs: a refusal's line, or a line for each margin.
 -- Main definitions: `with_margin`, `needs_in`, `needs_tests`; `SaysMargin`, one line; `SaysMarginsOf`, the contract of the text. Assumes nothing.
 use Rattle.std.specs.Prelude.{◌≡◌, not, cond, List, [], ◌∷◌, ◌++◌, ℕ, zero, suc, ◌+◌, ◌*◌, eqb, ltb, length}
 use Rattle.std.proofs.Math.Option.{Option, none, some}

@@ -1,4 +1,4 @@
-//! The text that `margins` prints for a day and a file of actual needs (document 02, 2.11).
+//! The text that `margins` prints for a day and a file of actual needs.
 #![tactic(auto)]
 
 ghost use Rattle.std.specs.Prelude.{◌≡◌, ◌+◌, ◌*◌, ◌≤◌, ◌<◌, length};

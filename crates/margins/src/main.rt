@@ -1,5 +1,5 @@
 //! Tries margins on the day file on standard input, each plan played against the actual needs of the file `needs.act` in the folder that it is
-//! run in, and prints what each costs, misses and spills, or the refusal (document 02, 2.11). Whose file it must be says `station.id` there (2.12).
+//! run in, and prints what each costs, misses and spills, or the refusal. Whose file it must be says `station.id` there.
 //! What it prints is proved in the crates program_text and margin_text, from the bytes that were read.
 #![tactic(auto)]
 

@@ -1,6 +1,7 @@
 -- What the plain search finds among the numbered plans, by the weigher's verdicts.
 -- Main definition: `Chosen`; main statement: `chosen_more`, one plan more. Assumes nothing.
-use Rattle.std.specs.Prelude.{◌≡◌, refl, Bool, true, false, if◌then◌else◌, ◌&&◌, List, [], ◌∷◌, ℕ, suc, ◌/◌, ◌%◌, ◌^◌, ◌≤◌, ◌<◌, nat_le, Option, None, Some, Ok, Err}
+use Rattle.std.specs.Prelude.{◌≡◌, refl, Bool, true, false, if◌then◌else◌, ◌&&◌, List, [], ◌∷◌, ℕ, suc, ◌/◌}
+use Rattle.std.specs.Prelude.{◌%◌, ◌^◌, ◌≤◌, ◌<◌, nat_le, Option, None, Some, Ok, Err}
 use Rattle.std.proofs.Common.{arith, leb-true, leb-false}
 use Rattle.day.specs.declared.Totals.{Totals}
 use Rattle.day.specs.Sums.{below}

@@ -1,4 +1,4 @@
--- What `dayplan` prints for a day (document 01, "Marked days"): a refusal's line, or the lines of the day's plan.
+-- What `dayplan` prints for a day: a refusal's line, or the lines of the day's plan.
 -- Main definition: `SaysPlanOf`, the contract of the text. Assumes nothing.
 use Rattle.std.specs.Prelude.{◌≡◌, List, [], ◌++◌, ℕ, zero, suc, Option, None, Some}
 use Rattle.day.specs.declared.Refusal.{Refusal}

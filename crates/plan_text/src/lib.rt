@@ -1,4 +1,4 @@
-//! The text that `dayplan` prints for a day (document 01, "Marked days").
+//! The text that `dayplan` prints for a day.
 #![tactic(auto)]
 
 ghost use Rattle.std.specs.Prelude.{◌≡◌, ◌++◌};

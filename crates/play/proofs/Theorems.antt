@@ -1,4 +1,4 @@
--- What holds of a played day (document 02, 2.11), over the call's contract. Main statements: `play_inventory`, `play_demand`, both balances;
+-- What holds of a played day, over the call's contract. Main statements: `play_inventory`, `play_demand`, both balances;
 -- `played_keeps`, `keeps_played`, which plans are played; `plays_is`, one answer keeps the promise; `as_planned`. Assumes nothing.
 use Rattle.std.proofs.Common.{◌≡◌, refl, List, [], ◌∷◌, ◌++◌, ℕ, zero, suc, ◌+◌, ◌-◌, ◌≤◌, length}
 use Rattle.std.proofs.Common.{sym, ap, ◌∙◌, arith, None, Ok, Err}

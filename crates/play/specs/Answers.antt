@@ -1,4 +1,4 @@
--- What the call on a played day answers (document 02, 2.11). Main definitions: `play_refusal`, `play_figures`; `Plays`, the contract of the call.
+-- What the call on a played day answers. Main definitions: `play_refusal`, `play_figures`; `Plays`, the contract of the call.
 -- Assumes nothing.
 use Rattle.std.specs.Prelude.{List, [], ◌∷◌, ◌++◌, ℕ, length, Option, None, Some, Result, Ok, Err}
 use Rattle.day.specs.declared.Refusal.{Refusal}

@@ -1,4 +1,4 @@
--- The day played through (document 02, 2.11): what a plan does against a table of actual needs, period by period.
+-- The day played through: what a plan does against a table of actual needs, period by period.
 -- A plan and a table of needs are functions from periods to amounts, as in the crate day's Plan. Index k is period k + 1.
 -- Main definitions: `delivered_of` to `left_of`, one period; `inventory_to`, the charge left after so many; `flows_of`, the sums over the day.
 -- Assumes nothing.

@@ -1,4 +1,4 @@
-//! A day played through (document 02, 2.11): a plan that holds, against a table of actual needs. What the answers mean is in specs/.
+//! A day played through: a plan that holds, against a table of actual needs. What the answers mean is in specs/.
 #![tactic(auto)]
 
 ghost use Rattle.std.specs.Prelude.{◌≡◌, length};
@@ -11,7 +11,7 @@ ghost use Rattle.play.specs.Run.{Room, Playable, next_of};
 use day::Day;
 use weigher::Fault;
 
-// What a plan did against actual needs, summed over the day (document 02: made, delivered, missed, spilled), and the charge left after it.
+// What a plan did against actual needs, summed over the day (operators say: made, delivered, missed, spilled), and the charge left after it.
 #[derive(Clone, Copy)]
 pub struct Flows {
     pub produced: u64,

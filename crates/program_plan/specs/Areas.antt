@@ -1,4 +1,4 @@
--- The full path in the areas that document 01 gives its program ("Marked days"), and document 02, 2.11, the second one.
+-- The full path in the areas that both programs lend it.
 -- Main definitions: `lent`; `PlansInAreas`, the contract. Main statements: `plan_refused`, `plan_in_slots`, what an answer tells. Assumes nothing.
 use Rattle.std.specs.Prelude.{◌≡◌, refl, List, ℕ, length, replicate, None, Some, Result, Ok, Err}
 use Rattle.std.proofs.Common.{subst, arith}
@@ -32,7 +32,8 @@ blank_sizes : sizes_of (memory_of (replicate 1000 0) (replicate 24000 0) blank_s
 blank_sizes = rw (length-replicate {A = ℕ} 1000 0, length-replicate {A = ℕ} 24000 0, length-replicate {A = ℕ} 96 0) refl
 
 -- a refused day's first refusal
-pub plan_refused : (d : Day) (after : List ℕ) (answer : Result Totals Refusal) (refused : Refusal) → answer ≡ Err refused → PlansInAreas d blank_slots answer after
+pub plan_refused : (d : Day) (after : List ℕ) (answer : Result Totals Refusal) (refused : Refusal)
+    → answer ≡ Err refused → PlansInAreas d blank_slots answer after
     → refusal full d lent ≡ Some refused
 plan_refused d after answer refused e p =
     let left = memory_of p.costs p.choices after in

@@ -1,2 +1,2 @@
--- The full path in the areas of document 01.
+-- The full path in the programs' areas.
 pub mod Areas

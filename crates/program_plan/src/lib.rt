@@ -1,4 +1,4 @@
-//! The full path as the programs run it: in the areas of document 01, with slots lent.
+//! The full path as the programs run it: in areas of a fixed size, with slots lent.
 #![tactic(auto)]
 
 ghost use Rattle.day.specs.Lent.{lent_day};

@@ -1,4 +1,4 @@
-//! The tests of a call on needs known as ranges (document 02, 2.9), by the documents' numbers: 1; 2 and 3 on both tables of needs; 4, 14, 5; 17, 18; 7.
+//! The tests of a call on needs known as ranges, by their numbers: 1; 2 and 3 on both tables of needs; 4, 14, 5; 17, 18; 7.
 //! 1, 4, 14, 5 and 7 read the highest.
 #![tactic(auto)]
 
@@ -22,7 +22,7 @@ fn earlier(first: Result<(), Refusal>, second: Result<(), Refusal>) -> Result<()
     }
 }
 
-// 1, then 2 and 3 on both, where a second table of needs is read: the lowest, or the actual ones of a played day (document 02, 2.11)
+// 1, then 2 and 3 on both, where a second table of needs is read: the lowest, or the actual ones of a played day
 pub fn tables(needs: &[u16], day: Day) -> Result<(), Refusal>
     ensures { result ≡ checked (first (pair_tests needs.now (lent_day day.entry))) }
 {

@@ -1,4 +1,4 @@
-//! Which period the next trial of a big day forbids (document 02, 2.10). A mark says of each period whether it is forbidden: 0 where it is allowed.
+//! Which period the next trial of a big day forbids. A mark says of each period whether it is forbidden: 0 where it is allowed.
 #![tactic(auto)]
 
 ghost use Rattle.std.specs.Prelude.{◌≡◌, ◌≤◌, length};

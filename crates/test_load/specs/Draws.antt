@@ -1,4 +1,4 @@
--- The draws of a test load, after document 02, 2.7: from a 32-bit seed, five for each period.
+-- The draws of a test load: from a 32-bit seed, five for each period.
 -- Main definitions: `next_seed`, `seed_after`, `drawn`; `need`, `capacity`, `start`, `unit`, `upkeep`. Main statement: `first_need`.
 -- Assumes nothing.
 use Rattle.std.specs.Prelude.{◌≡◌, refl, ℕ, zero, suc, ◌+◌, ◌*◌, ◌/◌, ◌%◌}
@@ -20,7 +20,7 @@ upper seed = seed / 65536
 abbrev pub drawn : ℕ → ℕ → ℕ
 drawn seed k = upper (seed_after seed k)
 
--- the five draws of period i + 1, in the request's order and words
+-- the five draws of period i + 1, in their order and words
 abbrev pub need : ℕ → ℕ → ℕ
 need seed i = drawn seed (5 * i + 1) % 41
 

@@ -1,4 +1,4 @@
--- The draws, in the request's numbers; the contract of the call.
+-- The draws, number by number; the contract of the call.
 pub mod Draws
 pub mod Load
 -- How the tables fill, and what an accepted call has left in them.

@@ -1,4 +1,4 @@
--- What the call does that fills six lent tables with a test load (document 02, 2.7): its tests, its answer, what it leaves.
+-- What the call does that fills six lent tables with a test load: its tests, its answer, what it leaves.
 -- Main definition: `Loading`, its contract. Assumes nothing.
 use Rattle.std.specs.Prelude.{◌≡◌, [], ◌∷◌, ℕ, Option, None, Result, Ok, Err}
 use Rattle.day.specs.Day.{Day, max_store}

@@ -1,4 +1,4 @@
-//! A test load (document 02, 2.7): a made-up day that anyone can draw again from its seed, in six lent tables. What it does is `Loading` in specs/.
+//! A test load: a made-up day that anyone can draw again from its seed, in six lent tables. What it does is `Loading` in specs/.
 #![tactic(auto)]
 
 ghost use Rattle.std.specs.Prelude.{◌≡◌};

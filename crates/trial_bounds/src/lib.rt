@@ -1,4 +1,4 @@
-//! Trials of needs known as ranges (document 02, 2.9), in lent areas whose every cell holds the mark.
+//! Trials of needs known as ranges, in lent areas whose every cell holds the mark.
 #![tactic(auto)]
 
 use day::{Bounds, BoundsAnswer, Refusal};

@@ -39,7 +39,7 @@ impl fmt::Display for Path {
     }
 }
 
-// The cells that a path needs (document 01's table; document 02, 2.3).
+// The cells that a path needs.
 pub fn needed(path: Path, day: Day<'_>) -> Cells {
     let n = day.demand.len();
     let inventories = total(day).saturating_add(1);
@@ -64,8 +64,8 @@ pub fn needed(path: Path, day: Day<'_>) -> Cells {
     }
 }
 
-// What a call showed: a plan's totals, with its loads where the path counts them, or why it was refused; and whether it left every lent cell as
-// document 01 says.
+// What a call showed: a plan's totals, with its loads where the path counts them, or why it was refused; and whether it left every lent cell as it
+// must.
 #[derive(Clone, Copy)]
 pub struct Outcome {
     pub answer: Result<(Totals, Option<Loads>), Refusal>,

@@ -1,4 +1,4 @@
-//! Trials of played days (document 02, 2.11): on the plan and the actual needs that a line gives, and on made-up tiny days.
+//! Trials of played days: on the plan and the actual needs that a line gives, and on made-up tiny days.
 #![tactic(auto)]
 
 use day::Ends;
@@ -72,7 +72,7 @@ impl From<Seen> for u8 {
     }
 }
 
-// Whether both sums of document 02 come out: opening + made = delivered + spilled + left, and delivered + missed = needed.
+// Whether both sums come out: opening + made = delivered + spilled + left, and delivered + missed = needed.
 fn balanced(flows: Flows, needs: &[u16], ends: Ends) -> bool {
     let gone = flows.delivered.wrapping_add(flows.disposed);
     u64::from(ends.opening).wrapping_add(flows.produced) == gone.wrapping_add(flows.left)

@@ -1,5 +1,5 @@
 //! The rows of Wagner and Whitin (report, section 3): for every m the cost of the plan of the first m periods, and how many of them come
-//! before its last lot. A candidate for the last lot is dropped as soon as its summed cost passes the best found (document 02, 2.13).
+//! before its last lot. A candidate for the last lot is dropped as soon as its summed cost passes the best found.
 #![tactic(auto)]
 
 ghost use Rattle.std.specs.Prelude.{◌≡◌, ◌+◌, ◌*◌, ◌^◌, ◌<◌, length};

@@ -32,7 +32,8 @@ fill-requires c =
     let a = c.args in
     let lent = tables_of a.demand.now a.capacity.now a.setup.now a.unit.now a.holding.now a.store.now in
     let same = ap (λ (b : Bor (List ℕ)). b.now) c.new-file.ensures in
-    let admitted = passed (bad_read a.expected a.file.now (shortest lent)) (tested a.expected same c.shortest-cells.ensures c.tests.ensures) c.in_ok-tests.was in
+    let tests = tested a.expected same c.shortest-cells.ensures c.tests.ensures in
+    let admitted = passed (bad_read a.expected a.file.now (shortest lent)) tests c.in_ok-tests.was in
     let n : c.new-file.result.periods ≡ periods_in a.file.now = c.new-file.result.counted ∙ ap periods_in same in
     rw n (read_passed a.expected a.file.now lent admitted).cells
 
@@ -41,7 +42,8 @@ returns c =
     let a = c.args in
     let lent = tables_of a.demand.now a.capacity.now a.setup.now a.unit.now a.holding.now a.store.now in
     let same = ap (λ (b : Bor (List ℕ)). b.now) c.new-file.ensures in
-    let admitted = passed (bad_read a.expected a.file.now (shortest lent)) (tested a.expected same c.shortest-cells.ensures c.tests.ensures) c.in_ok-tests.was in
+    let tests = tested a.expected same c.shortest-cells.ensures c.tests.ensures in
+    let admitted = passed (bad_read a.expected a.file.now (shortest lent)) tests c.in_ok-tests.was in
     let n : c.new-file.result.periods ≡ periods_in a.file.now = c.new-file.result.counted ∙ ap periods_in same in
     let given : c.ends.result ≡ ends_of (day_in a.file.now) = c.ends.ensures ∙ ap (λ (s : List ℕ). ends_of (day_in s)) same in
     (admitted, rw (n, given) refl, c.fill.ensures ∙ ap (λ (s : List ℕ). with_day s lent) same)

@@ -1,4 +1,4 @@
--- What the greedy rule tells from cleared slots is what the rule of 2.3 gives.
+-- What the greedy rule tells from cleared slots is what the rule gives by itself.
 use Rattle.std.proofs.Common.{ap, arith}
 use Rattle.day.specs.declared.Totals.{Totals}
 use Rattle.day.specs.Lent.{lent_day}

@@ -19,4 +19,5 @@ totals-requires c =
 pub returns : goal.returns
 returns c =
     let a = c.args in
-    work_accepted (lent_day a.day) (memory_of a.costs.now [] a.slots.now) c.requires _ _ c.fill.ensures _ c.solve.ensures _ _ c.totals.ensures (grind (arith, common_steps))
+    work_accepted (lent_day a.day) (memory_of a.costs.now [] a.slots.now) c.requires _ _ c.fill.ensures _ c.solve.ensures _ _ c.totals.ensures
+    (grind (arith, common_steps))
