@@ -16,6 +16,7 @@ pub fn read<R: Read>(input: &mut R, room: &mut [u8]) -> io::Result<usize>
     ensures end { IfOk result (λ n. n < length room.old → IsAtEnd (R.remaining input.new)) }
 {
     let mut have = 0;
+    // By hand: a turn goes on by as many bytes as the read brought.
     while have < room.len() {
         let n = input.read(&mut room[have..])?;
         if n == 0 {
@@ -37,20 +38,20 @@ fn read_file<R: Files>(rt: &R, name: &str, room: &mut [u8]) -> io::Result<usize>
     }
 }
 
-// How many bytes of a file were read. One that can't be read counts as one that is not there, and standard error says so: also one whose name is no
-// text, which std opens no file by.
-pub fn read_named<R: Files + Eprint>(rt: &R, name: &[u8], room: &mut [u8]) -> usize
-    ensures { result ≤ length room.old }
+// The bytes of a file, in the room lent for them. One that can't be read counts as one that is not there, and standard error says so: also one whose
+// name is no text, which std opens no file by.
+pub fn read_named<'a, R: Files + Eprint>(rt: &R, name: &[u8], room: &'a mut [u8]) -> &'a [u8]
+    ensures { length result.now ≤ length room.old }
 {
     let Ok(text) = str::from_utf8(name) else {
         let _ = eprintln!(rt; "a file's name is not text");
-        return 0;
+        return &[];
     };
     match read_file(rt, text, room) {
-        Ok(n) => n,
+        Ok(n) => &room[..n],
         Err(e) => {
             let _ = eprintln!(rt; "{text}: {e}");
-            0
+            &[]
         }
     }
 }

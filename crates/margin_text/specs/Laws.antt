@@ -1,14 +1,11 @@
--- How the text comes about: needs one after another, a line for each margin, and what the calls' answers say of it.
--- Main statements: `listed_more`, a need more; `margins_more`, one line more; `needs_said`, the text after the needs' tests. Assumes nothing.
+-- How the text comes about: needs one after another, a line for each margin. Main statements: `listed_more`, one need more; `margins_more`, one line
+-- more. Assumes nothing.
 use Rattle.std.specs.Prelude.{◌≡◌, refl, List, [], ◌∷◌, ◌++◌, ℕ, zero, suc, ◌+◌, ◌*◌, ◌≤◌, ◌<◌, length}
-use Rattle.std.proofs.Common.{sym, ap, ◌∙◌, add-one, arith, eq-eqb, length-append}
-use Rattle.std.proofs.Math.Option.{none}
+use Rattle.std.proofs.Common.{ap, add-one, arith, length-append}
 use Rattle.day.specs.Sums.{at, list_of}
-use Rattle.day.specs.Day.{Day, periods, with_demand, max_demand, max_periods}
-use Rattle.day.specs.Refusals.{first, bad_value}
-use Rattle.day.specs.Tests.{first_one}
+use Rattle.day.specs.Day.{Day, max_demand, max_periods}
 use Rattle.lines.specs.Text.{margin_bytes}
-use Rattle.margin_text.specs.Margins.{margins, needs_in, needs_tests, SaysMargin, SaysMargins, SaysMarginsOf}
+use Rattle.margin_text.specs.Margins.{SaysMargin, SaysMargins}
 
 -- every need is within its limit
 pub record LowNeeds (demand : List ℕ) : Type 0 where
@@ -46,12 +43,3 @@ margins_more {before = before} {line} said w says shown put =
       few = omega (arith, length-append before line, w.few, shown.1);
       says = record { before = before; after = said; first = w.says; second = says; is = ap (λ (l : List ℕ). before ++ l) shown.0 };
     })
-
--- where no test on the needs refuses, the lines of the margins are the text
-module _ (s : List ℕ) (d : Day) (size : length s ≡ 2 * periods d) {cells : List ℕ} (decoded : cells ≡ needs_in s (periods d)) where
-  -- where their file has its length, 3 on them decides
-  needs_decide : bad_value (with_demand cells d) ≡ first (needs_tests s d)
-  needs_decide = rw (decoded, eq-eqb (length s) (2 * periods d) size, first_one (bad_value (with_demand (needs_in s (periods d)) d))) refl
-
-  pub needs_said : (text : List ℕ) → bad_value (with_demand cells d) ≡ none → SaysMargins d (at cells) margins text → SaysMarginsOf s d text
-  needs_said text e said = let all : SaysMargins d (at (needs_in s (periods d))) margins text = rw decoded at said in rw (sym needs_decide ∙ e) all

@@ -1,7 +1,6 @@
 -- What `margins` prints for a day and a file of actual needs: a refusal's line, or a line for each margin.
 -- Main definitions: `with_margin`, `needs_in`, `needs_tests`; `SaysMargin`, one line; `SaysMarginsOf`, the contract of the text. Assumes nothing.
-use Rattle.std.specs.Prelude.{◌≡◌, not, cond, List, [], ◌∷◌, ◌++◌, ℕ, zero, suc, ◌+◌, ◌*◌, eqb, ltb, length}
-use Rattle.std.proofs.Math.Option.{Option, none, some}
+use Rattle.std.specs.Prelude.{◌≡◌, not, cond, List, [], ◌∷◌, ◌++◌, ℕ, zero, suc, ◌+◌, ◌*◌, eqb, ltb, length, Option, None, Some}
 use Rattle.day.specs.declared.Refusal.{Refusal}
 use Rattle.day.specs.declared.Refusal.TheVariants.{TableLength}
 use Rattle.day.specs.Sums.{at, list_of}
@@ -49,8 +48,8 @@ pub record SaysPlayed (d : Day) (actual : ℕ → ℕ) (margin : ℕ) (text : Li
 
 -- where there is a refusal, it is in the line
 abbrev pub SaysLine : Option Refusal → Day → (actual : ℕ → ℕ) → (margin : ℕ) → List ℕ → Type 0
-SaysLine (some r) d actual margin text = text ≡ margin_refusal_line margin r
-SaysLine none d actual margin text = SaysPlayed d actual margin text
+SaysLine (Some r) d actual margin text = text ≡ margin_refusal_line margin r
+SaysLine None d actual margin text = SaysPlayed d actual margin text
 
 -- the line of a day, by the full path with the areas of both programs
 abbrev pub SaysDayLine : Day → (actual : ℕ → ℕ) → (margin : ℕ) → List ℕ → Type 0
@@ -75,8 +74,8 @@ SaysMargins d actual (suc k) text = Follows (SaysMargins d actual k) (SaysMargin
 
 -- where the needs are refused, the refusal's line is the text; else it is the lines of all margins
 abbrev pub SaysAll : Option Refusal → Day → (actual : ℕ → ℕ) → List ℕ → Type 0
-SaysAll (some r) d actual text = text ≡ refusal_line r
-SaysAll none d actual text = SaysMargins d actual margins text
+SaysAll (Some r) d actual text = text ≡ refusal_line r
+SaysAll None d actual text = SaysMargins d actual margins text
 
 -- what is printed for a day that has passed 1, 2 and 3, and the bytes of a file of actual needs
 abbrev pub SaysMarginsOf : (needs : List ℕ) → Day → List ℕ → Type 0

@@ -1,16 +1,17 @@
 //! The text that `margins` prints for a day and a file of actual needs.
 #![tactic(auto)]
 
-ghost use Rattle.std.specs.Prelude.{◌≡◌, ◌+◌, ◌*◌, ◌≤◌, ◌<◌, length};
+ghost use Rattle.std.specs.Prelude.{◌≡◌, ◌+◌, ◌*◌, ◌≤◌, ◌<◌, length, IfOk, OnOk, IfErr};
 ghost use Rattle.day.specs.Sums.{at};
-ghost use Rattle.day.specs.Day.{day_of, max_demand, max_periods};
-ghost use Rattle.day.specs.Lent.{day_before};
+ghost use Rattle.day.specs.Day.{max_demand, max_periods, periods};
+ghost use Rattle.day.specs.Lent.{lent_day};
+ghost use Rattle.day.specs.Refusals.{first};
 ghost use Rattle.checks.specs.Passed.{Limits};
-ghost use Rattle.margin_text.specs.Margins.{margins, raised, raised_needs, needs_in, SaysDayLine, SaysMargin, SaysMargins, SaysMarginsOf};
+ghost use Rattle.margin_text.specs.Margins.{margins, raised, raised_needs, needs_in, needs_tests, SaysDayLine, SaysMargin, SaysMargins, SaysMarginsOf};
 ghost use Rattle.margin_text.specs.Laws.{LowNeeds};
 
 use arrayvec::ArrayVec;
-use day::{Answer, Check, Ends, Refusal};
+use day::{Day, Refusal};
 use dayfile::layout;
 use lines::{MarginLine, Text};
 
@@ -50,115 +51,73 @@ fn decode(file: &[u8], n: usize) -> Needs
 {
     let mut needs = Needs::new();
     for i in 0..n {
-        needs.push(layout::number2(file, 2 * i) as u16);
+        needs.push(layout::number2(file, 2 * i));
     }
     needs
 }
 
 // The line of a day whose needs have the margin.
-fn day_line(
-    margin: u64,
-    demand: &[u16],
-    capacity: &[u16],
-    setup: &[u32],
-    unit: &[u32],
-    holding: &[u32],
-    store: &[u16],
-    actual: &[u16],
-    ends: Ends,
-) -> MarginLine
-    requires { length actual.now ≡ length demand.now }
-    ensures { SaysDayLine (day_before demand capacity setup unit holding store ends) (at actual.now) margin result.bytes }
+fn day_line(margin: u64, day: Day, actual: &[u16]) -> MarginLine
+    requires { length actual.now ≡ periods (lent_day day) }
+    ensures { SaysDayLine (lent_day day.entry) (at actual.now) margin result.bytes }
 {
     let mut slots = [0u16; 96];
-    match program_plan::plan(
-        demand, capacity, setup, unit, holding, store, &mut slots, ends,
-    ) {
-        Answer::Refused(r) => lines::margin_refusal_line(margin, r),
-        Answer::Planned(totals) => {
-            let p = play::run(&slots, actual, store, ends.opening);
+    match program_plan::plan(day, &mut slots) {
+        Ok(totals) => {
+            let p = play::run(&slots, actual, day.store, day.ends.opening);
             lines::played_line(margin, totals.cost, p.lost, p.disposed)
         }
+        Err(refusal) => lines::margin_refusal_line(margin, refusal),
     }
 }
 
 // The line of a margin.
-fn margin_line(
-    margin: u16,
-    demand: &[u16],
-    capacity: &[u16],
-    setup: &[u32],
-    unit: &[u32],
-    holding: &[u32],
-    store: &[u16],
-    actual: &[u16],
-    ends: Ends,
-) -> MarginLine
+fn margin_line(margin: u16, day: Day, actual: &[u16]) -> MarginLine
     requires margin_lt_margins { margin < margins }
-    requires low_needs { LowNeeds demand.now }
-    requires actual_len { length actual.now ≡ length demand.now }
-    ensures { SaysMargin (day_before demand capacity setup unit holding store ends) (at actual.now) margin result.bytes }
+    requires low_needs { LowNeeds day.demand.now }
+    requires actual_len { length actual.now ≡ periods (lent_day day) }
+    ensures { SaysMargin (lent_day day.entry) (at actual.now) margin result.bytes }
 {
-    let needs = raise(margin, demand);
-    day_line(
-        u64::from(margin),
-        &needs,
-        capacity,
-        setup,
-        unit,
-        holding,
-        store,
-        actual,
-        ends,
-    )
+    let needs = raise(margin, day.demand);
+    day_line(u64::from(margin), day.with_demand(&needs), actual)
 }
 
 // A line for each margin.
-fn margin_lines(
-    demand: &[u16],
-    capacity: &[u16],
-    setup: &[u32],
-    unit: &[u32],
-    holding: &[u32],
-    store: &[u16],
-    actual: &[u16],
-    ends: Ends,
-) -> Text
-    requires low_needs { LowNeeds demand.now }
-    requires actual_len { length actual.now ≡ length demand.now }
-    ensures { SaysMargins (day_before demand capacity setup unit holding store ends) (at actual.now) margins result.bytes }
+fn margin_lines(day: Day, actual: &[u16]) -> Text
+    requires low_needs { LowNeeds day.demand.now }
+    requires actual_len { length actual.now ≡ periods (lent_day day) }
+    ensures { SaysMargins (lent_day day.entry) (at actual.now) margins result.bytes }
 {
     let mut text = Text::new();
     for margin in 0..MARGINS {
-        let line = margin_line(
-            margin, demand, capacity, setup, unit, holding, store, actual, ends,
-        );
-        text.push_str(&line);
+        text.push_str(&margin_line(margin, day, actual));
     }
     text
 }
 
-// The text of a day that has passed 1, 2 and 3: 2 and 3 on the actual needs, then the lines.
-pub fn day_text(
-    demand: &[u16],
-    capacity: &[u16],
-    setup: &[u32],
-    unit: &[u32],
-    holding: &[u32],
-    store: &[u16],
-    file: &[u8],
-    ends: Ends,
-) -> Text
-    requires { Limits (day_of demand.now capacity.now setup.now unit.now holding.now store.now ends) }
-    ensures { SaysMarginsOf file.now (day_before demand capacity setup unit holding store ends) result.bytes }
+// The actual needs of a day: 2 and 3 on them decide whether they are taken.
+fn actual_needs(day: Day, file: &[u8]) -> Result<Needs, Refusal>
+    requires { Limits (lent_day day) }
+    ensures taken { IfOk result (λ needs. needs.items ≡ needs_in file.now (periods (lent_day day.entry))) }
+    ensures len { IfOk result (λ needs. length needs.items ≡ periods (lent_day day.entry)) }
+    ensures passed { OnOk result (first (needs_tests file.now (lent_day day.entry)) ≡ None) }
+    ensures refused { IfErr result (λ r. first (needs_tests file.now (lent_day day.entry)) ≡ Some r) }
 {
-    let n = demand.len();
-    if file.len() != 2 * n {
-        return lines::refusal_line(Refusal::TableLength);
+    if file.len() != 2 * day.periods() {
+        return Err(Refusal::TableLength);
     }
-    let actual = decode(file, n);
-    if let Check::Refused(r) = checks::values(&actual, capacity, setup, unit, holding, store) {
-        return lines::refusal_line(r);
+    let actual = decode(file, day.periods());
+    checks::values(day.with_demand(&actual))?;
+    Ok(actual)
+}
+
+// The text of a day that has passed 1, 2 and 3: that of a refusal of the actual needs, or the lines.
+pub fn day_text(day: Day, file: &[u8]) -> Text
+    requires { Limits (lent_day day) }
+    ensures { SaysMarginsOf file.now (lent_day day.entry) result.bytes }
+{
+    match actual_needs(day, file) {
+        Ok(actual) => margin_lines(day, &actual),
+        Err(refusal) => lines::refusal_line(refusal),
     }
-    margin_lines(demand, capacity, setup, unit, holding, store, &actual, ends)
 }

@@ -3,14 +3,14 @@
 
 mod running;
 
-ghost use Rattle.std.specs.Prelude.{◌≡◌};
-ghost use Rattle.day.specs.Day.{day_of};
-ghost use Rattle.day.specs.Lent.{day_before, tables_lent, tables_after};
+ghost use Rattle.std.specs.Prelude.{◌≡◌, ◌≤◌, IfOk};
+ghost use Rattle.day.specs.Day.{max_periods};
+ghost use Rattle.day.specs.Lent.{lent_day, tables_lent, tables_after};
 ghost use Rattle.checks.specs.Passed.{Limits};
 ghost use Rattle.program_text.specs.Text.{expected_in, Inputs, SaysDay, PrintedText};
 
-use day::{Ends, Expected, Refusal};
-use dayfile::{ReadAnswer, layout};
+use day::{Day, Ends, Refusal, Stamp};
+use dayfile::layout;
 use lines::Text;
 pub use running::run;
 
@@ -22,13 +22,13 @@ pub enum Program {
 }
 
 // The stamp that the bytes of `station.id` hold; none where they are not as many as the body of kind 5 has.
-fn expected(id: &[u8]) -> Expected
+fn expected(id: &[u8]) -> Option<Stamp>
     ensures { result ≡ expected_in id.now }
 {
     if id.len() != 4 {
-        return Expected::Nothing;
+        return None;
     }
-    Expected::Only(layout::stamp(id))
+    Some(layout::stamp(id))
 }
 
 // Reads a file. One of more than 1,837 bytes is refused 12 before any other test.
@@ -40,13 +40,14 @@ fn read(
     unit: &mut [u32],
     holding: &mut [u32],
     store: &mut [u16],
-    expected: Expected,
-) -> ReadAnswer
-    ensures { Inputs expected file.now (tables_lent demand capacity setup unit holding store) result
+    expected: Option<Stamp>,
+) -> Result<(usize, Ends), Refusal>
+    ensures read { Inputs expected file.now (tables_lent demand capacity setup unit holding store) result
         (tables_after demand capacity setup unit holding store) }
+    ensures few { IfOk result (λ p. p.0 ≤ max_periods) }
 {
     if 1837 < file.len() {
-        return ReadAnswer::Refused(Refusal::WrongEnd);
+        return Err(Refusal::WrongEnd);
     }
     dayfile_reader::read(
         file, demand, capacity, setup, unit, holding, store, expected,
@@ -54,27 +55,13 @@ fn read(
 }
 
 // What the program says of a day.
-fn day_text(
-    program: Program,
-    demand: &[u16],
-    capacity: &[u16],
-    setup: &[u32],
-    unit: &[u32],
-    holding: &[u32],
-    store: &[u16],
-    needs: &[u8],
-    ends: Ends,
-) -> Text
-    requires { Limits (day_of demand.now capacity.now setup.now unit.now holding.now store.now ends) }
-    ensures { SaysDay program needs.now (day_before demand capacity setup unit holding store ends) result.bytes }
+fn day_text(program: Program, day: Day, needs: &[u8]) -> Text
+    requires { Limits (lent_day day) }
+    ensures { SaysDay program needs.now (lent_day day.entry) result.bytes }
 {
     match program {
-        Program::Dayplan => {
-            plan_text::day_text(demand, capacity, setup, unit, holding, store, ends)
-        }
-        Program::Margins => margin_text::day_text(
-            demand, capacity, setup, unit, holding, store, needs, ends,
-        ),
+        Program::Dayplan => plan_text::day_text(day),
+        Program::Margins => margin_text::day_text(day, needs),
     }
 }
 
@@ -99,18 +86,17 @@ pub fn text_of(program: Program, file: &[u8], needs: &[u8], id: &[u8]) -> Text
         expected(id),
     );
     let (n, ends) = match answer {
-        ReadAnswer::Refused(r) => return lines::refusal_line(r),
-        ReadAnswer::Periods(n, ends) => (n, ends),
+        Ok(periods) => periods,
+        Err(refusal) => return lines::refusal_line(refusal),
     };
-    day_text(
-        program,
+    let day = Day::new(
         &demand[..n],
         &capacity[..n],
         &setup[..n],
         &unit[..n],
         &holding[..n],
         &store[..n],
-        needs,
         ends,
-    )
+    );
+    day_text(program, day, needs)
 }

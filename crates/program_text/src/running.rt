@@ -25,6 +25,14 @@ impl fmt::Display for Stopped {
     }
 }
 
+// The bytes of the actual needs, which only `margins` reads.
+fn actual_needs<'a, R: Files + Eprint>(rt: &R, program: Program, room: &'a mut [u8]) -> &'a [u8] {
+    match program {
+        Program::Dayplan => &[],
+        Program::Margins => input::read_named(rt, b"needs.act", room),
+    }
+}
+
 // Reads the files, each into room for a byte more than the longest that is accepted, and writes their text in one piece.
 fn write_text<R: Files + Eprint, I: Read, O: Write>(
     rt: &R,
@@ -37,13 +45,10 @@ fn write_text<R: Files + Eprint, I: Read, O: Write>(
     let mut file = [0u8; 1838];
     let n = input::read(input, &mut file).map_err(Stopped::Input)?;
     let mut needs = [0u8; 193];
-    let m = match program {
-        Program::Dayplan => 0,
-        Program::Margins => input::read_named(rt, b"needs.act", &mut needs),
-    };
+    let needs = actual_needs(rt, program, &mut needs);
     let mut id = [0u8; 5];
-    let k = input::read_named(rt, b"station.id", &mut id);
-    let text = text_of(program, &file[..n], &needs[..m], &id[..k]);
+    let id = input::read_named(rt, b"station.id", &mut id);
+    let text = text_of(program, &file[..n], needs, id);
     output.write_all(text.as_bytes()).map_err(Stopped::Output)?;
     Ok(())
 }

@@ -1,5 +1,5 @@
 -- What was written is the text of what was read.
-use Rattle.std.proofs.Common.{◌≡◌, Result, Ok, Err, arith, length-take-le}
+use Rattle.std.proofs.Common.{◌≡◌, ℕ, ◌≤◌, Result, Ok, Err, arith, length-take-le}
 use Rattle.std.specs.Result.{MatchResult, is_ok}
 use Rattle.std.proofs.lemmas.Result.{IfOk-at_ok}
 use Rattle.program_text.proofs.running.write_text.Goals as goal
@@ -15,7 +15,7 @@ returns g c =
     let n = c.in_ok-n.n in
     let read = ok_before _ _ _ n c.map_err.ensures.cases c.map_err.ensures.variant c.in_ok-n.was in
     let wrote = ok_before _ _ _ tt c.map_err-2.ensures.cases c.map_err-2.ensures.variant c.in_ok-map_err.was in
-    let within = IfOk-at_ok _ read c.read.ensures.bound in
+    let within = IfOk-at_ok (λ (k : ℕ). k ≤ 1838) read c.read.ensures.bound in
     record {
       file = _;
       needs = _;
