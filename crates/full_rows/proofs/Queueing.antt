@@ -128,9 +128,8 @@ module _ {r : Row} {Y : ℕ} {q q' : Candidates} where
       }
 
 -- the totals below X have entered, and those to `until` are to follow
-pub record Queuing (r : Row) (cells : List ℕ) (until X : ℕ) (q : Candidates) : Type 0 where
-  pub queued : Queued r X q
-  pub same : length q.cells.now ≡ length cells
+pub record Queuing (r : Row) (n until X : ℕ) (q : Candidates) : Type 0 where
+  pub queued : Queued r X n q
   pub begun : r.stage.low ≤ X
   pub inside : X ≤ until
 
@@ -142,7 +141,6 @@ module _ {s : Stage} {X : ℕ} where
   best_of_lem b a w l h e f g = g ∙ rw (e, f) (best_either b a w l h)
 
 -- the row's loop before it comes to the total X
-pub record RowFilling (r : Row) (after choices cells after' choices' : List ℕ) (q : Candidates) (X : ℕ) : Type 0 where
+pub record RowFilling (r : Row) (after choices after' choices' : List ℕ) (n : ℕ) (q : Candidates) (X : ℕ) : Type 0 where
   pub stepping : Stepping r.stage r.costs.now after choices after' choices' X
-  pub queued : Queued r X q
-  pub same : length q.cells.now ≡ length cells
+  pub queued : Queued r X n q

@@ -35,10 +35,11 @@ pub record Scratch (s : Stage) (cells : List ℕ) : Type 0 where
   pub more : s.floor < s.top
   pub room : s.top + 1 ≤ length cells
 
--- the totals below X have entered a queue that began empty
-pub record Queued (r : Row) (X : ℕ) (q : Candidates) : Type 0 where
+-- the totals below X have entered a queue that began empty, in n cells
+pub record Queued (r : Row) (X n : ℕ) (q : Candidates) : Type 0 where
   pub queue : QueueFor r X q
   pub few : q.tail + r.stage.low ≤ X
+  pub size : length q.cells.now ≡ n
 
 -- what recursion (5) says of X; the head that is left is a candidate
 pub record CellFound (r : Row) (X : ℕ) (before after : Candidates) (cell : Cell) : Type 0 where

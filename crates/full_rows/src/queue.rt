@@ -70,8 +70,7 @@ impl<'a> Candidates<'a> {
     // The totals below the floor have entered.
     pub fn new(row: &Row<'_>, cells: &'a mut [u16]) -> Self
         requires { Scratch row.now.stage cells.old }
-        ensures cell_count { length result.cells.now ≡ length cells.old }
-        ensures queued { Queued row.now row.now.stage.floor result }
+        ensures { Queued row.now row.now.stage.floor (length cells.old) result }
     {
         let stage = row.stage;
         let mut queue = Candidates {

@@ -37,6 +37,7 @@ pub fn fill(p: Problem, ceilings: &[u16], costs: &mut [u64], choices: &mut [u16]
     let mut low = 0;
     let mut high = 0;
     before[0] = 0;
+    // By index: a period has an entry in six tables, and its row of choices a place among the rows.
     for i in 0..p.demand.len() {
         let stage = stage_at(p, ceilings, i, low, high);
         full_rows::step(stage, before, after, &mut choices[i * width..]);
@@ -53,6 +54,7 @@ pub fn read_back(choices: &[u16], slots: &mut [u16], n: usize, total: usize)
 {
     let width = total + 1;
     let mut left = total;
+    // By index: a slot, and a cell in its period's row of choices.
     for i in (0..n).rev() {
         let amount = choices[i * width + left];
         slots[i] = amount;
