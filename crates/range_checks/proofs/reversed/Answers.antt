@@ -13,7 +13,8 @@ use Rattle.range_checks.proofs.reversed.Goals.{After-position-first}
 found : (c : After-position-first) → find (reverses c.args.lowest.now (lent_day c.args.day)) (periods (lent_day c.args.day)) ≡ c.position-first.result
 found c =
     reversed_found c.args.lowest.now (lent_day c.args.day) c.requires.lowest_len c.position-first.result
-    (IsFirst-from_position c.position-first.new.self _ c.position-first.result (λ (p : ℕ × ℕ). p.1 < p.0) (λ (p : ℕ × ℕ). p.0 ≤ p.1) c.position-first.ensures.ran
+    (IsFirst-from_position c.position-first.new.self _ c.position-first.result (λ (p : ℕ × ℕ). p.1 < p.0) (λ (p : ℕ × ℕ). p.0 ≤ p.1)
+    c.position-first.ensures.ran
     (YieldsList-from_zip (YieldsList-from_slice c.args.lowest.now (search rules)) (YieldsList-from_slice c.args.day.demand.now (search rules)))
     (λ x q k. search (rules, tests)) (λ x q k. search (rules, tests)))
 
