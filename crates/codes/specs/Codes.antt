@@ -11,9 +11,6 @@ use Rattle.day.specs.Sums.{at}
 use Rattle.day.specs.File.{stamp_with}
 use Rattle.day.specs.Refusals.{number_of, period_of}
 use Rattle.day.specs.Figures.{Figures}
-use Rattle.weigher.specs.declared.Fault.{Fault}
-use Rattle.weigher.specs.declared.Fault.TheVariants.{Refused, Broken}
-use Rattle.weigher.specs.Answers.{rule_number}
 
 -- the code of a number and a period; 0 is the code of an accepted call, which has neither
 abbrev pub code_of : (number period : ℕ) → ℕ
@@ -41,19 +38,6 @@ out_of before (Some values) = values
 
 abbrev pub seen_of : {A : Type 0} → List A → Figures A → Seen A
 seen_of before f = seen (code_of f.number f.period) (out_of before f.values)
-
--- the figures of a call that gives nothing, by its number and period
-abbrev pub failed_with : {A : Type 0} → (number period : ℕ) → Figures A
-failed_with number period = record { number = number; period = period; values = None }
-
--- those of a weighing's fault: of the refusal, or of the rule that is broken
-abbrev pub fault_number : Fault → ℕ
-fault_number (Refused r) = number_of r
-fault_number (Broken b) = rule_number b.rule
-
-abbrev pub fault_period : Fault → ℕ
-fault_period (Refused r) = period_of r
-fault_period (Broken b) = b.period
 
 -- where there is no out-array: the code of what the call's tests say
 abbrev pub check_code : Result Unit Refusal → ℕ

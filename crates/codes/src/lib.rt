@@ -1,27 +1,28 @@
 //! What a C program sees of an answer: one code, and its numbers in the call's out-array; the stamp that it expects (include/yakkurem.h).
 #![tactic(auto)]
 
-ghost use Rattle.std.specs.Prelude.{◌≡◌, List, ℕ};
+ghost use Rattle.std.specs.Prelude.{◌≡◌, refl, List, None};
 ghost use Rattle.day.specs.Refusals.{number_of, period_of};
-ghost use Rattle.day.specs.Figures.{figures_by, plan_values, equal_values, bounds_values, big_values};
+ghost use Rattle.day.specs.Figures.{Figures, figures_by, refused_with, plan_values, equal_values, bounds_values, big_values};
 ghost use Rattle.dayfile.specs.Answers.{part_values, read_values, write_values};
-ghost use Rattle.weigher.specs.Answers.{compared_values, rule_number};
+ghost use Rattle.weigher.specs.Answers.{fault_figures, compared_values, rule_number};
+ghost use Rattle.weigher.specs.declared.Fault.TheVariants.{Refused as fault_refused, Broken as fault_broken};
 ghost use Rattle.play.specs.Answers.{play_values};
-ghost use Rattle.codes.specs.Codes.{code_of, seen, seen_of, failed_with, fault_number, fault_period, check_code, expected_of};
+ghost use Rattle.codes.specs.Codes.{code_of, seen, seen_of, check_code, expected_of};
 
 use day::{Bounds, Ends, Loads, Refusal, Stamp, Totals, Trials};
 use dayfile::lookup::Part;
 use play::Flows;
 use weigher::{Breach, Fault};
 
-// Why a call gives nothing: a number, and the period that it names.
-pub trait Coded {
-    ghost number: { Self → ℕ };
-
-    ghost period: { Self → ℕ };
+// Why a call gives nothing: its figures are a number and the period that it names, and no values.
+pub trait Coded<A> {
+    ghost figures: { Self → Figures A };
 
     fn code(self) -> u64
-        ensures { result ≡ code_of (number self) (period self) };
+        ensures { result ≡ code_of (figures self).number (figures self).period };
+
+    ghost no_values: { (why : Self) → (figures why).values ≡ None };
 }
 
 // What a call gives, as the numbers of its out-array.
@@ -39,35 +40,38 @@ fn code(number: u8, period: u16) -> u64
     u64::from(number) + 256 * u64::from(period)
 }
 
-impl Coded for Refusal {
-    ghost number = { number_of };
+// Of a refusal.
+pub fn refused(r: Refusal) -> u64
+    ensures { result ≡ code_of (number_of r) (period_of r) }
+{
+    code(r.number(), r.period())
+}
 
-    ghost period = { period_of };
+fn broken(b: Breach) -> u64
+    ensures { result ≡ code_of (rule_number b.rule) b.period }
+{
+    code(b.rule.number(), b.period)
+}
+
+impl<A> Coded<A> for Refusal {
+    ghost figures = { refused_with };
+
+    ghost no_values = { λ r. refl };
 
     fn code(self) -> u64 {
-        code(self.number(), self.period())
+        refused(self)
     }
 }
 
-impl Coded for Breach {
-    ghost number = { λ b. rule_number b.rule };
+impl<A> Coded<A> for Fault {
+    ghost figures = { fault_figures };
 
-    ghost period = { λ b. b.period };
-
-    fn code(self) -> u64 {
-        code(self.rule.number(), self.period)
-    }
-}
-
-impl Coded for Fault {
-    ghost number = { fault_number };
-
-    ghost period = { fault_period };
+    ghost no_values = { elim [ fault_refused r ↦ refl | fault_broken b ↦ refl ] };
 
     fn code(self) -> u64 {
         match self {
-            Fault::Refused(r) => r.code(),
-            Fault::Broken(b) => b.code(),
+            Fault::Refused(r) => refused(r),
+            Fault::Broken(b) => broken(b),
         }
     }
 }
@@ -163,11 +167,11 @@ impl Given<u64, 2> for Part {
 }
 
 // What is shown of an answer: its code, and in the out-array what it gives; an array of a call that gives nothing stays as it was.
-pub fn shown<A: Copy, T: Given<A, N> + Drop, E: Coded + Drop, const N: usize>(
+pub fn shown<A: Copy, T: Given<A, N> + Drop, E: Coded<A> + Drop, const N: usize>(
     answer: Result<T, E>,
     out: &mut [A; N],
 ) -> u64
-    ensures { seen result out.new ≡ seen_of out.old (figures_by T.values (λ e. failed_with (E.number e) (E.period e)) answer) }
+    ensures { seen result out.new ≡ seen_of out.old (figures_by T.values E.figures answer) }
 {
     match answer {
         Ok(given) => {
@@ -184,7 +188,7 @@ pub fn checked(answer: Result<(), Refusal>) -> u64
 {
     match answer {
         Ok(()) => 0,
-        Err(r) => r.code(),
+        Err(r) => refused(r),
     }
 }
 
