@@ -1,51 +1,38 @@
 //! Trials of needs known as ranges, in lent areas whose every cell holds the mark.
 #![tactic(auto)]
 
-use day::{Bounds, BoundsAnswer, Refusal};
+use day::{Bounds, Day, Sizes};
 use std::io;
 use trial_paths::paths;
 use trial_paths::paths::Path;
-use trial_text::cells::{Cells, Memory};
-use trial_text::days::Day;
+use trial_text::cells::Memory;
 use trial_text::line::{Line, numbers};
 use trial_text::show::{Kept, Refused};
-
-fn least_costs(lowest: &[u16], day: Day<'_>, memory: &mut Memory) -> Result<Bounds, Refusal> {
-    match bounds::least_costs(
-        lowest,
-        day.demand,
-        day.capacity,
-        day.setup,
-        day.unit,
-        day.holding,
-        day.store,
-        memory.costs.as_mut_slice(),
-        memory.choices.as_mut_slice(),
-        day.ends,
-    ) {
-        BoundsAnswer::Refused(refusal) => Err(refusal),
-        BoundsAnswer::Bounded(bounds) => Ok(bounds),
-    }
-}
 
 // The lowest needs are in field 6, how many cost cells and choice cells are lent in fields 7 and 8. After a refusal every cell holds the mark.
 // Otherwise the cells that the full path needs for the highest needs hold zero, later ones the mark.
 pub fn bounds<R: Print + AllocGlobal>(rt: &R, line: Line<'_>, day: Day<'_>) -> io::Result<()> {
     let lowest = numbers(rt.alloc(), line.field(6))?;
-    let cells = Cells {
+    let lent = Sizes {
         costs: line.number(7),
         choices: line.number(8),
+        slots: 0,
     };
-    let mut memory = Memory::new(rt.alloc(), cells, 0)?;
+    let mut memory = Memory::new(rt.alloc(), lent)?;
     print!(rt; "{} bounds", line.name)?;
-    let kept = match least_costs(lowest.as_slice(), day, &mut memory) {
+    let kept = match bounds::least_costs(
+        lowest.as_slice(),
+        day,
+        memory.costs.as_mut_slice(),
+        memory.choices.as_mut_slice(),
+    ) {
         Err(refusal) => {
             print!(rt; "{}", Refused(refusal))?;
             memory.is_marked()
         }
         Ok(Bounds { lowest, highest }) => {
             print!(rt; " lowest {lowest} highest {highest}")?;
-            memory.is_cleared(paths::needed(Path::Full, day), 0)
+            memory.is_cleared(paths::needed(Path::Full, day))
         }
     };
     println!(rt; "{}", Kept(kept))

@@ -1,12 +1,12 @@
 //! The four paths, in lent memory whose every cell holds the mark.
-use day::{Answer, EqualAnswer, Loads, Refusal, Totals};
+use day::{Day, Loads, Refusal, Sizes, Totals};
 use std::{fmt, io};
-use trial_text::cells::{Cells, Memory};
-use trial_text::days::{Day, total};
+use trial_text::cells::Memory;
+use trial_text::days::total;
 use trial_text::line::Line;
 use trial_text::show::{Amounts, Cost, Kept, LoadCounts, Refused};
 
-#[derive(Clone, Copy, PartialEq, Eq)]
+#[derive(Clone, Copy)]
 pub enum Path {
     Full,
     Uncapped,
@@ -39,28 +39,24 @@ impl fmt::Display for Path {
     }
 }
 
-// The cells that a path needs.
-pub fn needed(path: Path, day: Day<'_>) -> Cells {
-    let n = day.demand.len();
-    let inventories = total(day).saturating_add(1);
+// How many cells and slots a path needs.
+pub fn needed(path: Path, day: Day<'_>) -> Sizes {
+    let n = day.periods();
     let rows = n.saturating_add(1);
-    match path {
-        Path::Full => Cells {
-            costs: inventories.saturating_mul(2),
-            choices: inventories.saturating_mul(n),
-        },
-        Path::Uncapped => Cells {
-            costs: rows,
-            choices: rows,
-        },
-        Path::Equal => Cells {
-            costs: rows.saturating_mul(6),
-            choices: rows.saturating_mul(4).saturating_mul(rows),
-        },
-        Path::Free => Cells {
-            costs: n,
-            choices: 0,
-        },
+    let inventories = total(day).saturating_add(1);
+    let (costs, choices) = match path {
+        Path::Full => (inventories.saturating_mul(2), inventories.saturating_mul(n)),
+        Path::Uncapped => (rows, rows),
+        Path::Equal => (
+            rows.saturating_mul(6),
+            rows.saturating_mul(4).saturating_mul(rows),
+        ),
+        Path::Free => (n, 0),
+    };
+    Sizes {
+        costs,
+        choices,
+        slots: n,
     }
 }
 
@@ -72,47 +68,19 @@ pub struct Outcome {
     pub kept: bool,
 }
 
-fn answered(answer: Answer) -> Result<(Totals, Option<Loads>), Refusal> {
-    match answer {
-        Answer::Refused(refusal) => Err(refusal),
-        Answer::Planned(totals) => Ok((totals, None)),
-    }
-}
-
-fn with_loads(answer: EqualAnswer) -> Result<(Totals, Option<Loads>), Refusal> {
-    match answer {
-        EqualAnswer::Refused(refusal) => Err(refusal),
-        EqualAnswer::Planned(totals, loads) => Ok((totals, Some(loads))),
-    }
-}
-
 // The free path takes no choice area.
 fn plan(path: Path, day: Day<'_>, memory: &mut Memory) -> Result<(Totals, Option<Loads>), Refusal> {
     let costs = memory.costs.as_mut_slice();
     let choices = memory.choices.as_mut_slice();
     let slots = memory.slots.as_mut_slice();
-    let Day {
-        demand,
-        capacity,
-        setup,
-        unit,
-        holding,
-        store,
-        ends,
-    } = day;
     match path {
-        Path::Full => answered(full::plan(
-            demand, capacity, setup, unit, holding, store, costs, choices, slots, ends,
+        Path::Full => full::plan(day, costs, choices, slots).map(|totals| (totals, None)),
+        Path::Uncapped => uncapped::plan(day, costs, choices, slots).map(|totals| (totals, None)),
+        Path::Equal => equal::plan(day, costs, choices, slots).map(|(totals, loads)| (
+            totals,
+            Some(loads),
         )),
-        Path::Uncapped => answered(uncapped::plan(
-            demand, capacity, setup, unit, holding, store, costs, choices, slots, ends,
-        )),
-        Path::Equal => with_loads(equal::plan(
-            demand, capacity, setup, unit, holding, store, costs, choices, slots, ends,
-        )),
-        Path::Free => answered(free::plan(
-            demand, capacity, setup, unit, holding, store, costs, slots, ends,
-        )),
+        Path::Free => free::plan(day, costs, slots).map(|totals| (totals, None)),
     }
 }
 
@@ -120,7 +88,7 @@ fn plan(path: Path, day: Day<'_>, memory: &mut Memory) -> Result<(Totals, Option
 pub fn run(path: Path, day: Day<'_>, memory: &mut Memory) -> Outcome {
     let answer = plan(path, day, memory);
     let kept = match answer {
-        Ok(_) => memory.is_cleared(needed(path, day), day.demand.len()),
+        Ok(_) => memory.is_cleared(needed(path, day)),
         Err(_) => memory.is_marked(),
     };
     Outcome { answer, kept }
@@ -132,16 +100,15 @@ fn within<R: Print + AllocGlobal>(
     line: Line<'_>,
     path: Path,
     day: Day<'_>,
-    cells: Cells,
-    slots: usize,
+    lent: Sizes,
 ) -> io::Result<()> {
-    let mut memory = Memory::new(rt.alloc(), cells, slots)?;
+    let mut memory = Memory::new(rt.alloc(), lent)?;
     let outcome = run(path, day, &mut memory);
     print!(rt; "{} {path}", line.name)?;
     match outcome.answer {
         Err(refusal) => print!(rt; "{}", Refused(refusal))?,
         Ok((totals, loads)) => {
-            let plan = memory.plan(day.demand.len());
+            let plan = memory.plan(day.periods());
             print!(rt; "{}{}", Amounts(plan), Cost(totals))?;
             if let Some(loads) = loads {
                 print!(rt; "{}", LoadCounts(loads))?;
@@ -155,27 +122,22 @@ fn within<R: Print + AllocGlobal>(
 pub fn all<R: Print + AllocGlobal>(rt: &R, line: Line<'_>, day: Day<'_>) -> io::Result<()> {
     for path in Path::ALL {
         let need = needed(path, day);
-        let cells = Cells {
+        let lent = Sizes {
             costs: need.costs.saturating_add(2),
             choices: need.choices.saturating_add(2),
+            slots: need.slots.saturating_add(1),
         };
-        within(
-            rt,
-            line,
-            path,
-            day,
-            cells,
-            day.demand.len().saturating_add(1),
-        )?;
+        within(rt, line, path, day, lent)?;
     }
     Ok(())
 }
 
 // One path in as many cost cells, choice cells and slots as fields 6, 7 and 8 say.
 pub fn lent<R: Print + AllocGlobal>(rt: &R, line: Line<'_>, day: Day<'_>) -> io::Result<()> {
-    let cells = Cells {
+    let lent = Sizes {
         costs: line.number(6),
         choices: line.number(7),
+        slots: line.number(8),
     };
-    within(rt, line, Path::of(line.kind), day, cells, line.number(8))
+    within(rt, line, Path::of(line.kind), day, lent)
 }

@@ -1,14 +1,13 @@
 //! Made-up tiny days: the four paths beside the plain search.
 use crate::paths;
-use crate::paths::{Outcome, Path};
-use day::{Answer, Refusal};
+use crate::paths::Path;
+use day::{Day, Refusal, Sizes};
 use plain::Best;
 use std::alloc::{AllocError, Global};
 use std::io;
-use tiny_days::{Capacities, Days, Kind, Stores, Tiny};
-use trial_text::cells::{Cells, Memory};
+use tiny_days::{Capacities, Days, Kind, Stores};
+use trial_text::cells::Memory;
 use trial_text::counts::Counts;
-use trial_text::days::Day;
 use trial_text::line::Line;
 
 // What is counted, of days and of the calls on them.
@@ -61,15 +60,6 @@ fn refused(refusal: Refusal) -> Option<Seen> {
     }
 }
 
-// Whether a path's answer is what the search found.
-fn agrees(best: Option<Best>, day: Day<'_>, outcome: Outcome, slots: &[u16]) -> bool {
-    let answer = match outcome.answer {
-        Ok((totals, _)) => Answer::Planned(totals),
-        Err(refusal) => Answer::Refused(refusal),
-    };
-    plain::agrees(best, day.demand, answer, slots, day.ends)
-}
-
 // One path's call, in memory that suffices for every path.
 fn call(
     alloc: Global,
@@ -78,13 +68,15 @@ fn call(
     day: Day<'_>,
     counts: &mut Counts,
 ) -> Result<(), AllocError> {
-    let cells = Cells {
+    let lent = Sizes {
         costs: 32,
         choices: 102,
+        slots: 5,
     };
-    let mut memory = Memory::new(alloc, cells, 5)?;
+    let mut memory = Memory::new(alloc, lent)?;
     let outcome = paths::run(path, day, &mut memory);
-    let agrees = agrees(best, day, outcome, memory.slots.as_slice());
+    let answer = outcome.answer.map(|(totals, _)| totals);
+    let agrees = plain::agrees(best, day, answer, memory.slots.as_slice());
     counts.count_if(agreement(path), agrees)?;
     counts.count_if(Seen::Kept, outcome.kept)?;
     if let Err(refusal) = outcome.answer {
@@ -97,27 +89,12 @@ fn call(
 
 // The calls on one day.
 fn calls(alloc: Global, day: Day<'_>, counts: &mut Counts) -> Result<(), AllocError> {
-    let best = trial_plans::search(day);
+    let best = plain::search(day);
     counts.count_if(Seen::Plans, best.is_some())?;
     for path in Path::ALL {
         call(alloc, path, best, day, counts)?;
     }
     Ok(())
-}
-
-// The day of a made-up day's tables.
-pub fn day_of(tiny: &Tiny) -> Day<'_> {
-    // `MadeUp` says that n is at most 4.
-    let n = tiny.n.min(4);
-    Day {
-        demand: &tiny.demand[..n],
-        capacity: &tiny.capacity[..n],
-        setup: &tiny.setup[..n],
-        unit: &tiny.unit[..n],
-        holding: &tiny.holding[..n],
-        store: &tiny.store[..n],
-        ends: tiny.ends,
-    }
 }
 
 // The days that a line asks for: with the capacities that the trial is named after, any where that is none, from the seed of field 1, as many as
@@ -149,7 +126,7 @@ pub fn made_up<R: Print + AllocGlobal>(rt: &R, line: Line<'_>) -> io::Result<()>
         if line.name == "free" {
             tiny.setup = [0; 4];
         }
-        calls(rt.alloc(), day_of(&tiny), &mut counts)?;
+        calls(rt.alloc(), tiny.day(), &mut counts)?;
     }
     print!(rt; "made-up {}", line.name)?;
     for k in 1..5 {

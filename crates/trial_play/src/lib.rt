@@ -1,41 +1,24 @@
 //! Trials of played days: on the plan and the actual needs that a line gives, and on made-up tiny days.
 #![tactic(auto)]
 
-use day::Ends;
-use play::{Flows, PlayAnswer};
+use day::{Day, Ends};
+use play::Flows;
 use std::alloc::AllocError;
 use std::io;
-use trial_paths::tiny::{day_of, days_of};
-use trial_plans::Broken;
+use trial_paths::tiny::days_of;
+use trial_plans::Failed;
 use trial_text::counts::Counts;
-use trial_text::days::{Day, summed};
+use trial_text::days::summed;
 use trial_text::line::{Line, numbers};
-use trial_text::show::Refused;
-
-// A plan of a day against a table of actual needs.
-fn played(day: Day<'_>, plan: &[u16], actual: &[u16]) -> PlayAnswer {
-    play::play(
-        day.demand,
-        day.capacity,
-        day.setup,
-        day.unit,
-        day.holding,
-        day.store,
-        plan,
-        actual,
-        day.ends,
-    )
-}
 
 // The plan of field 6 against the needs of field 7.
 pub fn play<R: Print + AllocGlobal>(rt: &R, line: Line<'_>, day: Day<'_>) -> io::Result<()> {
     let plan = numbers(rt.alloc(), line.field(6))?;
     let actual = numbers(rt.alloc(), line.field(7))?;
     print!(rt; "{} play", line.name)?;
-    match played(day, plan.as_slice(), actual.as_slice()) {
-        PlayAnswer::Refused(refusal) => println!(rt; "{}", Refused(refusal)),
-        PlayAnswer::Broken(rule, period) => println!(rt; "{}", Broken { rule, period }),
-        PlayAnswer::Played(
+    match play::play(day, plan.as_slice(), actual.as_slice()) {
+        Err(fault) => println!(rt; "{}", Failed(fault)),
+        Ok(
             Flows {
                 produced,
                 delivered,
@@ -86,20 +69,20 @@ fn as_planned(flows: Flows, ends: Ends) -> bool {
 
 // The search's plan of a day, against the day's needs and against others.
 fn compare(day: Day<'_>, other: &[u16], counts: &mut Counts) -> Result<(), AllocError> {
-    let best = trial_plans::search(day);
+    let best = plain::search(day);
     let plan = best.map_or([0; 4], |best| best.plan);
     counts.count_if(Seen::Plans, best.is_some())?;
-    if let PlayAnswer::Played(flows) = played(day, &plan, day.demand) {
+    if let Ok(flows) = play::play(day, &plan, day.demand) {
         let right = balanced(flows, day.demand, day.ends) && as_planned(flows, day.ends);
         counts.count_if(Seen::AsPlanned, right)?;
     }
-    match played(day, &plan, other) {
-        PlayAnswer::Played(flows) => {
+    match play::play(day, &plan, other) {
+        Ok(flows) => {
             counts.count_if(Seen::Balanced, balanced(flows, other, day.ends))?;
             counts.count_if(Seen::Missed, 0 < flows.lost)?;
             counts.count_if(Seen::Spilled, 0 < flows.disposed)
         }
-        _ => counts.count_if(Seen::Unplayed, best.is_none()),
+        Err(_) => counts.count_if(Seen::Unplayed, best.is_none()),
     }
 }
 
@@ -109,9 +92,9 @@ pub fn made_up<R: Print + AllocGlobal>(rt: &R, text: &str) -> io::Result<()> {
     let kind = days.kind;
     let mut counts = Counts::new(rt.alloc());
     for tiny in days {
-        let day = day_of(&tiny);
+        let day = tiny.day();
         let other = kind.make_up(tiny.seed).demand;
-        compare(day, &other[..day.demand.len().min(4)], &mut counts)?;
+        compare(day, &other[..day.periods().min(4)], &mut counts)?;
     }
     println!(rt; "{text}{counts}")
 }
