@@ -1,7 +1,8 @@
 -- What the loop that fills the table's rows keeps.
 -- Assumes nothing.
 use Rattle.std.proofs.Common.{◌≡◌, refl, sym, ap, ◌∙◌, List, ⊎_elim, ℕ, zero, suc, ◌+◌, ◌*◌, ◌≤◌, ◌<◌, eq-or-lt_of_le, suc-mul, mul-le-mul_right}
-use Rattle.std.proofs.Common.{◌-◌, add-one, arith, length, take, drop, set, length-set, length-take}
+use Rattle.std.proofs.Common.{◌-◌, add-one, arith, length}
+use Rattle.std.proofs.Common.{take, drop, set, length-set, length-take}
 use Rattle.std.proofs.Common.{length-take-le, length-append, length-drop, get_or-set_same, get_or-take}
 use Rattle.std.proofs.lemmas.List.{get_or_append_left, get_or-append_right}
 use borrow.Rule.Slice.PartMut.{put_mid}

@@ -11,7 +11,8 @@ use Rattle.day.specs.Refusals.{checked, above_limit, bad_value, bad_values, reve
 use Rattle.range_checks.specs.Earlier.{earlier, earlier_either}
 
 -- 3 on both tables, from 3 on each
-pub both_values : (needs : List ℕ) (d : Day) → length needs ≡ periods d → {other : Day} {first second answer : Result Unit Refusal}
+pub both_values : (needs : List ℕ) (d : Day) → length needs ≡ periods d
+    → {other : Day} {first second answer : Result Unit Refusal}
     → first ≡ checked (bad_value d)
     → other ≡ with_demand needs d → second ≡ checked (bad_value other) → answer ≡ earlier first second → answer ≡ checked (bad_values needs d)
 both_values needs d size {other} {first} {second} e o f is =
