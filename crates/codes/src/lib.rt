@@ -128,13 +128,8 @@ impl Given<u64, 5> for Flows {
     ghost values = { play_values };
 
     fn numbers(self) -> [u64; 5] {
-        [
-            self.produced,
-            self.delivered,
-            self.lost,
-            self.disposed,
-            self.left,
-        ]
+        let f = self;
+        [f.produced, f.delivered, f.lost, f.disposed, f.left]
     }
 }
 
