@@ -1,2 +1,2 @@
--- Laws of the work.
+-- Laws of the call.
 pub mod Entry

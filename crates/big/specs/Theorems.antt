@@ -3,14 +3,12 @@
 -- `gap_exact`, `no_cheaper`, no plan is cheaper than cost less gap; `more_accepted`, `more_trials`, more trials are accepted
 -- too, and never give a dearer plan; `one_answer`, day and trials fix
 -- the answer; `big_iff`, `big_short` (demand 2). Assumes nothing.
-use Rattle.std.specs.Prelude.{◌≡◌, refl, List, [], ◌∷◌, ◌++◌, ◌↔◌, ℕ, ◌-◌, ◌≤◌, ◌<◌, drop}
+use Rattle.std.proofs.lemmas.Option.{none-some}
+use Rattle.std.specs.Prelude.{◌≡◌, refl, List, [], ◌∷◌, ◌++◌, ◌↔◌, ℕ, ◌-◌, ◌≤◌, ◌<◌, drop, None, Result, Ok, Err}
 use Rattle.std.proofs.Common.{sym, ap, ap₂, ◌∙◌, subst, arith, ne_eqb}
-use Rattle.std.proofs.Math.Option.{none, none-ne-some}
 use Rattle.day.specs.declared.Refusal.{Refusal}
 use Rattle.day.specs.declared.Totals.{Totals}
 use Rattle.day.specs.declared.Trials.{Trials}
-use Rattle.day.specs.declared.BigAnswer.{BigAnswer}
-use Rattle.day.specs.declared.BigAnswer.TheVariants.{Refused, Planned}
 use Rattle.day.specs.Sums.{at, sum_ext}
 use Rattle.day.specs.Day.{Day, periods, max_big_total}
 use Rattle.day.specs.Plan.{Feasible, cost, setup_at, setups}
@@ -18,7 +16,8 @@ use Rattle.day.specs.Search.{kept_alike, cost_alike}
 use Rattle.day.specs.Refusals.{no_trials, low_store, shortage, FirstShort}
 use Rattle.day.specs.Tests.{gives_is, first_one, first_two}
 use Rattle.day.specs.Figures.{same_values, first_value, second_value}
-use Rattle.day.specs.Outcome.{Memory, Sizes, sizes_of, Roomy, refusal}
+use Rattle.day.specs.declared.Sizes.{Sizes}
+use Rattle.day.specs.Outcome.{Memory, sizes_of, Roomy, refusal}
 use Rattle.day.specs.Paths.{big}
 use Rattle.day.specs.Ranges.{LeastCost}
 use Rattle.day.specs.Drops.{starts_free, Tried, Ended, big_refusal, Dropping}
@@ -34,7 +33,7 @@ use Rattle.theory.specs.Drops.{Stands}
 use Rattle.theory.proofs.Drops.{tried_stands, free_least, ended_cheaper, ended_one}
 
 -- An accepted call.
-module _ (trials : ℕ) (d : Day) (before after : Memory) (a : Totals) (b : Trials) (runs : Dropping trials d before (Planned a b) after) where
+module _ (trials : ℕ) (d : Day) (before after : Memory) (a : Totals) (b : Trials) (runs : Dropping trials d before (Ok (a, b)) after) where
   abbrev state : Tried
   state = runs.1.state
 
@@ -101,14 +100,14 @@ module _ (trials : ℕ) (d : Day) (before after : Memory) (a : Totals) (b : Tria
       omega (arith, free_least d loose least.plan y least.optimal f, least.is)
 
 -- Where fewer trials are accepted, more are,
-pub more_accepted : (trials more : ℕ) (d : Day) (s : Sizes) → trials ≤ more → big_refusal trials d s ≡ none → big_refusal more d s ≡ none
+pub more_accepted : (trials more : ℕ) (d : Day) (s : Sizes) → trials ≤ more → big_refusal trials d s ≡ None → big_refusal more d s ≡ None
 more_accepted trials more d s le ok =
     let some-allowed = big_trials trials d s ok in
     rw ((first_two (refusal big d s) (no_trials trials) ok).0, ne_eqb more 0 (λ e. omega arith)) refl
 
 -- and they never give a dearer plan.
 pub more_trials : (trials more : ℕ) (d : Day) (m m' after after' : Memory) (a a' : Totals) (b b' : Trials) → trials ≤ more
-    → Dropping trials d m (Planned a b) after → Dropping more d m' (Planned a' b') after' → a'.cost ≤ a.cost
+    → Dropping trials d m (Ok (a, b)) after → Dropping more d m' (Ok (a', b')) after' → a'.cost ≤ a.cost
 more_trials trials more d m m' after after' a a' b b' le runs runs' =
     omega (
       arith,
@@ -120,7 +119,7 @@ more_trials trials more d m m' after after' a a' b b' le runs runs' =
 
 -- Day and trials fix the answer: the plan, and every figure.
 pub one_answer : (trials : ℕ) (d : Day) (m m' after after' : Memory) (a a' : Totals) (b b' : Trials)
-    → Dropping trials d m (Planned a b) after → Dropping trials d m' (Planned a' b') after'
+    → Dropping trials d m (Ok (a, b)) after → Dropping trials d m' (Ok (a', b')) after'
     → ((k : ℕ) → k < periods d → at after.slots k ≡ at after'.slots k) × (a ≡ a') × (b ≡ b')
 one_answer trials d m m' after after' a a' b b' runs runs' =
     let one = ended_one d (loose trials d m after a b runs) trials _ _ _ _ runs.1.ended runs'.1.ended in
@@ -138,23 +137,23 @@ one_answer trials d m m' after after' a a' b b' runs runs' =
     )
 
 -- the answer is a plan
-abbrev pub IsPlan : BigAnswer → Type 0
-IsPlan (Refused r) = ⊥
-IsPlan (Planned a b) = Unit {0}
+abbrev pub IsPlan : Result (Totals × Trials) Refusal → Type 0
+IsPlan (Err r) = ⊥
+IsPlan (Ok _) = Unit {0}
 
 -- A day within the limits of big days whose stores can't bind, with memory that is long enough, and a trial or more: only 7 can be refused.
-module _ (trials : ℕ) (d : Day) (m : Memory) (limits : DayLimits max_big_total d) (room : Roomy big d (sizes_of m)) (kind : low_store d ≡ none)
+module _ (trials : ℕ) (d : Day) (m : Memory) (limits : DayLimits max_big_total d) (room : Roomy big d (sizes_of m)) (kind : low_store d ≡ None)
     (some-allowed : 0 < trials) where
   only_short : big_refusal trials d (sizes_of m) ≡ shortage d
   only_short =
       rw (only_shortage big d m limits room (rw kind refl), ne_eqb trials 0 (λ e. omega arith)) (first_one (shortage d))
 
   -- Demand 2: the answer is a plan exactly if some amounts keep the conditions.
-  pub big_iff : (r : BigAnswer) (after : Memory) → Dropping trials d m r after → IsPlan r ↔ ((x : ℕ → ℕ) × Feasible d x)
-  big_iff (Refused q) after runs =
-      (λ none. absurd none, λ w. none-ne-some q (sym ((shortage_iff d (limits_fit limits)).1 w) ∙ (sym only_short ∙ gives_is runs.0)))
-  big_iff (Planned a b) after runs = (λ _. (at after.slots, (best_keeps trials d m after a b runs).0), λ _. tt)
+  pub big_iff : (r : Result (Totals × Trials) Refusal) (after : Memory) → Dropping trials d m r after → IsPlan r ↔ ((x : ℕ → ℕ) × Feasible d x)
+  big_iff (Err q) after runs =
+      (λ empty. absurd empty, λ w. none-some q (sym ((shortage_iff d (limits_fit limits)).1 w) ∙ (sym only_short ∙ gives_is runs.0)))
+  big_iff (Ok (a, b)) after runs = (λ _. (at after.slots, (best_keeps trials d m after a b runs).0), λ _. tt)
 
   -- Demand 2: otherwise it is refusal 7 with the first period for which no amounts up to it keep the conditions through it.
-  pub big_short : (q : Refusal) (after : Memory) → Dropping trials d m (Refused q) after → FirstShort d q
+  pub big_short : (q : Refusal) (after : Memory) → Dropping trials d m (Err q) after → FirstShort d q
   big_short q after runs = shortage_names d (limits_fit limits) q (sym only_short ∙ gives_is runs.0)

@@ -1,47 +1,28 @@
 -- The tests leave what each step asks, and the steps what an accepted call leaves.
-use Rattle.std.proofs.Common.{◌≡◌, ℕ, ◌-◌, [], length, take, replicate, arith}
-use Rattle.day.specs.Day.{day_of, max_periods}
+use Rattle.std.proofs.Common.{◌≡◌, ap, ℕ, ◌*◌, [], ◌++◌, length, drop, replicate, arith}
+use Rattle.std.proofs.lemmas.Grind.{common_steps}
+use Rattle.day.specs.Lent.{lent_day}
 use Rattle.day.specs.Outcome.{memory_of}
-use Rattle.theory.specs.Net.{limits_fill}
-use Rattle.big.proofs.Entry.{passed, preparable, startable, narrow, answerable, best_so_far}
+use Rattle.big.proofs.Entry.{area_cleared, trials_ask, answerable, best_so_far}
 use Rattle.big.proofs.work.Goals as goal
 
-pub prepare-requires : goal.prepare-requires
-prepare-requires c =
+pub make_trials-used-requires : goal.make_trials-used-requires
+make_trials-used-requires c =
     let a = c.args in
-    let given = day_of a.demand.now a.capacity.now a.setup.now a.unit.now a.holding.now a.store.now a.ends in
-    let lent = memory_of a.costs.now [] a.slots.now in
-    preparable a.trials given lent c.requires
+    trials_ask a.trials (lent_day a.day) (memory_of a.costs.now [] a.slots.now) c.requires _ _ _ _ (grind (arith, common_steps)) (grind (arith, common_steps)) (grind (arith, common_steps)) (grind (arith, common_steps))
 
-pub begin-cost-requires : goal.begin-cost-requires
-begin-cost-requires c =
+pub answer-given-requires : goal.answer-given-requires
+answer-given-requires c =
     let a = c.args in
-    let given = day_of a.demand.now a.capacity.now a.setup.now a.unit.now a.holding.now a.store.now a.ends in
-    let lent = memory_of a.costs.now [] a.slots.now in
-    let n = length a.demand.now in
-    -- the tables have a cell for each period
-    let sized : length (take (n - 0) (replicate {A = ℕ} max_periods 0)) ≡ n =
-    (limits_fill given (omega arith) (passed a.trials given lent c.requires).day).0 in
-    startable a.trials given lent c.requires _ _ c.prepare.ensures _ _ sized sized
-
-pub hand_out-requires-clause-by_index : goal.hand_out-requires-clause-by_index
-hand_out-requires-clause-by_index c =
-    let a = c.args in
-    let given = day_of a.demand.now a.capacity.now a.setup.now a.unit.now a.holding.now a.store.now a.ends in
-    let lent = memory_of a.costs.now [] a.slots.now in
-    narrow a.trials given lent c.requires _ _ c.prepare.ensures _ _ _ _ c.begin-cost.ensures _ _ c.run-used.ensures
-
-pub answer-requires : goal.answer-requires
-answer-requires c =
-    let a = c.args in
-    let given = day_of a.demand.now a.capacity.now a.setup.now a.unit.now a.holding.now a.store.now a.ends in
-    let lent = memory_of a.costs.now [] a.slots.now in
-    answerable a.trials given lent c.requires _ _ c.prepare.ensures _ _ _ _ c.begin-cost.ensures _ _ c.run-used.ensures _ c.hand_out.ensures
+    answerable a.trials (lent_day a.day) (memory_of a.costs.now [] a.slots.now) c.requires _ _ _ _ c.make_trials-used.ensures
 
 pub returns : goal.returns
 returns c =
     let a = c.args in
-    let given = day_of a.demand.now a.capacity.now a.setup.now a.unit.now a.holding.now a.store.now a.ends in
-    let lent = memory_of a.costs.now [] a.slots.now in
-    best_so_far a.trials given lent c.requires _ _ c.prepare.ensures _ _ _ _ c.begin-cost.ensures _ _ c.run-used.ensures _
-    c.hand_out.ensures c.answer.result _ c.answer.ensures c.clear_wide.ensures
+    let zeros : c.fill.new.self ≡ replicate (3 * c.periods-n.result) 0 = grind (arith, common_steps) in
+    let keyed : length c.make_trials-used.new.keys ≡ c.periods-n.result = grind (arith, common_steps) in
+    let marked : length c.make_trials-used.new.marks ≡ c.periods-n.result = grind (arith, common_steps) in
+    best_so_far a.trials (lent_day a.day) (memory_of a.costs.now [] a.slots.now) c.requires _ _ _ _ c.make_trials-used.ensures c.answer-given.result _ _
+    c.answer-given.ensures (ap (λ (n : ℕ). c.make_trials-used.new.best ++ drop n a.slots.now) c.periods-n.ensures)
+    (area_cleared (length a.day.demand.now) c.periods-n.result a.costs.now c.fill.new.self _ _ _ c.periods-n.ensures zeros keyed marked
+    c.split_at_mut-keys.ensures.back)

@@ -1,0 +1,6 @@
+-- Trial 1's plan is that of the day with all starts free.
+use Rattle.big.proofs.Entry.{trials_give}
+use Rattle.big.proofs.make_trials.Goals as goal
+
+pub returns : goal.returns
+returns c = trials_give c.requires _ _ _ _ _ c.begin-cost.ensures _ _ _ c.run.ensures
