@@ -1,4 +1,4 @@
--- What a program prints for a day file: `dayplan` (document 01, "Marked days") and `margins` (document 02, 2.11); the stamp that it expects (2.12).
+-- What a program prints for a day file: `dayplan` and `margins`; the stamp that it expects.
 -- Main definitions: `expected_in`, the expected stamp; `Inputs`, the reading of a file that is not too long; `PrintedText`, the contract of the text.
 -- Assumes nothing.
 use Rattle.std.specs.Prelude.{◌≡◌, cond, List, [], ◌∷◌, ℕ, eqb, ltb, length, Option, None, Some, Result}
