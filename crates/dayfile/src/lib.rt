@@ -1,5 +1,4 @@
-//! The day file: its layout, and the lookup of one record's body. The reader and the writer stand
-//! on it.
+//! The day file: its layout, and the lookup of one record's body. The reader and the writer stand on it.
 //! What the calls do is said by `Lookup`, `Reading` and `Writing` in specs/; the layout itself is in the crate day's `File`.
 #![tactic(auto)]
 

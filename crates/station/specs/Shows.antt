@@ -1,12 +1,12 @@
 -- What a C program sees of a call: some answer that the call may give, by its code and its out-array (include/yakkurem.h).
 -- Main definitions: `Shows`, and of each kind of call `PathShows`, `EqualShows`, `BoundsShows`, `BigShows`, `ReadShows`, `LookupShows`, `WriteShows`,
 -- `LoadShows`. Assumes nothing.
-use Rattle.std.specs.Prelude.{◌≡◌, List, ℕ}
+use Rattle.std.specs.Prelude.{◌≡◌, List, ℕ, Result}
 use Rattle.std.specs.Borrow.{MutBor}
 use denote.Triple.Both.{Both}
 use Rattle.day.specs.declared.Ends.{Ends}
 use Rattle.day.specs.declared.Stamp.{Stamp}
-use Rattle.day.specs.declared.Check.{Check}
+use Rattle.day.specs.declared.Refusal.{Refusal}
 use Rattle.day.specs.Figures.{Figures, answer_figures, equal_figures, bounds_figures, big_figures}
 use Rattle.day.specs.Outcome.{Path, Memory, Runs}
 use Rattle.day.specs.Loads.{EqualRuns}
@@ -67,6 +67,6 @@ WriteShows stamp demand capacity setup unit holding store ends out count r =
 
 -- a test load has no out-array: some answer that it may give, by its code alone
 pub record LoadShows (seed n : ℕ) (demand capacity setup unit holding store : LentMut) (r : ℕ) : Type 0 where
-  pub answer : Check
+  pub answer : Result Unit Refusal
   pub given : Loading seed n (tables_lent demand capacity setup unit holding store) answer (tables_after demand capacity setup unit holding store)
   pub shown : r ≡ check_code answer

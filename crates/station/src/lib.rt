@@ -1,4 +1,5 @@
 //! The library's calls as a C program has them: the answer as one code, its numbers in an out-array (include/yakkurem.h).
+//! Tables and ends come one by one, and each kind of call has a name of its own, since C declares them so.
 #![tactic(auto)]
 
 ghost use Rattle.std.specs.Prelude.{◌≡◌};
@@ -11,7 +12,7 @@ ghost use Rattle.play.specs.Answers.{Plays, play_figures};
 ghost use Rattle.price.specs.Price.{price_of};
 ghost use Rattle.station.specs.Shows.{Shows, PathShows, EqualShows, BoundsShows, BigShows, ReadShows, LookupShows, WriteShows, LoadShows};
 
-use day::{Check, Ends, Stamp};
+use day::{Day, Ends, Stamp};
 
 // The plan of any day, by recursion (5); the answer is its cost and setups.
 #[unsafe(no_mangle)]
@@ -33,10 +34,9 @@ pub extern "C" fn yakkurem_full(
         (memory_before costs choices slots) (memory_after costs choices slots) answer result }
 {
     let ends = Ends { opening, closing };
-    let a = full::plan(
-        demand, capacity, setup, unit, holding, store, costs, choices, slots, ends,
-    );
-    codes::planned(a, answer)
+    let day = Day::new(demand, capacity, setup, unit, holding, store, ends);
+    let a = full::plan(day, costs, choices, slots);
+    codes::shown(a, answer)
 }
 
 // The plan of a day whose capacities and stores can't bind; the answer is its cost and setups.
@@ -59,10 +59,9 @@ pub extern "C" fn yakkurem_uncapped(
         (memory_before costs choices slots) (memory_after costs choices slots) answer result }
 {
     let ends = Ends { opening, closing };
-    let a = uncapped::plan(
-        demand, capacity, setup, unit, holding, store, costs, choices, slots, ends,
-    );
-    codes::planned(a, answer)
+    let day = Day::new(demand, capacity, setup, unit, holding, store, ends);
+    let a = uncapped::plan(day, costs, choices, slots);
+    codes::shown(a, answer)
 }
 
 // The plan of a day with one capacity throughout whose stores can't bind; the answer is its cost, setups, full-load and part-loaded periods.
@@ -85,10 +84,9 @@ pub extern "C" fn yakkurem_equal(
         (memory_before costs choices slots) (memory_after costs choices slots) answer result }
 {
     let ends = Ends { opening, closing };
-    let a = equal::plan(
-        demand, capacity, setup, unit, holding, store, costs, choices, slots, ends,
-    );
-    codes::planned_equal(a, answer)
+    let day = Day::new(demand, capacity, setup, unit, holding, store, ends);
+    let a = equal::plan(day, costs, choices, slots);
+    codes::shown(a, answer)
 }
 
 // The plan of a day without setup cost whose stores can't bind; the answer is its cost and setups. No choice area is lent.
@@ -110,10 +108,9 @@ pub extern "C" fn yakkurem_free(
         (cells_before costs slots) (cells_after costs slots) answer result }
 {
     let ends = Ends { opening, closing };
-    let a = free::plan(
-        demand, capacity, setup, unit, holding, store, costs, slots, ends,
-    );
-    codes::planned(a, answer)
+    let day = Day::new(demand, capacity, setup, unit, holding, store, ends);
+    let a = free::plan(day, costs, slots);
+    codes::shown(a, answer)
 }
 
 // Needs known as ranges, the demands being the highest; the answer is the least cost of the day with the lowest, and with the highest.
@@ -136,10 +133,9 @@ pub extern "C" fn yakkurem_bounds(
         (areas_before costs choices) (areas_after costs choices) answer result }
 {
     let ends = Ends { opening, closing };
-    let a = bounds::least_costs(
-        lowest, demand, capacity, setup, unit, holding, store, costs, choices, ends,
-    );
-    codes::bounded(a, answer)
+    let day = Day::new(demand, capacity, setup, unit, holding, store, ends);
+    let a = bounds::least_costs(lowest, day, costs, choices);
+    codes::shown(a, answer)
 }
 
 // The best plan of a big day in so many trials; the answer is its cost, setups, the trials used, and the gap. No choice area is lent.
@@ -162,10 +158,9 @@ pub extern "C" fn yakkurem_big(
         (cells_before costs slots) (cells_after costs slots) answer result }
 {
     let ends = Ends { opening, closing };
-    let a = big::plan(
-        demand, capacity, setup, unit, holding, store, costs, slots, ends, trials,
-    );
-    codes::planned_big(a, answer)
+    let day = Day::new(demand, capacity, setup, unit, holding, store, ends);
+    let a = big::plan(day, costs, slots, trials);
+    codes::shown(a, answer)
 }
 
 // Weighs a plan; the answer is its cost and setups.
@@ -186,8 +181,8 @@ pub extern "C" fn yakkurem_weigh(
         weighed_figures answer result }
 {
     let ends = Ends { opening, closing };
-    let w = weigher::weigh(demand, capacity, setup, unit, holding, store, plan, ends);
-    codes::weighed(w, answer)
+    let day = Day::new(demand, capacity, setup, unit, holding, store, ends);
+    codes::shown(weigher::weigh(day, plan), answer)
 }
 
 // Weighs two plans; the answer is the first one's cost less the second's.
@@ -209,10 +204,8 @@ pub extern "C" fn yakkurem_compare(
         compared_figures difference result }
 {
     let ends = Ends { opening, closing };
-    let c = weigher::compare(
-        demand, capacity, setup, unit, holding, store, first, second, ends,
-    );
-    codes::compared(c, difference)
+    let day = Day::new(demand, capacity, setup, unit, holding, store, ends);
+    codes::shown(weigher::compare(day, first, second), difference)
 }
 
 // Plays a plan through against actual needs; the answer is what was made, delivered, missed and spilled, and what is left.
@@ -234,10 +227,8 @@ pub extern "C" fn yakkurem_play(
         play_figures answer result }
 {
     let ends = Ends { opening, closing };
-    let a = play::play(
-        demand, capacity, setup, unit, holding, store, plan, actual, ends,
-    );
-    codes::played(a, answer)
+    let day = Day::new(demand, capacity, setup, unit, holding, store, ends);
+    codes::shown(play::play(day, plan, actual), answer)
 }
 
 // Fills tables from a day file; the answer is the count of its periods, and its ends.
@@ -257,7 +248,7 @@ pub extern "C" fn yakkurem_read(
 {
     let stamp = codes::expected(expected);
     let a = dayfile_reader::read(file, demand, capacity, setup, unit, holding, store, stamp);
-    codes::read(a, day)
+    codes::shown(a, day)
 }
 
 // Where the body of a numbered period record lies in the file; the answer is its first byte, counted from 0, and its length.
@@ -266,15 +257,7 @@ pub extern "C" fn yakkurem_read(
 pub extern "C" fn yakkurem_lookup(file: &[u8], period: usize, part: &mut [u64; 2]) -> u64
     ensures { LookupShows file period part result }
 {
-    if let Check::Refused(r) = dayfile::lookup::check(file, period) {
-        return codes::refused(r);
-    }
-    let at = dayfile::layout::record_at(file, period - 1);
-    *part = [
-        (at as u64) + 1,
-        dayfile::layout::body(file, at).len() as u64,
-    ];
-    0
+    codes::shown(dayfile::lookup::place(file, period), part)
 }
 
 // Writes the day file at the front of the lent bytes; the answer is how many they are.
@@ -296,11 +279,9 @@ pub extern "C" fn yakkurem_write(
     ensures { WriteShows (stamp_with station date) demand capacity setup unit holding store (ends_with opening closing) out count result }
 {
     let ends = Ends { opening, closing };
+    let day = Day::new(demand, capacity, setup, unit, holding, store, ends);
     let stamp = Stamp { station, date };
-    let a = dayfile_writer::write(
-        demand, capacity, setup, unit, holding, store, out, ends, stamp,
-    );
-    codes::written(a, count)
+    codes::shown(dayfile_writer::write(day, out, stamp), count)
 }
 
 // Fills tables with the test load of a seed. There is no out-array: the code is the whole answer.
