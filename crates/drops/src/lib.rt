@@ -45,7 +45,8 @@ pub fn free_cost(day: Day, plan: &[u16]) -> u64
     weigher::totals(free, plan).cost
 }
 
-// Trial 1: all periods are allowed. There is a plan, since no period is short.
+// Trial 1: all periods are allowed. There is a plan, since no period is short. Capacities, marks and plans come one by one: of a struct of `&mut` slices
+// each call would have to say, field by field, that it hands the same references back.
 pub fn begin(
     ready: Ready,
     allowed: &mut [u16],

@@ -1,10 +1,16 @@
--- What a call tells that may find no capacity.
--- Main definition: `Told`. Main statements: `served_turn`, `served_stuck`, one turn of the service of a need; `told_next`, `told_stuck`, one need more.
+-- What the search and the service ask, and what a call tells that may find no capacity.
+-- Main definitions: `Covers`, `Told`. Main statements: `served_turn`, `served_stuck`, one turn of the service of a need; `told_next`, `told_stuck`, one need more.
 -- Assumes nothing.
-use Rattle.std.specs.Prelude.{◌≡◌, Option, Some, None, List, ℕ, suc, ◌+◌, ◌-◌, ◌<◌, min, set}
+use Rattle.std.specs.Prelude.{◌≡◌, Option, Some, None, List, ℕ, suc, ◌+◌, ◌-◌, ◌≤◌, ◌<◌, min, length, set}
 use Rattle.std.proofs.Common.{sym, ap, ◌∙◌, subst, arith}
 use Rattle.day.specs.Sums.{at}
 use Rattle.theory.specs.Greedy.{after, Source, Sources, serve, greedy_to, source_none, serve_turn, serve_stuck, greedy_to_stuck}
+
+-- a key, a capacity and a slot for each of the first d periods
+pub record Covers (d : ℕ) (cells capacity slots : List ℕ) : Type 0 where
+  pub keys : d ≤ length cells
+  pub capacities : d ≤ length capacity
+  pub room : d ≤ length slots
 
 -- the amounts g in the slots are what was asked for, or there is no capacity for it
 abbrev pub Told : Option (Unit {0}) → Option (List ℕ) → List ℕ → Type 0

@@ -7,7 +7,7 @@ ghost use Rattle.day.specs.Sums.{at};
 ghost use Rattle.day.specs.Day.{max_periods};
 ghost use Rattle.theory.specs.Greedy.{Sources, serve, greedy_to};
 ghost use Rattle.greedy.specs.Keys.{Keyed};
-ghost use Rattle.greedy.specs.Search.{Told};
+ghost use Rattle.greedy.specs.Search.{Covers, Told};
 
 // What a unit made in a period costs: to make it, and to hold it from then on. The cells past the periods keep their contents.
 pub fn keys(unit: &[u32], holding: &[u32], cells: &mut [u64])
@@ -23,7 +23,7 @@ pub fn keys(unit: &[u32], holding: &[u32], cells: &mut [u64])
 
 // The best of the first d periods: it has capacity left and the least key, of equal keys the earliest.
 fn source(keys: &[u64], capacity: &[u16], slots: &[u16], d: usize) -> Option<usize>
-    requires { (d ≤ length keys.now) × (d ≤ length capacity.now) × (d ≤ length slots.now) }
+    requires { Covers d keys.now capacity.now slots.now }
     ensures { Sources (at keys.now) (at capacity.now) (at slots.now) d result }
 {
     (0..d)
@@ -33,7 +33,7 @@ fn source(keys: &[u64], capacity: &[u16], slots: &[u16], d: usize) -> Option<usi
 
 // The need of one period, from the first d; `None` where they have no capacity for all of it.
 fn serve(keys: &[u64], capacity: &[u16], slots: &mut [u16], d: usize, need: u16) -> Option<()>
-    requires { (d ≤ length keys.now) × (d ≤ length capacity.now) × (d ≤ length slots.old) }
+    requires { Covers d keys.now capacity.now slots.old }
     ensures { Told result (serve (at keys.now) (at capacity.now) d need slots.old) slots.new }
 {
     let mut left = need;
@@ -46,9 +46,10 @@ fn serve(keys: &[u64], capacity: &[u16], slots: &mut [u16], d: usize, need: u16)
     Some(())
 }
 
-// Every need in turn, on top of what the slots hold; `None` where capacities do not suffice.
+// Every need in turn, on top of what the slots hold; `None` where capacities do not suffice. Keys and capacities come one by one: of a lent area whose
+// front stands in a struct nothing is known when it comes back.
 pub fn serve_all(need: &[u16], keys: &[u64], capacity: &[u16], slots: &mut [u16]) -> Option<()>
-    requires { (length need.now ≤ length keys.now) × (length need.now ≤ length capacity.now) × (length need.now ≤ length slots.old) }
+    requires { Covers (length need.now) keys.now capacity.now slots.old }
     ensures { Told result
         (greedy_to (at keys.now) (at capacity.now) (at need.now) (length need.now) slots.old)
         slots.new }

@@ -9,7 +9,7 @@ pub serve_all-requires : goal.serve_all-requires
 serve_all-requires c =
     let r = c.args.ready in
     let size = net_size (lent_day r.day) _ _ _ _ r.ready c.requires in
-    (omega (arith, size, r.ready.long), omega (arith, size), omega (arith, size))
+    record { keys = omega (arith, size, r.ready.long); capacities = omega (arith, size); room = omega (arith, size) }
 
 pub returns-in_err-serve_all : goal.returns-in_err-serve_all
 returns-in_err-serve_all c =
