@@ -1,8 +1,7 @@
 //! The call, in lent memory whose every cell holds the mark.
-use day::{BigAnswer, Refusal, Totals, Trials};
+use day::{Day, Refusal, Sizes, Totals, Trials};
 use std::io;
-use trial_text::cells::{Cells, Memory};
-use trial_text::days::Day;
+use trial_text::cells::Memory;
 use trial_text::line::Line;
 use trial_text::show::{Amounts, Cost, Kept, Refused};
 
@@ -13,37 +12,26 @@ pub struct Outcome {
     pub kept: bool,
 }
 
-fn plan(day: Day<'_>, memory: &mut Memory, allowed: usize) -> Result<(Totals, Trials), Refusal> {
-    match big::plan(
-        day.demand,
-        day.capacity,
-        day.setup,
-        day.unit,
-        day.holding,
-        day.store,
-        memory.costs.as_mut_slice(),
-        memory.slots.as_mut_slice(),
-        day.ends,
-        allowed,
-    ) {
-        BigAnswer::Refused(refusal) => Err(refusal),
-        BigAnswer::Planned(totals, trials) => Ok((totals, trials)),
+// So many cost cells and slots: the call takes no choice area.
+pub fn sizes(costs: usize, slots: usize) -> Sizes {
+    Sizes {
+        costs,
+        choices: 0,
+        slots,
     }
 }
 
-// So many cost cells: the call takes no choice area.
-pub fn cells(costs: usize) -> Cells {
-    Cells { costs, choices: 0 }
-}
-
-// The call, with so many trials allowed. After a plan of n periods 3 × n cost cells hold zero.
+// The call, with so many trials allowed. It needs 3 × n cost cells.
 pub fn run(day: Day<'_>, memory: &mut Memory, allowed: usize) -> Outcome {
-    let answer = plan(day, memory, allowed);
+    let answer = big::plan(
+        day,
+        memory.costs.as_mut_slice(),
+        memory.slots.as_mut_slice(),
+        allowed,
+    );
+    let n = day.periods();
     let kept = match answer {
-        Ok(_) => {
-            let n = day.demand.len();
-            memory.is_cleared(cells(n.saturating_mul(3)), n)
-        }
+        Ok(_) => memory.is_cleared(sizes(n.saturating_mul(3), n)),
         Err(_) => memory.is_marked(),
     };
     Outcome { answer, kept }
@@ -51,13 +39,13 @@ pub fn run(day: Day<'_>, memory: &mut Memory, allowed: usize) -> Outcome {
 
 // How many trials are allowed is in field 6, how many cost cells and slots are lent in fields 7 and 8.
 pub fn lent<R: Print + AllocGlobal>(rt: &R, line: Line<'_>, day: Day<'_>) -> io::Result<()> {
-    let mut memory = Memory::new(rt.alloc(), cells(line.number(7)), line.number(8))?;
+    let mut memory = Memory::new(rt.alloc(), sizes(line.number(7), line.number(8)))?;
     let outcome = run(day, &mut memory, line.number(6));
     print!(rt; "{} big", line.name)?;
     match outcome.answer {
         Err(refusal) => print!(rt; "{}", Refused(refusal))?,
         Ok((totals, Trials { used, gap })) => {
-            let plan = memory.plan(day.demand.len());
+            let plan = memory.plan(day.periods());
             print!(rt; "{}{} trials {used} gap {gap}", Amounts(plan), Cost(totals))?;
         }
     }

@@ -1,4 +1,4 @@
-//! Trials of big days (document 02, 2.10): on the day and the memory that a line gives, and on made-up tiny days beside the plain search.
+//! Trials of big days: on the day and the memory that a line gives, and on made-up tiny days beside the plain search.
 #![tactic(auto)]
 
 pub mod call;

@@ -1,15 +1,13 @@
 //! Made-up tiny days: the call with 1, 2, 3 .. trials allowed, beside the plain search.
 use crate::call;
-use day::{Answer, Refusal, Totals, Trials};
+use day::{Day, Refusal, Totals, Trials};
 use plain::Best;
 use std::alloc::{AllocError, Global};
 use std::io;
-use trial_paths::tiny::{day_of, days_of};
+use trial_paths::tiny::days_of;
 use trial_text::cells::Memory;
 use trial_text::counts::Counts;
-use trial_text::days::Day;
 use trial_text::line::Line;
-use weigher::{Verdict, Weighed};
 
 // What is counted, of days and of the calls on them.
 #[derive(Clone, Copy)]
@@ -73,22 +71,8 @@ fn goes_on(earlier: Option<Given>, given: Given, allowed: u64) -> bool {
 
 // Whether a plan has been found to hold, with such totals.
 fn holds(day: Day<'_>, plan: &[u16], totals: Totals) -> bool {
-    let weighed = weigher::weigh(
-        day.demand,
-        day.capacity,
-        day.setup,
-        day.unit,
-        day.holding,
-        day.store,
-        plan,
-        day.ends,
-    );
-    match weighed {
-        Weighed::Judged(Verdict::Holds(found)) => {
-            found.cost == totals.cost && found.setups == totals.setups
-        }
-        _ => false,
-    }
+    weigher::weigh(day, plan).is_ok_and(|found| found.cost == totals.cost
+        && found.setups == totals.setups)
 }
 
 // Of a call that refuses.
@@ -145,7 +129,7 @@ fn call(
     allowed: usize,
     counts: &mut Counts,
 ) -> Result<Option<Given>, AllocError> {
-    let mut memory = Memory::new(alloc, call::cells(14), 5)?;
+    let mut memory = Memory::new(alloc, call::sizes(14, 5))?;
     let outcome = call::run(day, &mut memory, allowed);
     counts.count_if(Seen::Kept, outcome.kept)?;
     let (totals, trials) = match outcome.answer {
@@ -159,11 +143,11 @@ fn call(
     counts.count_if(Seen::Holds, holds(day, slots, totals))?;
     count_planned(totals, trials, found, earlier, allowed as u64, counts)?;
     if allowed == 1 {
-        let bound = Answer::Planned(Totals {
+        let bound = Totals {
             cost: totals.cost.saturating_sub(trials.gap),
             setups: totals.setups,
-        });
-        let agrees = plain::agrees(found.free, day.demand, bound, slots, day.ends);
+        };
+        let agrees = plain::agrees(found.free, day, Ok(bound), slots);
         counts.count_if(Seen::First, agrees)?;
     }
     Ok(Some(Given {
@@ -180,13 +164,9 @@ fn calls(
     counts: &mut Counts,
 ) -> Result<(), AllocError> {
     let starts = [0; 4];
-    let free = Day {
-        setup: &starts[..day.demand.len().min(4)],
-        ..day
-    };
     let found = Found {
-        plan: trial_plans::search(day),
-        free: trial_plans::search(free),
+        plan: plain::search(day),
+        free: plain::search(day.with_setup(&starts[..day.periods().min(4)])),
     };
     counts.count_if(Seen::Plans, found.plan.is_some())?;
     let mut earlier = None;
@@ -201,7 +181,7 @@ pub fn made_up<R: Print + AllocGlobal>(rt: &R, text: &str) -> io::Result<()> {
     let line = Line::new(text);
     let mut counts = Counts::new(rt.alloc());
     for tiny in days_of(line) {
-        calls(rt.alloc(), day_of(&tiny), line.number(5), &mut counts)?;
+        calls(rt.alloc(), tiny.day(), line.number(5), &mut counts)?;
     }
     println!(rt; "{text}{counts}")
 }
