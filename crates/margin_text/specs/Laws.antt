@@ -3,7 +3,7 @@
 use Rattle.std.specs.Prelude.{◌≡◌, refl, List, [], ◌∷◌, ◌++◌, ℕ, zero, suc, ◌+◌, ◌*◌, ◌≤◌, ◌<◌, length}
 use Rattle.std.proofs.Common.{ap, add-one, arith, length-append}
 use Rattle.day.specs.Sums.{at, list_of}
-use Rattle.day.specs.Day.{Day, max_demand, max_periods}
+use Rattle.day.specs.Day.{Day, max_demand, max_periods, periods}
 use Rattle.lines.specs.Text.{margin_bytes}
 use Rattle.margin_text.specs.Margins.{SaysMargin, SaysMargins}
 
@@ -11,6 +11,11 @@ use Rattle.margin_text.specs.Margins.{SaysMargin, SaysMargins}
 pub record LowNeeds (demand : List ℕ) : Type 0 where
   pub few : length demand ≤ max_periods
   pub low : (k : ℕ) → k < length demand → at demand k ≤ max_demand
+
+-- a day that margins are tried on: its needs are within their limit, and there is an actual need for each period
+pub record Tried (d : Day) (actual : List ℕ) : Type 0 where
+  pub needs : LowNeeds d.demand
+  pub size : length actual ≡ periods d
 
 -- needs put one after another: f 0, .. f (i - 1) are there
 pub record Listed (f : ℕ → ℕ) (i : ℕ) (needs : List ℕ) : Type 0 where

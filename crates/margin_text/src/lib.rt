@@ -8,7 +8,7 @@ ghost use Rattle.day.specs.Lent.{lent_day};
 ghost use Rattle.day.specs.Refusals.{first};
 ghost use Rattle.checks.specs.Passed.{Limits};
 ghost use Rattle.margin_text.specs.Margins.{margins, raised, raised_needs, needs_in, needs_tests, SaysDayLine, SaysMargin, SaysMargins, SaysMarginsOf};
-ghost use Rattle.margin_text.specs.Laws.{LowNeeds};
+ghost use Rattle.margin_text.specs.Laws.{LowNeeds, Tried};
 
 use arrayvec::ArrayVec;
 use day::{Day, Refusal};
@@ -74,8 +74,7 @@ fn day_line(margin: u64, day: Day, actual: &[u16]) -> MarginLine
 // The line of a margin.
 fn margin_line(margin: u16, day: Day, actual: &[u16]) -> MarginLine
     requires margin_lt_margins { margin < margins }
-    requires low_needs { LowNeeds day.demand.now }
-    requires actual_len { length actual.now ≡ periods (lent_day day) }
+    requires tried { Tried (lent_day day) actual.now }
     ensures { SaysMargin (lent_day day.entry) (at actual.now) margin result.bytes }
 {
     let needs = raise(margin, day.demand);
@@ -84,8 +83,7 @@ fn margin_line(margin: u16, day: Day, actual: &[u16]) -> MarginLine
 
 // A line for each margin.
 fn margin_lines(day: Day, actual: &[u16]) -> Text
-    requires low_needs { LowNeeds day.demand.now }
-    requires actual_len { length actual.now ≡ periods (lent_day day) }
+    requires { Tried (lent_day day) actual.now }
     ensures { SaysMargins (lent_day day.entry) (at actual.now) margins result.bytes }
 {
     let mut text = Text::new();
