@@ -14,6 +14,7 @@ ghost use Rattle.drops.specs.Trial.{Triable, Comes};
 ghost use Rattle.drops.specs.Standing.{state_in, Held, NextIs, Stepped, Startable, Begun, Finished};
 
 use day::Day;
+use greedy::Offers;
 pub use ready::Ready;
 use rounds::Turn;
 
@@ -23,7 +24,11 @@ fn trial(ready: Ready, allowed: &[u16], plan: &mut [u16]) -> Option<u64>
     ensures { Comes (lent_day ready.entry.day) allowed.now result plan.new }
 {
     plan.fill(0);
-    greedy::serve_all(ready.net, ready.keys, allowed, plan)?;
+    let from = Offers {
+        keys: ready.keys,
+        capacity: allowed,
+    };
+    greedy::serve_all(ready.net, from, plan)?;
     Some(weigher::totals(ready.day, plan).cost)
 }
 

@@ -12,6 +12,7 @@ ghost use Rattle.theory.specs.Problem.{lent_problem};
 ghost use Rattle.free.specs.Solved.{Solvable, Solved};
 
 use day::{Day, PathKind, Refusal, Sizes, Totals};
+use greedy::Offers;
 use theory::Problem;
 
 // The plan into the slots: where no period is short, every need finds its capacity. What is left in the first n cost cells is free.
@@ -21,7 +22,11 @@ fn solve(p: Problem, costs: &mut [u64], slots: &mut [u16])
 {
     greedy::keys(p.unit, p.holding, costs);
     slots[..p.demand.len()].fill(0);
-    greedy::serve_all(p.demand, costs, p.capacity, slots).unwrap();
+    let from = Offers {
+        keys: costs,
+        capacity: p.capacity,
+    };
+    greedy::serve_all(p.demand, from, slots).unwrap();
 }
 
 // The work, once the tests have passed.

@@ -21,41 +21,47 @@ pub fn keys(unit: &[u32], holding: &[u32], cells: &mut [u64])
     }
 }
 
+// What the rule serves from: of each period its key, and its capacity.
+#[derive(Clone, Copy)]
+pub struct Offers<'a> {
+    pub keys: &'a [u64],
+    pub capacity: &'a [u16],
+}
+
 // The best of the first d periods: it has capacity left and the least key, of equal keys the earliest.
-fn source(keys: &[u64], capacity: &[u16], slots: &[u16], d: usize) -> Option<usize>
-    requires { Covers d keys.now capacity.now slots.now }
-    ensures { Sources (at keys.now) (at capacity.now) (at slots.now) d result }
+fn source(from: Offers, slots: &[u16], d: usize) -> Option<usize>
+    requires { Covers d from.keys.now from.capacity.now slots.now }
+    ensures { Sources (at from.entry.keys.now) (at from.entry.capacity.now) (at slots.now) d result }
 {
     (0..d)
-        .filter(|&k| slots[k] < capacity[k])
-        .min_by_key(|&k| keys[k])
+        .filter(|&k| slots[k] < from.capacity[k])
+        .min_by_key(|&k| from.keys[k])
 }
 
 // The need of one period, from the first d; `None` where they have no capacity for all of it.
-fn serve(keys: &[u64], capacity: &[u16], slots: &mut [u16], d: usize, need: u16) -> Option<()>
-    requires { Covers d keys.now capacity.now slots.old }
-    ensures { Told result (serve (at keys.now) (at capacity.now) d need slots.old) slots.new }
+fn serve(from: Offers, slots: &mut [u16], d: usize, need: u16) -> Option<()>
+    requires { Covers d from.keys.now from.capacity.now slots.old }
+    ensures { Told result (serve (at from.entry.keys.now) (at from.entry.capacity.now) d need slots.old) slots.new }
 {
     let mut left = need;
     while 0 < left {
-        let k = source(keys, capacity, slots, d)?;
-        let batch = left.min(capacity[k] - slots[k]);
+        let k = source(from, slots, d)?;
+        let batch = left.min(from.capacity[k] - slots[k]);
         slots[k] += batch;
         left -= batch;
     }
     Some(())
 }
 
-// Every need in turn, on top of what the slots hold; `None` where capacities do not suffice. Keys and capacities come one by one: of a lent area whose
-// front stands in a struct nothing is known when it comes back.
-pub fn serve_all(need: &[u16], keys: &[u64], capacity: &[u16], slots: &mut [u16]) -> Option<()>
-    requires { Covers (length need.now) keys.now capacity.now slots.old }
+// Every need in turn, on top of what the slots hold; `None` where capacities do not suffice.
+pub fn serve_all(need: &[u16], from: Offers, slots: &mut [u16]) -> Option<()>
+    requires { Covers (length need.now) from.keys.now from.capacity.now slots.old }
     ensures { Told result
-        (greedy_to (at keys.now) (at capacity.now) (at need.now) (length need.now) slots.old)
+        (greedy_to (at from.entry.keys.now) (at from.entry.capacity.now) (at need.now) (length need.now) slots.old)
         slots.new }
 {
     for (k, &owed) in need.iter().enumerate() {
-        serve(keys, capacity, slots, k + 1, owed)?;
+        serve(from, slots, k + 1, owed)?;
     }
     Some(())
 }

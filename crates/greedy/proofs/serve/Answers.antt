@@ -16,8 +16,8 @@ loop-left-preserved c =
 
 pub returns : goal.returns
 returns c =
-    let keys = at c.args.keys.now in
-    let capacity = at c.args.capacity.now in
+    let keys = at c.args.from.keys.now in
+    let capacity = at c.args.from.capacity.now in
     let e : c.loop-left.left ≡ 0 = omega arith in
     sym c.loop-left.invariant
     ∙ ap (λ (w : ℕ). serve keys capacity c.args.d w c.loop-left.slots) e

@@ -8,8 +8,8 @@ use Rattle.greedy.proofs.source.Goals as goal
 
 pub returns : goal.returns
 returns c =
-    let key = at c.args.keys.now in
-    let capacity = at c.args.capacity.now in
+    let key = at c.args.from.keys.now in
+    let capacity = at c.args.from.capacity.now in
     let x = at c.args.slots.now in
     let d = c.args.d in
     let in_turn = YieldsList-at c.filter.ensures.source (YieldsList-from_range 0 d d refl (omega arith)) in
