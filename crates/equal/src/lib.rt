@@ -27,7 +27,7 @@ fn solve(p: Problem, costs: &mut [u64], choices: &mut [u16], slots: &mut [u16])
     }
     equal_rows::rows(p, full, costs, choices, slots);
     let n = p.demand.len();
-    slots.copy_from_slice(&choices[n * n..n * n + n]);
+    equal_rows::copy(&choices[n * n..n * n + n], slots);
 }
 
 // The work, once the tests have passed.

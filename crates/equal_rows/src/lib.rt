@@ -148,10 +148,21 @@ fn candidate(
         result (areas costs.new choices.new) slots.new }
 {
     let from = l * p.demand.len();
-    slots[..l].copy_from_slice(&choices[from..from + l]);
+    copy(&choices[from..from + l], &mut slots[..l]);
     let before = costs[l];
     let run = trial(p, full, l, left, costs, choices, &mut slots[l..]);
     before + run
+}
+
+// Cells as others of their length hold them. By hand: of std's copy the compiler makes a call of `memmove`, which a station without an operating
+// system need not supply.
+pub fn copy(from: &[u16], to: &mut [u16])
+    requires { length to.old ≡ length from.now }
+    ensures { to.new ≡ from.now }
+{
+    for i in 0..from.len() {
+        to[i] = from[i];
+    }
 }
 
 // The amounts in the slots become the row of as many periods, at the cost v.
@@ -163,7 +174,7 @@ fn keep(v: u64, n: usize, slots: &[u16], costs: &mut [u64], choices: &mut [u16])
 {
     let m = slots.len();
     let from = m * n;
-    choices[from..from + m].copy_from_slice(slots);
+    copy(slots, &mut choices[from..from + m]);
     costs[m] = v;
 }
 

@@ -52,4 +52,4 @@ rows-requires c =
     record { constant = by_one c.args.p _ c.requires.constant; room = omega arith; sized = c.requires.sized; each = c.requires.each }
 
 pub returns : goal.returns
-returns c = last_row c.args.p _ c.requires.constant _ _ c.rows.ensures c.copy_from_slice.ensures.after
+returns c = last_row c.args.p _ c.requires.constant _ _ c.rows.ensures c.copy.ensures
