@@ -71,8 +71,10 @@ fn goes_on(earlier: Option<Given>, given: Given, allowed: u64) -> bool {
 
 // Whether a plan has been found to hold, with such totals.
 fn holds(day: Day<'_>, plan: &[u16], totals: Totals) -> bool {
-    weigher::weigh(day, plan).is_ok_and(|found| found.cost == totals.cost
-        && found.setups == totals.setups)
+    match weigher::weigh(day, plan) {
+        Ok(found) => found.cost == totals.cost && found.setups == totals.setups,
+        Err(_) => false,
+    }
 }
 
 // Of a call that refuses.

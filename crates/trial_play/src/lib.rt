@@ -18,17 +18,11 @@ pub fn play<R: Print + AllocGlobal>(rt: &R, line: Line<'_>, day: Day<'_>) -> io:
     print!(rt; "{} play", line.name)?;
     match play::play(day, plan.as_slice(), actual.as_slice()) {
         Err(fault) => println!(rt; "{}", Failed(fault)),
-        Ok(
-            Flows {
-                produced,
-                delivered,
-                lost,
-                disposed,
-                left,
-            },
-        ) => {
+        Ok(flows) => {
+            print!(rt; " made {} delivered {}", flows.produced, flows.delivered)?;
             println!(rt;
-                " made {produced} delivered {delivered} missed {lost} spilled {disposed} left {left}"
+                " missed {} spilled {} left {}",
+                flows.lost, flows.disposed, flows.left
             )
         }
     }
