@@ -10,7 +10,7 @@ use Rattle.dayfile.specs.Passed.{stamp_passed, read_given}
 use Rattle.dayfile.specs.Layout.{laid_out}
 use Rattle.dayfile_reader.specs.Tables.{read_passed}
 
--- an accepted reading: the file is laid out as the documents say, with n periods, its stamp is the expected one, and A, Z, r, c, b, p, h, s come from
+-- an accepted reading: the file is laid out as `Layout` says, with n periods, its stamp is the expected one, and A, Z, r, c, b, p, h, s come from
 -- their places; where the head has no charges, A and Z are both 0, and where a record holds no store limit, that is 65,535
 pub record Read (expected : Option Stamp) (s : List ℕ) (n : ℕ) (ends : Ends) (before after : Day) : Type 0 where
   pub layout : Layout s n

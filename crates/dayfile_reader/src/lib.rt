@@ -73,7 +73,7 @@ fn ends(file: &[u8]) -> Ends
     }
 }
 
-// The first cells of each table take the numbers of the file's periods; later cells stay.
+// The first cells of each table take the numbers of the file's periods; later cells stay. The tables come one by one, for the reason beside `tables::put`.
 fn fill(
     file: DayFile,
     demand: &mut [u16],
@@ -139,7 +139,7 @@ fn tests(file: DayFile, cells: usize, expected: Option<Stamp>) -> Result<(), Ref
 }
 
 // Reads a file: 10, 11, 12, then 20, 1, 6, 3. Accepted, the tables' first cells take the numbers of its periods, whose count is given,
-// with the day's ends.
+// with the day's ends. The tables come one by one, as those of `fill`.
 pub fn read(
     file: &[u8],
     demand: &mut [u16],

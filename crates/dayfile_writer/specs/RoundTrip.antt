@@ -1,4 +1,4 @@
--- The layout both ways: the file of a stamp and a day is laid out as the documents say and holds these (`file_layout`, `file_stamp`, `reads_back`),
+-- The layout both ways: the file of a stamp and a day is laid out as `Layout` says and holds these (`file_layout`, `file_stamp`, `reads_back`),
 -- and a file of bytes with a stamp that is laid out so is the file of the stamp and the day that it holds (`only_file`). Assumes nothing.
 use Rattle.std.specs.Prelude.{◌≡◌, refl, Bool, true, false, ◌&&◌, cond, List, [], ◌∷◌, ◌++◌, ℕ, zero, suc, ◌+◌, ◌/◌, ◌%◌, ◌≤◌, ◌<◌, eqb, ltb, length}
 use Rattle.std.specs.Prelude.{take, drop}
@@ -147,7 +147,7 @@ prefix s h e (suc k) l =
     cc (record_split s p (omega (arith, w.whole)), prefix s h e k (omega arith), record_bytes_lem s h k w, listed s k l) in
     more ∙ append_assoc (head_of (stamp_in s) (charge_in 0 s) (charge_in 2 s)) (records_of (day_in s) k) (record_of (day_in s) k)
 
--- a file with a stamp that is laid out as the documents say is the file of the stamp and the day that it holds
+-- a file with a stamp that is laid out as `Layout` says is the file of the stamp and the day that it holds
 pub only_file : (s : List ℕ) → Bytes s → is_stamped s ≡ true → Layout s (periods_in s) → s ≡ file_of (stamp_in s) (day_in s)
 only_file s h e w =
     let n = periods_in s in
@@ -367,7 +367,7 @@ module _ (t : Stamp) (d : Day) where
           inr (rw q at w.kind, rw limit (ltb-true v max_store q))
       go false q w = inl (rw q at w.kind)
 
-  -- and is laid out as the documents say
+  -- and is laid out as `Layout` says
   pub file_layout : Layout file (periods d)
   file_layout =
       let n = periods d in
