@@ -78,17 +78,13 @@ fn holds(day: Day<'_>, plan: &[u16], totals: Totals) -> bool {
 }
 
 // Of a call that refuses.
-fn count_refused(
-    refusal: Refusal,
-    plan: Option<Best>,
-    counts: &mut Counts,
-) -> Result<(), AllocError> {
+fn count_refused(refusal: Refusal, plan: Option<Best>, counts: &mut Counts) {
     match refusal {
         Refusal::Shortage(_) | Refusal::SurplusInventory => {
             counts.count_if(Seen::WithoutPlan, plan.is_none())
         }
         Refusal::LowStore(_) => counts.count(Seen::LowStore),
-        _ => Ok(()),
+        _ => (),
     }
 }
 
@@ -100,26 +96,26 @@ fn count_planned(
     earlier: Option<Given>,
     allowed: u64,
     counts: &mut Counts,
-) -> Result<(), AllocError> {
+) {
     let cost = totals.cost;
     let used = trials.used;
     let bound = cost.saturating_sub(trials.gap);
     let free = found.free.map(|free| free.totals.cost);
-    counts.count(Seen::Planned)?;
-    counts.count_if(Seen::Bound, free == Some(bound))?;
+    counts.count(Seen::Planned);
+    counts.count_if(Seen::Bound, free == Some(bound));
     counts.count_if(
         Seen::Between,
         found.plan.is_some_and(|plan| bound <= plan.totals.cost && plan.totals.cost <= cost),
-    )?;
+    );
     counts.count_if(
         Seen::GoesOn,
         goes_on(earlier, Given { cost, used }, allowed),
-    )?;
-    counts.count_if(Seen::Stops, used < allowed)?;
+    );
+    counts.count_if(Seen::Stops, used < allowed);
     counts.count_if(
         Seen::Cheaper,
         earlier.is_some_and(|earlier| cost < earlier.cost),
-    )
+    );
 }
 
 // One call; it gives what the next one is compared with.
@@ -133,24 +129,24 @@ fn call(
 ) -> Result<Option<Given>, AllocError> {
     let mut memory = Memory::new(alloc, call::sizes(14, 5))?;
     let outcome = call::run(day, &mut memory, allowed);
-    counts.count_if(Seen::Kept, outcome.kept)?;
+    counts.count_if(Seen::Kept, outcome.kept);
     let (totals, trials) = match outcome.answer {
         Ok(planned) => planned,
         Err(refusal) => {
-            count_refused(refusal, found.plan, counts)?;
+            count_refused(refusal, found.plan, counts);
             return Ok(earlier);
         }
     };
     let slots = memory.slots.as_slice();
-    counts.count_if(Seen::Holds, holds(day, slots, totals))?;
-    count_planned(totals, trials, found, earlier, allowed as u64, counts)?;
+    counts.count_if(Seen::Holds, holds(day, slots, totals));
+    count_planned(totals, trials, found, earlier, allowed as u64, counts);
     if allowed == 1 {
         let bound = Totals {
             cost: totals.cost.saturating_sub(trials.gap),
             setups: totals.setups,
         };
         let agrees = plain::agrees(found.free, day, Ok(bound), slots);
-        counts.count_if(Seen::First, agrees)?;
+        counts.count_if(Seen::First, agrees);
     }
     Ok(Some(Given {
         cost: totals.cost,
@@ -170,7 +166,7 @@ fn calls(
         plan: plain::search(day),
         free: plain::search(day.with_setup(&starts[..day.periods().min(4)])),
     };
-    counts.count_if(Seen::Plans, found.plan.is_some())?;
+    counts.count_if(Seen::Plans, found.plan.is_some());
     let mut earlier = None;
     for allowed in 1..=trials {
         earlier = call(alloc, day, found, earlier, allowed, counts)?;
@@ -181,7 +177,7 @@ fn calls(
 // Made-up days, laid out as those of the paths; the most trials allowed are in field 5.
 pub fn made_up<R: Print + AllocGlobal>(rt: &R, text: &str) -> io::Result<()> {
     let line = Line::new(text);
-    let mut counts = Counts::new(rt.alloc());
+    let mut counts = Counts::new();
     for tiny in days_of(line) {
         calls(rt.alloc(), tiny.day(), line.number(5), &mut counts)?;
     }

@@ -121,9 +121,9 @@ fn fare_of(alloc: Global, file: &[u8]) -> Result<Fare, AllocError> {
 
 // The file cut at each length.
 fn cut(alloc: Global, file: &[u8]) -> Result<Counts, AllocError> {
-    let mut counts = Counts::new(alloc);
+    let mut counts = Counts::new();
     for n in 0..file.len() {
-        counts.count(fare_of(alloc, &file[..n])?)?;
+        counts.count(fare_of(alloc, &file[..n])?);
     }
     Ok(counts)
 }
@@ -140,7 +140,7 @@ fn change_at(
     let was = file[at];
     for value in 0..=u8::MAX {
         file[at] = value;
-        counts.count(fare_of(alloc, file)?)?;
+        counts.count(fare_of(alloc, file)?);
     }
     file[at] = was;
     Ok(())
@@ -148,7 +148,7 @@ fn change_at(
 
 // With every value at each place.
 fn change(alloc: Global, file: &mut [u8]) -> Result<Counts, AllocError> {
-    let mut counts = Counts::new(alloc);
+    let mut counts = Counts::new();
     for at in 0..file.len() {
         change_at(alloc, file, at, &mut counts)?;
     }

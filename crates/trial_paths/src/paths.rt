@@ -1,4 +1,6 @@
 //! The four paths, in lent memory whose every cell holds the mark.
+ghost use Rattle.std.specs.Prelude.{◌≤◌};
+
 use day::{Day, Loads, Refusal, Sizes, Totals};
 use std::{fmt, io};
 use trial_text::cells::Memory;
@@ -39,24 +41,22 @@ impl fmt::Display for Path {
     }
 }
 
-// How many cells and slots a path needs.
-pub fn needed(path: Path, day: Day<'_>) -> Sizes {
-    let n = day.periods();
-    let rows = n.saturating_add(1);
-    let inventories = total(day).saturating_add(1);
+// How many cells and slots a path needs, of at most 128 periods.
+pub fn needed(path: Path, day: Day<'_>) -> Sizes
+    ensures { (result.costs ≤ 8196) × (result.choices ≤ 16785408) }
+{
+    let n = day.periods().min(128);
+    let inventories = total(day) + 1;
     let (costs, choices) = match path {
-        Path::Full => (inventories.saturating_mul(2), inventories.saturating_mul(n)),
-        Path::Uncapped => (rows, rows),
-        Path::Equal => (
-            rows.saturating_mul(6),
-            rows.saturating_mul(4).saturating_mul(rows),
-        ),
+        Path::Full => (2 * inventories, n * inventories),
+        Path::Uncapped => (n + 1, n + 1),
+        Path::Equal => (6 * (n + 1), 4 * (n + 1) * (n + 1)),
         Path::Free => (n, 0),
     };
     Sizes {
         costs,
         choices,
-        slots: n,
+        slots: day.periods(),
     }
 }
 

@@ -77,11 +77,11 @@ fn call(
     let outcome = paths::run(path, day, &mut memory);
     let answer = outcome.answer.map(|(totals, _)| totals);
     let agrees = plain::agrees(best, day, answer, memory.slots.as_slice());
-    counts.count_if(agreement(path), agrees)?;
-    counts.count_if(Seen::Kept, outcome.kept)?;
+    counts.count_if(agreement(path), agrees);
+    counts.count_if(Seen::Kept, outcome.kept);
     if let Err(refusal) = outcome.answer {
         if let Some(seen) = refused(refusal) {
-            counts.count(seen)?;
+            counts.count(seen);
         }
     }
     Ok(())
@@ -90,7 +90,7 @@ fn call(
 // The calls on one day.
 fn calls(alloc: Global, day: Day<'_>, counts: &mut Counts) -> Result<(), AllocError> {
     let best = plain::search(day);
-    counts.count_if(Seen::Plans, best.is_some())?;
+    counts.count_if(Seen::Plans, best.is_some());
     for path in Path::ALL {
         call(alloc, path, best, day, counts)?;
     }
@@ -121,7 +121,7 @@ pub fn days_of(line: Line<'_>) -> Days {
 
 // Made-up days; those of a trial named free have no setup cost.
 pub fn made_up<R: Print + AllocGlobal>(rt: &R, line: Line<'_>) -> io::Result<()> {
-    let mut counts = Counts::new(rt.alloc());
+    let mut counts = Counts::new();
     for mut tiny in days_of(line) {
         if line.name == "free" {
             tiny.setup = [0; 4];

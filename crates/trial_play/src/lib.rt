@@ -62,19 +62,19 @@ fn as_planned(flows: Flows, ends: Ends) -> bool {
 }
 
 // The search's plan of a day, against the day's needs and against others.
-fn compare(day: Day<'_>, other: &[u16], counts: &mut Counts) -> Result<(), AllocError> {
+fn compare(day: Day<'_>, other: &[u16], counts: &mut Counts) {
     let best = plain::search(day);
     let plan = best.map_or([0; 4], |best| best.plan);
-    counts.count_if(Seen::Plans, best.is_some())?;
+    counts.count_if(Seen::Plans, best.is_some());
     if let Ok(flows) = play::play(day, &plan, day.demand) {
         let right = balanced(flows, day.demand, day.ends) && as_planned(flows, day.ends);
-        counts.count_if(Seen::AsPlanned, right)?;
+        counts.count_if(Seen::AsPlanned, right);
     }
     match play::play(day, &plan, other) {
         Ok(flows) => {
-            counts.count_if(Seen::Balanced, balanced(flows, other, day.ends))?;
-            counts.count_if(Seen::Missed, 0 < flows.lost)?;
-            counts.count_if(Seen::Spilled, 0 < flows.disposed)
+            counts.count_if(Seen::Balanced, balanced(flows, other, day.ends));
+            counts.count_if(Seen::Missed, 0 < flows.lost);
+            counts.count_if(Seen::Spilled, 0 < flows.disposed);
         }
         Err(_) => counts.count_if(Seen::Unplayed, best.is_none()),
     }
@@ -84,11 +84,11 @@ fn compare(day: Day<'_>, other: &[u16], counts: &mut Counts) -> Result<(), Alloc
 pub fn made_up<R: Print + AllocGlobal>(rt: &R, text: &str) -> io::Result<()> {
     let days = days_of(Line::new(text));
     let kind = days.kind;
-    let mut counts = Counts::new(rt.alloc());
+    let mut counts = Counts::new();
     for tiny in days {
         let day = tiny.day();
         let other = kind.make_up(tiny.seed).demand;
-        compare(day, &other[..day.periods().min(4)], &mut counts)?;
+        compare(day, &other[..day.periods().min(4)], &mut counts);
     }
     println!(rt; "{text}{counts}")
 }

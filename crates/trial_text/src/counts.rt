@@ -1,41 +1,40 @@
 //! Counts.
-use std::alloc::{AllocError, Global};
-use std::collections::BTreeMap;
 use std::fmt;
 
-// How many there are of each kind. It is printed with the kinds' numbers.
+const KINDS: usize = 21;
+
+// How many there are of each kind, by the kind's number. It is printed with those numbers; a number past the last is not counted.
 #[derive(Drop)]
 pub struct Counts {
-    of: BTreeMap<u8, u64>,
+    of: [u64; KINDS],
 }
 
 impl Counts {
-    pub fn new(alloc: Global) -> Counts {
-        Counts {
-            of: BTreeMap::new(alloc),
-        }
+    pub fn new() -> Counts {
+        Counts { of: [0; KINDS] }
     }
 
     // One more of a kind.
-    pub fn count<K: Into<u8>>(&mut self, kind: K) -> Result<(), AllocError> {
-        let n = self.of.entry(kind.into())?.or_insert(0);
-        *n = n.saturating_add(1);
-        Ok(())
+    pub fn count<K: Into<u8>>(&mut self, kind: K) {
+        if let Some(n) = self.of.get_mut(usize::from(kind.into())) {
+            *n = n.saturating_add(1);
+        }
     }
 
     // Likewise, where it is one.
-    pub fn count_if<K: Into<u8> + Drop>(&mut self, kind: K, more: bool) -> Result<(), AllocError> {
+    pub fn count_if<K: Into<u8> + Drop>(&mut self, kind: K, more: bool) {
         if more {
-            self.count(kind)?;
+            self.count(kind);
         }
-        Ok(())
     }
 }
 
 impl fmt::Display for Counts {
     fn fmt<W: fmt::Write>(&self, f: &mut fmt::Formatter<W>) -> fmt::Result {
-        for (kind, n) in &self.of {
-            write!(f, " {kind}: {n}")?;
+        for (kind, n) in self.of.iter().enumerate() {
+            if *n > 0 {
+                write!(f, " {kind}: {n}")?;
+            }
         }
         Ok(())
     }

@@ -1,4 +1,6 @@
 //! Days, as lines give them.
+ghost use Rattle.std.specs.Prelude.{◌≤◌};
+
 use crate::cells::MARK;
 use crate::line::{Line, first, for_all, numbers};
 use day::{Day, Ends};
@@ -70,15 +72,25 @@ pub fn ends_of(line: Line<'_>) -> Ends {
     }
 }
 
+// The most that a sum of needs is taken as.
+const MANY: usize = 4097;
+
 // What a day makes in all; 0 where it begins with more than it needs. R + Z is taken as 4,097 where it is more than 4,096.
-pub fn total(day: Day<'_>) -> usize {
-    summed(day.demand)
-        .saturating_add(usize::from(day.ends.closing))
-        .min(4097)
+pub fn total(day: Day<'_>) -> usize
+    ensures { result ≤ 4097 }
+{
+    (summed(day.demand) + usize::from(day.ends.closing))
+        .min(MANY)
         .saturating_sub(usize::from(day.ends.opening))
 }
 
-// What a table needs in all.
-pub fn summed(demand: &[u16]) -> usize {
-    demand.iter().fold(0, |sum: usize, need| sum.saturating_add(usize::from(*need)))
+// What a table needs in all; 4,097 where it is more than 4,096.
+pub fn summed(demand: &[u16]) -> usize
+    ensures { result ≤ 4097 }
+{
+    let mut sum = 0;
+    for need in demand {
+        sum = (sum + usize::from(*need)).min(MANY);
+    }
+    sum
 }
