@@ -1,8 +1,8 @@
--- What the answer on a big day says (document 02, 2.10), over the call's contract.
+-- What the answer on a big day says, over the call's contract.
 -- Main statements: `best_keeps`, the plan keeps the conditions and costs what is said; `used_steps`, the trials used are the steps of the rule;
 -- `gap_exact`, `no_cheaper`, no plan is cheaper than cost less gap; `more_accepted`, `more_trials`, more trials are accepted
 -- too, and never give a dearer plan; `one_answer`, day and trials fix
--- the answer; `big_iff`, `big_short` (demand 2). Assumes nothing.
+-- the answer; `big_iff`, `big_short`. Assumes nothing.
 use Rattle.std.proofs.lemmas.Option.{none-some}
 use Rattle.std.specs.Prelude.{◌≡◌, refl, List, [], ◌∷◌, ◌++◌, ◌↔◌, ℕ, ◌-◌, ◌≤◌, ◌<◌, drop, None, Result, Ok, Err}
 use Rattle.std.proofs.Common.{sym, ap, ap₂, ◌∙◌, subst, arith, ne_eqb}
@@ -148,12 +148,12 @@ module _ (trials : ℕ) (d : Day) (m : Memory) (limits : DayLimits max_big_total
   only_short =
       rw (only_shortage big d m limits room (rw kind refl), ne_eqb trials 0 (λ e. omega arith)) (first_one (shortage d))
 
-  -- Demand 2: the answer is a plan exactly if some amounts keep the conditions.
+  -- The answer is a plan exactly if some amounts keep the conditions.
   pub big_iff : (r : Result (Totals × Trials) Refusal) (after : Memory) → Dropping trials d m r after → IsPlan r ↔ ((x : ℕ → ℕ) × Feasible d x)
   big_iff (Err q) after runs =
       (λ empty. absurd empty, λ w. none-some q (sym ((shortage_iff d (limits_fit limits)).1 w) ∙ (sym only_short ∙ gives_is runs.0)))
   big_iff (Ok (a, b)) after runs = (λ _. (at after.slots, (best_keeps trials d m after a b runs).0), λ _. tt)
 
-  -- Demand 2: otherwise it is refusal 7 with the first period for which no amounts up to it keep the conditions through it.
+  -- Otherwise it is refusal 7 with the first period for which no amounts up to it keep the conditions through it.
   pub big_short : (q : Refusal) (after : Memory) → Dropping trials d m (Err q) after → FirstShort d q
   big_short q after runs = shortage_names d (limits_fit limits) q (sym only_short ∙ gives_is runs.0)

@@ -1,4 +1,4 @@
-//! Big days, best so far (document 02, 2.10): trials by the rule of 2.3 with starts taken as free, each of which forbids one period more.
+//! Big days, best so far: trials by the greedy rule with starts taken as free, each of which forbids one period more.
 //! It tests, takes the net needs, writes the keys of the periods into its cost area, where their marks follow, makes the trials, whose best plan stands
 //! in the slots, and clears the area. The last of its 3 × n cells take part in the clearing alone.
 #![tactic(auto)]

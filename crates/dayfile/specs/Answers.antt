@@ -34,6 +34,14 @@ abbrev pub Lookup : Bor (List ℕ) → ℕ → Result (Bor (List ℕ)) Refusal �
 Lookup file i (Err r) = Gives (bad_lookup file.now i) r
 Lookup file i (Ok part) = (bad_lookup file.now i ≡ None) × BodyAt file (record_at file.now (i - 1)) part
 
+-- the part alone, which is empty where the lookup is refused
+abbrev pub PartOf : Option Refusal → Bor (List ℕ) → ℕ → Bor (List ℕ) → Type 0
+PartOf None file i r = BodyAt file (record_at file.now (i - 1)) r
+PartOf (Some refusal) file i r = r.now ≡ []
+
+abbrev pub HandsOut : Bor (List ℕ) → ℕ → Bor (List ℕ) → Type 0
+HandsOut file i r = PartOf (bad_lookup file.now i) file i r
+
 -- a lookup in figures: where the part begins in the file, counted from 0, and how long it is
 abbrev pub part_figures : Option Refusal → List ℕ → ℕ → Figures ℕ
 part_figures None s i = let p = record_at s (i - 1) in accepted_with ((p + 1) ∷ body_length (at s p) ∷ [])

@@ -3,7 +3,7 @@ ghost use Rattle.std.specs.Prelude.{◌≡◌};
 ghost use Rattle.day.specs.Refusals.{checked};
 ghost use Rattle.day.specs.Figures.{Checks, figures_by, refused_with};
 ghost use Rattle.day.specs.File.{no_such_period};
-ghost use Rattle.dayfile.specs.Answers.{bad_lookup, lookup_figures, part_values, Finds, Lookup};
+ghost use Rattle.dayfile.specs.Answers.{bad_lookup, lookup_figures, part_values, Finds, HandsOut, Lookup};
 
 use crate::file::DayFile;
 use crate::layout;
@@ -62,9 +62,19 @@ pub fn place(file: &[u8], period: usize) -> Result<Part, Refusal>
 }
 
 // The body itself: that very part of the file's bytes.
-pub fn body(file: &[u8], period: usize) -> Result<&[u8], Refusal>
+pub fn find(file: &[u8], period: usize) -> Result<&[u8], Refusal>
     ensures { Lookup file.entry period result }
 {
     let at = record(file, period)?;
     Ok(layout::body(file, at))
+}
+
+// Likewise; an empty part where `check` refuses.
+pub fn body(file: &[u8], period: usize) -> &[u8]
+    ensures { HandsOut file.entry period result }
+{
+    match find(file, period) {
+        Ok(body) => body,
+        Err(_) => &file[0..0],
+    }
 }

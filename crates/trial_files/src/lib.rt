@@ -174,7 +174,7 @@ fn read<R: Print + AllocGlobal>(
 
 // How long the part is that a lookup hands out, none where it is refused, with the demand and the store limit in it; and what the test of a lookup says.
 fn look(rt: &impl Print, file: &[u8], period: usize) -> io::Result<()> {
-    let body = dayfile::lookup::body(file, period).unwrap_or(&[]);
+    let body = dayfile::lookup::body(file, period);
     print!(rt; " bytes {}", body.len())?;
     if let Some(need) = body.get(1) {
         print!(rt; " need {need}")?;
