@@ -19,7 +19,8 @@ use Rattle.theory.specs.Store.{Loose}
 use Rattle.theory.proofs.Demands.{feasible_iff}
 use Rattle.theory.specs.Drops.{Stands}
 use Rattle.theory.proofs.Drops.{tried_stands, first_optimal, free_least}
-use Rattle.drops.specs.Standing.{state_in, Begun, Finished}
+use Rattle.rounds.specs.Turns.{state_in}
+use Rattle.drops.specs.Standing.{Begun, Finished}
 use Rattle.big.specs.Passed.{big_admitted, big_loose, big_trials}
 use Rattle.big.specs.Work.{TrialsAsk, TrialsGive, Answerable, answer_of}
 

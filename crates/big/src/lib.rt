@@ -40,7 +40,7 @@ fn answer(day: Day, first: &[u16], best: &[u16], used: usize) -> (Totals, Trials
     )
 }
 
-// The trials: their best plan, and trial 1's. How many they were.
+// The trials: their best plan, and trial 1's. How many they were. Cells and plans come one by one, for the reason beside `tables::put`.
 fn make_trials(
     day: Day,
     keys: &mut [u64],
@@ -53,6 +53,7 @@ fn make_trials(
     ensures { TrialsGive trials (lent_day day.entry) result first.new marks.new best.new }
 {
     let n = day.periods();
+    // There is no heap: of tables for the longest day the fronts.
     let mut need_table = [0u16; 96];
     let mut allowed_table = [0u16; 96];
     let mut plan_table = [0u16; 96];

@@ -1,9 +1,8 @@
 -- What the loop over the trials keeps. Main statements: `running_search`, what the search for the next period asks; `running_comes`, what the next trial
--- finds; `running_out`, where the trials are used up. Assumes nothing.
-use Rattle.std.proofs.Common.{◌≡◌, Some, sym, List, ℕ, ◌≤◌, arith, length}
-use Rattle.day.specs.Sums.{at}
+-- finds; `running_stops`, `running_out`, where the trials end. Assumes nothing.
+use Rattle.std.proofs.Common.{◌≡◌, Some, None, sym, List, ℕ, ◌≤◌, arith, length}
 use Rattle.day.specs.Day.{Day, periods}
-use Rattle.day.specs.Drops.{last_open, in_round, next, TriedIn}
+use Rattle.day.specs.Drops.{next, TriedIn}
 use Rattle.theory.proofs.Drops.{tried_stands, next_allowed}
 use Rattle.rounds.specs.declared.Turn.{Turn}
 use Rattle.rounds.specs.Turns.{turn_of}
@@ -26,8 +25,7 @@ module _ {d : Day} {net keys : List ℕ} (ready : IsReady d net keys) {trials : 
   pub running_search : s.ahead ≤ length marks
   running_search = omega (arith, w.held.marked, ahead_inside)
 
-  pub running_comes : (turn : Turn) → turn_of (Some turn) ≡ in_round (last_open (at marks) s.ahead) (last_open (at marks) (length marks)) s.dropped
-      → NextIs d marks best s turn
+  pub running_comes : (turn : Turn) → turn_of (Some turn) ≡ next (length marks) (state_of marks best s) → NextIs d marks best s turn
   running_comes turn is =
       let comes : next (periods d) (state_of marks best s) ≡ turn_of (Some turn) = sym (rw w.held.marked at is) in
       record {
@@ -36,7 +34,14 @@ module _ {d : Day} {net keys : List ℕ} (ready : IsReady d net keys) {trials : 
         comes = comes;
       }
 
-  -- where the trials are used up
+  -- where none comes, or the trials are used up
+  pub running_stops : None ≡ next (length marks) (state_of marks best s) → Finished d trials used marks best
+  running_stops is = record {
+    ahead = s.ahead;
+    dropped = s.dropped;
+    ended = record { tried = w.tried; allowed = w.within; stops = λ _. sym (rw w.held.marked at is) };
+  }
+
   pub running_out : trials ≤ used → Finished d trials trials marks best
   running_out out =
       let e : used ≡ trials = omega (arith, w.within) in

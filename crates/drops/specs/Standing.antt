@@ -5,15 +5,12 @@ use Rattle.day.specs.Sums.{at}
 use Rattle.day.specs.Day.{Day, periods}
 use Rattle.day.specs.Plan.{Feasible, cost}
 use Rattle.day.specs.Drops.{allowed, Tried, next, FirstTrial, NextTrial, Ended}
-use Rattle.rounds.specs.Turns.{turn_of}
+use Rattle.rounds.specs.Turns.{turn_of, state_in}
 use Rattle.rounds.specs.declared.Turn.{Turn}
 use Rattle.drops.specs.declared.Standing.{Standing}
 use Rattle.drops.specs.Trial.{Triable}
 
 -- the state of the trials: the marks, the best plan, and where the round stands
-abbrev pub state_in : (marks best : List ℕ) → (ahead : ℕ) (dropped : Bool) → Tried
-state_in marks best ahead dropped = record { marks = marks; plan = best; ahead = ahead; dropped = dropped }
-
 abbrev pub state_of : (marks best : List ℕ) → Standing → Tried
 state_of marks best s = state_in marks best s.ahead s.dropped
 

@@ -11,7 +11,8 @@ ghost use Rattle.day.specs.Plan.{cost};
 ghost use Rattle.day.specs.Drops.{starts_free, FirstTrial};
 ghost use Rattle.weigher.specs.Walk.{FeasiblePlan};
 ghost use Rattle.drops.specs.Trial.{Triable, Comes};
-ghost use Rattle.drops.specs.Standing.{state_in, Held, NextIs, Stepped, Startable, Begun, Finished};
+ghost use Rattle.rounds.specs.Turns.{state_in};
+ghost use Rattle.drops.specs.Standing.{Held, NextIs, Stepped, Startable, Begun, Finished};
 
 use day::Day;
 use greedy::Offers;
@@ -38,20 +39,12 @@ pub fn free_cost(day: Day, plan: &[u16]) -> u64
     ensures { result ≡ cost (starts_free day.entry.capacity.now (lent_day day.entry)) (at plan.now) }
 {
     let starts = [0u32; 96];
-    let free = Day::new(
-        day.demand,
-        day.capacity,
-        &starts[..day.periods()],
-        day.unit,
-        day.holding,
-        day.store,
-        day.ends,
-    );
+    let free = day.with_setup(&starts[..day.periods()]);
     weigher::totals(free, plan).cost
 }
 
-// Trial 1: all periods are allowed. There is a plan, since no period is short. Capacities, marks and plans come one by one: of a struct of `&mut` slices
-// each call would have to say, field by field, that it hands the same references back.
+// Trial 1: all periods are allowed. There is a plan, since no period is short. Capacities, marks and plans come one by one, for the reason beside
+// `tables::put`.
 pub fn begin(
     ready: Ready,
     allowed: &mut [u16],

@@ -1,4 +1,4 @@
-//! The free path: the greedy rule (report, section 4), for days without setup cost whose stores can't bind.
+//! The free path: the greedy rule, for days without setup cost whose stores can't bind.
 //! It tests, takes the net needs and the rates, writes the keys of the periods into its cost area, serves the needs in turn, clears the area, and
 //! weighs the plan.
 #![tactic(auto)]
@@ -15,7 +15,8 @@ use day::{Day, PathKind, Refusal, Sizes, Totals};
 use greedy::Offers;
 use theory::Problem;
 
-// The plan into the slots: where no period is short, every need finds its capacity. What is left in the first n cost cells is free.
+// The plan into the slots: where no period is short, every need finds its capacity. What is left in the first n cost cells is free. The areas come one
+// by one, for the reason beside `tables::put`.
 fn solve(p: Problem, costs: &mut [u64], slots: &mut [u16])
     requires { Solvable (lent_problem p) (memory_of costs.old [] slots.old) }
     ensures { Solved (lent_problem p.entry) (cells_before costs slots) (cells_after costs slots) }
@@ -35,6 +36,7 @@ fn work(day: Day, costs: &mut [u64], slots: &mut [u16]) -> Totals
     ensures { Accepted free (lent_day day.entry) result (cells_before costs slots) (cells_after costs slots) }
 {
     let n = day.periods();
+    // There is no heap: of tables for the longest day the fronts.
     let mut need_table = [0u16; 96];
     let mut rate_table = [0u32; 96];
     let net = &mut need_table[..n];

@@ -1,4 +1,4 @@
-//! The greedy rule of the free path (report, section 4): the needs in turn, each in batches from the period that is best for it.
+//! The greedy rule of the free path: the needs in turn, each in batches from the period that is best for it.
 //! A batch ends the need or fills a period, so there are at most twice as many batches as periods, each found in one pass.
 #![tactic(auto)]
 
@@ -15,9 +15,10 @@ pub fn keys(unit: &[u32], holding: &[u32], cells: &mut [u64])
     ensures { Keyed unit.now holding.now cells.old cells.new }
 {
     let mut held: u64 = 0;
+    // By index: of cells that `iter_mut` lends to a `zip` nothing is known afterwards.
     for k in (0..unit.len()).rev() {
-        held += holding[k] as u64;
-        cells[k] = (unit[k] as u64) + held;
+        held += u64::from(holding[k]);
+        cells[k] = u64::from(unit[k]) + held;
     }
 }
 
@@ -44,6 +45,7 @@ fn serve(from: Offers, slots: &mut [u16], d: usize, need: u16) -> Option<()>
     ensures { Told result (serve (at from.entry.keys.now) (at from.entry.capacity.now) d need slots.old) slots.new }
 {
     let mut left = need;
+    // Not over a range: a batch ends the need or fills a period.
     while 0 < left {
         let k = source(from, slots, d)?;
         let batch = left.min(from.capacity[k] - slots[k]);

@@ -1,15 +1,19 @@
 -- What the search for the next period answers, as the rule's definition has it, and laws of the search.
--- Main definition: `turn_of`. Main statements: `open_here`, `open_below`, one period down; `open_front`, the search looks at the marks of its periods
+-- Main definitions: `turn_of`, `state_in`. Main statements: `open_here`, `open_below`, one period down; `open_front`, the search looks at the marks of its periods
 -- alone. Assumes nothing.
-use Rattle.std.specs.Prelude.{◌≡◌, refl, Option, Some, None, List, ℕ, zero, suc, ◌≤◌, ◌<◌, length, take}
+use Rattle.std.specs.Prelude.{◌≡◌, refl, Bool, Option, Some, None, List, ℕ, zero, suc, ◌≤◌, ◌<◌, length, take}
 use Rattle.std.proofs.Common.{ap, ap₂, ◌∙◌, arith, length-take-le, get_or-take}
 use Rattle.day.specs.Sums.{at}
-use Rattle.day.specs.Drops.{Turn, open_at, last_open}
+use Rattle.day.specs.Drops.{Turn, Tried, open_at, last_open}
 use Rattle.rounds.specs.declared.Turn as coming
 
 abbrev pub turn_of : Option coming.Turn → Option Turn
 turn_of (Some t) = Some (record { period = t.period; dropped = t.dropped })
 turn_of None = None
+
+-- the state that marks and a plan make, with where the round stands
+abbrev pub state_in : (marks plan : List ℕ) → (ahead : ℕ) (dropped : Bool) → Tried
+state_in marks plan ahead dropped = record { marks = marks; plan = plan; ahead = ahead; dropped = dropped }
 
 -- one period down
 pub open_here : (marks : ℕ → ℕ) (k j : ℕ) → k ≡ suc j → marks j ≡ 0 → Some j ≡ last_open marks k

@@ -1,10 +1,10 @@
 //! Which period the next trial of a big day forbids. A mark says of each period whether it is forbidden: 0 where it is allowed.
 #![tactic(auto)]
 
-ghost use Rattle.std.specs.Prelude.{◌≡◌, ◌≤◌, length};
+ghost use Rattle.std.specs.Prelude.{◌≡◌, List, ℕ, ◌≤◌, length};
 ghost use Rattle.day.specs.Sums.{at};
-ghost use Rattle.day.specs.Drops.{last_open, another_round, in_round};
-ghost use Rattle.rounds.specs.Turns.{turn_of};
+ghost use Rattle.day.specs.Drops.{last_open, another_round, next};
+ghost use Rattle.rounds.specs.Turns.{turn_of, state_in};
 
 // The last allowed period.
 fn last_open(marks: &[u64]) -> Option<usize>
@@ -38,8 +38,7 @@ fn another(marks: &[u64], dropped: bool) -> Option<Turn>
 #[tactic(auto, using(crate::specs::Turns::open_front))]
 pub fn next(marks: &[u64], ahead: usize, dropped: bool) -> Option<Turn>
     requires { ahead ≤ length marks.now }
-    ensures { turn_of result
-        ≡ in_round (last_open (at marks.now) ahead) (last_open (at marks.now) (length marks.now)) dropped }
+    ensures { (plan : List ℕ) → turn_of result ≡ next (length marks.now) (state_in marks.now plan ahead dropped) }
 {
     match last_open(&marks[..ahead]) {
         Some(period) => Some(Turn { period, dropped }),

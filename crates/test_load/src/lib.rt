@@ -47,9 +47,9 @@ fn draw(seed: u32) -> Drawn
         entries: Entries {
             demand: upper(a) % 41,
             capacity: upper(b) % 61,
-            setup: (upper(c) % 30001) as u32,
-            unit: (upper(d) % 1201) as u32,
-            holding: (upper(e) % 21) as u32,
+            setup: u32::from(upper(c) % 30001),
+            unit: u32::from(upper(d) % 1201),
+            holding: u32::from(upper(e) % 21),
             store: u16::MAX,
         },
         seed: e,
