@@ -1,0 +1,2 @@
+-- What an accepted writing tells the program.
+pub mod Accepted
