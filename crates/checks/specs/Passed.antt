@@ -39,6 +39,11 @@ pub record Readable (d : Day) : Type 0 where
   pub few : periods d ≤ max_periods
   pub lengths : SameLengths d
 
+-- and what they hold over the day can be made: A is at most R + Z
+pub record Balanced (d : Day) : Type 0 where
+  pub readable : Readable d
+  pub used : d.opening ≤ required d
+
 -- the values of period k + 1 are within their limits
 pub record Within (d : Day) (k : ℕ) : Type 0 where
   pub demand : at d.demand k ≤ max_demand

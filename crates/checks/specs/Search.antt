@@ -1,10 +1,14 @@
--- A loop that looks for the first period in which a test holds: what it knows, a turn, what it answers there and at its end.
+-- A search for the first period in which a test holds: as a loop, what it knows, a turn, what it answers there and at its end; by the library.
 -- Assumes nothing.
-use Rattle.std.specs.Prelude.{◌≡◌, refl, Bool, true, false, ℕ, ◌+◌, ◌≤◌, ◌<◌, None, Some, Ok, Err}
-use Rattle.std.proofs.Common.{add-one, arith}
+use Rattle.std.specs.Prelude.{◌≡◌, refl, Bool, true, false, List, ℕ, ◌+◌, ◌≤◌, ◌<◌, length, get_or, Option, None, Some, Ok, Err}
+use Rattle.std.specs.List.{list_any, position}
+use Rattle.std.proofs.Common.{ap, subst, ◌∙◌, add-one, arith, le-ltb, lt-ltb}
+use Rattle.std.proofs.lemmas.List.{get_or_default}
+use Rattle.std.proofs.lemmas.List.Folds.{list_any_at, list_any_none}
+use Rattle.std.proofs.lemmas.List.Sums.{position_or_len_is}
 use Rattle.day.specs.declared.Refusal.{Refusal}
-use Rattle.day.specs.Find.{find, find_none, find_here}
-use Rattle.day.specs.Refusals.{refuse_at, checked}
+use Rattle.day.specs.Find.{find, find_none, find_here, none_found, some_found}
+use Rattle.day.specs.Refusals.{refuse, refuse_at, anywhere, checked}
 
 -- of n periods the first i have been passed, and the test holds in none of these
 pub record Searched (P : ℕ → Bool) (n i : ℕ) : Type 0 where
@@ -28,3 +32,27 @@ module _ {P : ℕ → Bool} {n i : ℕ} (s : Searched P n i) where
 
   pub passed_all : (r : ℕ → Refusal) → n ≤ i → Ok tt ≡ checked (refuse_at r (find P n))
   passed_all r h = rw (searched_all h) refl
+
+-- The library's searches over as many values as there are indices, where its test at value k says what P says of k
+module _ {B : Type 0} (P : ℕ → Bool) (test : B → Bool) (xs : List B) (x : B) (same : (k : ℕ) → k < length xs → test (get_or xs k x) ≡ P k) where
+  -- what `position` finds is the first
+  pub find_position : {n : ℕ} → length xs ≡ n → find P n ≡ position test xs
+  find_position long = subst (λ n. find P n ≡ position test xs) long (go (find P (length xs)) refl)
+    where
+      failing : (i : ℕ) → i ≤ (length xs) → find P i ≡ None → (k : ℕ) → k < i → test (get_or xs k x) ≡ false
+      failing i h e k l = same k (omega arith) ∙ none_found P i e k l
+
+      go : (o : Option ℕ) → find P (length xs) ≡ o → o ≡ position test xs
+      go None e = let all = position_or_len_is test xs (length xs) x (omega arith) (failing (length xs) (omega arith) e) (λ l. absurd (omega arith)) in rw (all, le-ltb (length xs) (length xs) (omega arith)) refl
+      go (Some i) e =
+          let f = some_found P (length xs) i e in
+          let here = position_or_len_is test xs i x (omega (arith, f.inside)) (λ k l. same k (omega (arith, f.inside)) ∙ f.first k l) (λ l. same i l ∙ f.passes) in
+          rw (here, lt-ltb i (length xs) f.inside) refl
+
+  -- and `any` says whether there is one
+  pub find_any : (r : Refusal) → {n : ℕ} → length xs ≡ n → refuse (list_any test xs) r ≡ anywhere (find P n) r
+  find_any r long = subst (λ n. refuse (list_any test xs) r ≡ anywhere (find P n) r) long (go (find P (length xs)) refl)
+    where
+      go : (o : Option ℕ) → find P (length xs) ≡ o → refuse (list_any test xs) r ≡ anywhere o r
+      go None e = rw (list_any_none test xs (λ k d l. ap test (get_or_default xs k d x l) ∙ same k l ∙ none_found P (length xs) e k l)) refl
+      go (Some i) e = let f = some_found P (length xs) i e in rw (list_any_at test xs i x f.inside (same i f.inside ∙ f.passes)) refl

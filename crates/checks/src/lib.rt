@@ -62,12 +62,10 @@ pub fn values(day: Day) -> Result<(), Refusal>
     requires { Readable (lent_day day) }
     ensures { result ≡ checked (bad_value (lent_day day.entry)) }
 {
-    for i in 0..day.periods() {
-        if above(day.entries(i)) {
-            return Err(Refusal::AboveLimit((i + 1) as u16));
-        }
+    match (0..day.periods()).position(|i| above(day.entries(i))) {
+        Some(i) => Err(Refusal::AboveLimit((i + 1) as u16)),
+        None => Ok(()),
     }
-    Ok(())
 }
 
 // 1, 2, 3, which open every call on tables
@@ -84,7 +82,7 @@ pub fn summed(table: &[u16]) -> u64
     requires { length table.now ≤ max_periods }
     ensures { Term (sum_to (at table.now) (length table.now)) (max_periods * max_capacity) result }
 {
-    table.iter().map(|r| *r as u64).sum()
+    table.iter().map(|r| u64::from(*r)).sum()
 }
 
 // R + Z
@@ -92,7 +90,7 @@ pub fn required(day: Day) -> u64
     requires { periods (lent_day day) ≤ max_periods }
     ensures { Term (required (lent_day day.entry)) max_sum result }
 {
-    summed(day.demand) + (day.ends.closing as u64)
+    summed(day.demand) + u64::from(day.ends.closing)
 }
 
 // T, what is made over the day
@@ -101,7 +99,7 @@ pub fn total(day: Day) -> u64
     requires opening_bound { day.ends.opening ≤ required (lent_day day) }
     ensures { Term (total (lent_day day.entry)) max_sum result }
 {
-    required(day) - (day.ends.opening as u64)
+    required(day) - u64::from(day.ends.opening)
 }
 
 // 4, 14: R + Z is not above the call's limit, nor A above R + Z
@@ -113,7 +111,7 @@ pub fn totals(day: Day, limit: u64) -> Result<(), Refusal>
     if limit < required {
         return Err(Refusal::TotalDemand);
     }
-    if required < (day.ends.opening as u64) {
+    if required < u64::from(day.ends.opening) {
         return Err(Refusal::SurplusInventory);
     }
     Ok(())
@@ -133,7 +131,7 @@ pub fn due(demanded: u64, closing: u16, last: bool) -> u64
     ensures { result ≡ due_of last demanded closing }
 {
     if last {
-        return demanded + (closing as u64);
+        return demanded + u64::from(closing);
     }
     demanded
 }
@@ -143,5 +141,5 @@ pub fn net_to(demanded: u64, last: bool, ends: Ends) -> u64
     requires { demanded < 2 ^ 24 }
     ensures { result ≡ due_of last demanded ends.closing - ends.opening }
 {
-    due(demanded, ends.closing, last).saturating_sub(ends.opening as u64)
+    due(demanded, ends.closing, last).saturating_sub(u64::from(ends.opening))
 }

@@ -205,14 +205,14 @@ pub struct Sizes {
 }
 
 // The station and the day that a file is for, in days since 1 January 2000 (operators say: the pair).
-#[derive(Clone, Copy)]
+#[derive(Clone, Copy, PartialEq, Eq)]
 pub struct Stamp {
     pub station: u16,
     pub date: u16,
 }
 
 // A plan's cost and its setups (operators say: starts).
-#[derive(Clone, Copy)]
+#[derive(Clone, Copy, PartialEq, Eq)]
 pub struct Totals {
     pub cost: u64,
     pub setups: u64,

@@ -18,7 +18,7 @@ use Rattle.weigher.specs.Verdict.{totals_of}
 use Rattle.weigher.specs.Walk.{FeasiblePlan, path_plan}
 use Rattle.theory.specs.Problem.{Problem, model_of}
 use Rattle.theory.specs.Problem as Problem
-use Rattle.theory.specs.Net.{NetTables, problem_by, problem_of, periods_is, bounded, problem_is}
+use Rattle.theory.specs.Net.{problem_of, periods_is, bounded}
 use Rattle.theory.specs.Store.{Loose}
 use Rattle.theory.proofs.Store.{loose_supplied}
 use Rattle.theory.proofs.Loose.{limits_loose}
@@ -65,15 +65,12 @@ module _ (d : Day) (m : Memory) (ok : Admitted equal d (sizes_of m)) (n : ℕ) (
   choices_inside : r.choices ≤ length m.choices
   choices_inside = omega (arith, needed.choices, ok.room.choices)
 
-  -- The net needs and the rates as they were filled in.
-  module _ (net rates : List ℕ) (filled : NetTables d net rates) where
-    abbrev p : Problem
-    p = problem_by net rates d
-
+  -- The problem as it was made.
+  module _ {p : Problem} (made : p ≡ problem_of d) where
     pub solvable : Solvable p (areas (front r.costs m.costs) (front r.choices m.choices)) (front n m.slots)
     solvable =
         let size = periods_is d in
-        rw (problem_is d filled)
+        rw (made)
         (record {
           constant = record {
             bounded = bounded d ok.day;
@@ -95,7 +92,7 @@ module _ (d : Day) (m : Memory) (ok : Admitted equal d (sizes_of m)) (n : ℕ) (
       same k h = sym (get_or-append slots _ 0 k (omega (arith, size, front_length n m.slots slots_inside, periods_is d)))
 
       found_net : PlanFound (problem_of d) slots
-      found_net = subst (λ (q : Problem). PlanFound q slots) (problem_is d filled) found
+      found_net = subst (λ (q : Problem). PlanFound q slots) (made) found
 
       slots_optimal : Optimal d (at slots')
       slots_optimal =

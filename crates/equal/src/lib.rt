@@ -13,6 +13,7 @@ ghost use Rattle.equal_rows.specs.Rows.{areas};
 ghost use Rattle.equal.specs.Solved.{Solvable, PlanFound};
 
 use day::{Day, Loads, PathKind, Refusal, Sizes, Totals};
+use net::Tables;
 use theory::Problem;
 
 // The plan into the slots. Where nothing can be made, nothing is demanded. What is left in the areas is free.
@@ -40,18 +41,8 @@ fn work(day: Day, costs: &mut [u64], choices: &mut [u16], slots: &mut [u16]) -> 
         (memory_after costs choices slots) }
 {
     let n = day.periods();
-    let mut need_table = [0u16; 96];
-    let mut rate_table = [0u32; 96];
-    let net = &mut need_table[..n];
-    let rates = &mut rate_table[..n];
-    net::fill(day, net, rates);
-    let p = Problem {
-        demand: net,
-        capacity: day.capacity,
-        setup: day.setup,
-        unit: day.unit,
-        holding: rates,
-    };
+    let mut tables = Tables::new();
+    let p = tables.problem(day);
     let needed = path_checks::cells(PathKind::Equal, n, 0);
     let cost_cells = needed.costs;
     let choice_cells = needed.choices;

@@ -15,8 +15,8 @@ use Rattle.checks.specs.Passed.{Admitted, free_passed}
 use Rattle.weigher.specs.Verdict.{totals_of}
 use Rattle.weigher.specs.Walk.{FeasiblePlan, path_plan}
 use Rattle.theory.specs.Model.{Model}
-use Rattle.theory.specs.Problem.{periods, model_of, model_rising, model_unlimited}
-use Rattle.theory.specs.Net.{net_needs, NetTables, problem_by, problem_of, problem_is, periods_is, bounded}
+use Rattle.theory.specs.Problem.{Problem, periods, model_of, model_rising, model_unlimited}
+use Rattle.theory.specs.Net.{net_needs, problem_of, periods_is, bounded}
 use Rattle.theory.specs.Store.{Loose}
 use Rattle.theory.proofs.Loose.{limits_loose}
 use Rattle.theory.proofs.Store.{loose_supplied}
@@ -44,12 +44,12 @@ module _ (d : Day) (m : Memory) (ok : Admitted free d (sizes_of m)) where
   room : n ≤ length m.slots
   room = omega (arith, periods_is d, ok.room.slots)
 
-  -- The net needs and the rates as they were filled in.
-  module _ (net rates : List ℕ) (filled : NetTables d net rates) where
-    pub solvable : Solvable (problem_by net rates d) m
+  -- The problem as it was made.
+  module _ {p : Problem} (made : p ≡ problem_of d) where
+    pub solvable : Solvable p m
     solvable =
         let b = bounded d ok.day in
-        rw (problem_is d filled)
+        rw (made)
         (record {
           few = b.few;
           capacities = b.capacities;
@@ -62,9 +62,9 @@ module _ (d : Day) (m : Memory) (ok : Admitted free d (sizes_of m)) where
         })
 
     -- The memory once the plan is found.
-    module _ (after : Memory) (found : Solved (problem_by net rates d) m after) where
+    module _ (after : Memory) (found : Solved p m after) where
       left : Solved (problem_of d) m after
-      left = rw (problem_is d filled) at found
+      left = rw (made) at found
 
       plan : Filled M n (cleared n m.slots) after.slots
       plan =

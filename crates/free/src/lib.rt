@@ -13,6 +13,7 @@ ghost use Rattle.free.specs.Solved.{Solvable, Solved};
 
 use day::{Day, PathKind, Refusal, Sizes, Totals};
 use greedy::Offers;
+use net::Tables;
 use theory::Problem;
 
 // The plan into the slots: where no period is short, every need finds its capacity. What is left in the first n cost cells is free. The areas come one
@@ -36,19 +37,8 @@ fn work(day: Day, costs: &mut [u64], slots: &mut [u16]) -> Totals
     ensures { Accepted free (lent_day day.entry) result (cells_before costs slots) (cells_after costs slots) }
 {
     let n = day.periods();
-    // There is no heap: of tables for the longest day the fronts.
-    let mut need_table = [0u16; 96];
-    let mut rate_table = [0u32; 96];
-    let net = &mut need_table[..n];
-    let rates = &mut rate_table[..n];
-    net::fill(day, net, rates);
-    let p = Problem {
-        demand: net,
-        capacity: day.capacity,
-        setup: day.setup,
-        unit: day.unit,
-        holding: rates,
-    };
+    let mut tables = Tables::new();
+    let p = tables.problem(day);
     solve(p, costs, slots);
     costs[..n].fill(0);
     weigher::totals(day, slots)

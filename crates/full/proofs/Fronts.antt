@@ -15,7 +15,7 @@ use Rattle.path_checks.specs.Needed.{NeededBy}
 use Rattle.weigher.specs.Verdict.{totals_of}
 use Rattle.weigher.specs.Walk.{FeasiblePlan, path_plan}
 use Rattle.theory.specs.Problem.{Problem, periods}
-use Rattle.theory.specs.Net.{NetTables, problem_by, limits_fit, periods_is, total_is, bounded, problem_is}
+use Rattle.theory.specs.Net.{problem_of, limits_fit, periods_is, total_is, bounded}
 use Rattle.theory.specs.Store.{ceiling_at, ceilings_of}
 use Rattle.theory.proofs.Store.{ceiling_is, passes_covered}
 use Rattle.theory.proofs.Base.{store_optimal}
@@ -59,12 +59,12 @@ module _ {p : Problem} {U : List ℕ} {T : ℕ} {c : Needed} {m : Memory} (w : W
           choices = drop-append-drop c.choices m.choices front' c.choices (omega arith) (size' ∙ lent');
         })
 
-module _ {d : Day} {m : Memory} {net rates ceilings : List ℕ} (a : Admitted full d (sizes_of m)) (filled : NetTables d net rates)
+module _ {d : Day} {m : Memory} {p : Problem} {ceilings : List ℕ} (a : Admitted full d (sizes_of m)) (made : p ≡ problem_of d)
     (under : ceilings ≡ ceilings_of d) where
-  pub workable : {T : ℕ} {c : Needed} → T ≡ Day.total d → NeededBy full (Day.periods d) T c → Workable (problem_by net rates d) ceilings T c m
+  pub workable : {T : ℕ} {c : Needed} → T ≡ Day.total d → NeededBy full (Day.periods d) T c → Workable p ceilings T c m
   workable t n =
       let e = periods_is d in
-      rw (problem_is d filled, under)
+      rw (made, under)
       (record {
         fillable = record {
           bounded = bounded d a.day;
@@ -79,11 +79,11 @@ module _ {d : Day} {m : Memory} {net rates ceilings : List ℕ} (a : Admitted fu
         needed = rw e n;
       })
 
-  module _ {c : Needed} {after : Memory} (left : PlanLeft (problem_by net rates d) ceilings c m after)
+  module _ {c : Needed} {after : Memory} (left : PlanLeft p ceilings c m after)
       (size : length after.slots ≡ length m.slots) where
     left_optimal : Optimal d (at after.slots)
     left_optimal =
-        (store_optimal d (limits_fit a.day) (λ k l. (a.supplied k l).room) (at after.slots)).1 (rw (problem_is d filled, under) at left).plan
+        (store_optimal d (limits_fit a.day) (λ k l. (a.supplied k l).room) (at after.slots)).1 (rw (made, under) at left).plan
 
     pub left_feasible : FeasiblePlan d after.slots
     left_feasible = path_plan a size left_optimal.feasible
@@ -97,7 +97,7 @@ module _ {d : Day} {m : Memory} {net rates ceilings : List ℕ} (a : Admitted fu
           plan = left_optimal;
           counts = rw e refl;
           size = size;
-          rest = rw (periods_is d) at (rw (problem_is d filled) at left).slots;
+          rest = rw (periods_is d) at (rw (made) at left).slots;
           costs = rw (n.costs, t) at (rw left.costs at costs);
           choices = rw (n.choices, t) at (rw left.choices at choices);
         }

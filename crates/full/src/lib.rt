@@ -9,6 +9,7 @@ ghost use Rattle.theory.specs.Problem.{lent_problem};
 ghost use Rattle.full.specs.Work.{Workable, PlanLeft};
 
 use day::{Day, PathKind, Refusal, Sizes, Totals};
+use net::Tables;
 use path_checks::Needed;
 use theory::Problem;
 
@@ -47,21 +48,12 @@ pub fn work(day: Day, costs: &mut [u64], choices: &mut [u16], slots: &mut [u16])
     let n = day.periods();
     let total = checks::total(day) as usize;
     let needed = path_checks::cells(PathKind::Full, n, total);
-    let mut need_table = [0u16; 96];
-    let mut rate_table = [0u32; 96];
+    let mut tables = Tables::new();
+    let p = tables.problem(day);
+    // There is no heap: of a table for the longest day the front.
     let mut ceiling_table = [0u16; 96];
-    let net = &mut need_table[..n];
-    let rates = &mut rate_table[..n];
     let ceilings = &mut ceiling_table[..n];
-    net::fill(day, net, rates);
     net::fill_ceilings(day, ceilings);
-    let p = Problem {
-        demand: net,
-        capacity: day.capacity,
-        setup: day.setup,
-        unit: day.unit,
-        holding: rates,
-    };
     fill_and_read(p, ceilings, costs, choices, slots, total, needed);
     costs[..needed.costs].fill(0);
     choices[..needed.choices].fill(0);

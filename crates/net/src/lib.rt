@@ -6,10 +6,12 @@
 ghost use Rattle.std.specs.Prelude.{◌≡◌, ◌≤◌, length};
 ghost use Rattle.day.specs.Day.{periods, required};
 ghost use Rattle.day.specs.Lent.{lent_day};
-ghost use Rattle.theory.specs.Net.{net_needs, rates_of, NetFits, HalfRates, NetTables};
+ghost use Rattle.theory.specs.Net.{net_needs, rates_of, NetFits, HalfRates, NetTables, problem_of};
+ghost use Rattle.theory.specs.Problem.{lent_problem};
 ghost use Rattle.theory.specs.Store.{ceilings_of};
 
 use day::Day;
+use theory::Problem;
 
 // The net need of every period.
 fn fill_needs(day: Day, net: &mut [u16])
@@ -21,7 +23,7 @@ fn fill_needs(day: Day, net: &mut [u16])
     let mut demanded: u64 = 0;
     let mut made: u64 = 0;
     for i in 0..n {
-        demanded += day.demand[i] as u64;
+        demanded += u64::from(day.demand[i]);
         let next = checks::net_to(demanded, i + 1 == n, day.ends);
         net[i] = (next - made) as u16;
         made = next;
@@ -53,6 +55,43 @@ pub fn fill(day: Day, net: &mut [u16], rates: &mut [u32])
     fill_rates(day.holding, rates);
 }
 
+// The cells in which the net needs and the rates of a day stand: there is no heap, so of tables for the longest day the fronts.
+pub struct Tables {
+    net: [u16; 96],
+    rates: [u32; 96],
+}
+
+impl Tables {
+    // What they hold is free: `problem` fills what is read.
+    pub fn new() -> Tables {
+        Tables {
+            net: [0; 96],
+            rates: [0; 96],
+        }
+    }
+
+    // The problem that the loops run on, of a day whose holding costs are as many as its periods.
+    pub fn problem<'a>(&'a mut self, day: Day<'a>) -> Problem<'a>
+        requires holding_len { length day.holding.now ≡ periods (lent_day day) }
+        requires net_fits { NetFits (lent_day day) }
+        requires half_rates { HalfRates day.holding.now }
+        ensures { lent_problem result ≡ problem_of (lent_day day.entry) }
+    {
+        let n = day.periods();
+        let Tables { net, rates } = self;
+        let net = &mut net[..n];
+        let rates = &mut rates[..n];
+        fill(day, net, rates);
+        Problem {
+            demand: net,
+            capacity: day.capacity,
+            setup: day.setup,
+            unit: day.unit,
+            holding: rates,
+        }
+    }
+}
+
 // The most that may have been made after every period: R + s − A, and never more than T.
 pub fn fill_ceilings(day: Day, ceilings: &mut [u16])
     requires ceilings_len { length ceilings.old ≡ periods (lent_day day) }
@@ -62,11 +101,11 @@ pub fn fill_ceilings(day: Day, ceilings: &mut [u16])
     ensures { ceilings.new ≡ ceilings_of (lent_day day.entry) }
 {
     let total = checks::total(day);
-    let opening = day.ends.opening as u64;
+    let opening = u64::from(day.ends.opening);
     let mut demanded: u64 = 0;
     for i in 0..day.periods() {
-        demanded += day.demand[i] as u64;
-        let limit = demanded + (day.store[i] as u64);
+        demanded += u64::from(day.demand[i]);
+        let limit = demanded + u64::from(day.store[i]);
         ceilings[i] = total.min(limit.saturating_sub(opening)) as u16;
     }
 }

@@ -7,7 +7,7 @@ ghost use Rattle.day.specs.Lent.{lent_day};
 ghost use Rattle.day.specs.Refusals.{checked, first, bad_areas, bad_slots, shortage, unequal, binding, paid_setup, low_store};
 ghost use Rattle.day.specs.Outcome.{path_tests, refusal};
 ghost use Rattle.day.specs.Paths.{path_of};
-ghost use Rattle.checks.specs.Passed.{Readable};
+ghost use Rattle.checks.specs.Passed.{Readable, Balanced};
 ghost use Rattle.path_checks.specs.Needed.{NeededBy};
 
 use day::{Day, PathKind, Refusal, Sizes};
@@ -51,13 +51,13 @@ pub fn shortage(day: Day) -> Result<(), Refusal>
     ensures { result ≡ checked (shortage (lent_day day.entry)) }
 {
     let n = day.periods();
-    let opening = day.ends.opening as u64;
+    let opening = u64::from(day.ends.opening);
     let mut demanded: u64 = 0;
     let mut most: u64 = 0;
     for i in 0..n {
-        demanded += day.demand[i] as u64;
-        let limit = demanded + (day.store[i] as u64);
-        most = (most + (day.capacity[i] as u64)).min(limit.saturating_sub(opening));
+        demanded += u64::from(day.demand[i]);
+        let limit = demanded + u64::from(day.store[i]);
+        most = (most + u64::from(day.capacity[i])).min(limit.saturating_sub(opening));
         let overfull = limit < opening;
         if overfull || most < checks::net_to(demanded, i + 1 == n, day.ends) {
             return Err(Refusal::Shortage((i + 1) as u16));
@@ -71,29 +71,26 @@ fn equal(day: Day) -> Result<(), Refusal>
     requires { Readable (lent_day day) }
     ensures { result ≡ checked (unequal (lent_day day.entry)) }
 {
-    for c in day.capacity {
-        if *c != day.capacity[0] {
-            return Err(Refusal::UnequalCapacities);
-        }
+    if day.capacity.iter().any(|c| *c != day.capacity[0]) {
+        return Err(Refusal::UnequalCapacities);
     }
     Ok(())
 }
 
 // 9, for tables of one length: the first capacity below what remains to be made, T less the larger of 0 and (R before its period − A)
 fn binding(day: Day) -> Result<(), Refusal>
-    requires readable { Readable (lent_day day) }
-    requires opening_bound { day.ends.opening ≤ required (lent_day day) }
+    requires { Balanced (lent_day day) }
     ensures { result ≡ checked (binding (lent_day day.entry)) }
 {
     let total = checks::total(day);
-    let opening = day.ends.opening as u64;
+    let opening = u64::from(day.ends.opening);
     let mut demanded: u64 = 0;
     for i in 0..day.periods() {
         let remaining = total.saturating_sub(demanded.saturating_sub(opening));
-        if (day.capacity[i] as u64) < remaining {
+        if u64::from(day.capacity[i]) < remaining {
             return Err(Refusal::BindingCapacity((i + 1) as u16));
         }
-        demanded += day.demand[i] as u64;
+        demanded += u64::from(day.demand[i]);
     }
     Ok(())
 }
@@ -103,12 +100,10 @@ fn paid(day: Day) -> Result<(), Refusal>
     requires { Readable (lent_day day) }
     ensures { result ≡ checked (paid_setup (lent_day day.entry)) }
 {
-    for (i, setup) in day.setup.iter().enumerate() {
-        if *setup > 0 {
-            return Err(Refusal::PaidSetup((i + 1) as u16));
-        }
+    match day.setup.iter().position(|setup| *setup > 0) {
+        Some(i) => Err(Refusal::PaidSetup((i + 1) as u16)),
+        None => Ok(()),
     }
-    Ok(())
 }
 
 // 16, for tables of one length: the first store limit below R + Z
@@ -117,18 +112,15 @@ fn low_store(day: Day) -> Result<(), Refusal>
     ensures { result ≡ checked (low_store (lent_day day.entry)) }
 {
     let required = checks::required(day);
-    for (i, store) in day.store.iter().enumerate() {
-        if (*store as u64) < required {
-            return Err(Refusal::LowStore((i + 1) as u16));
-        }
+    match day.store.iter().position(|store| u64::from(*store) < required) {
+        Some(i) => Err(Refusal::LowStore((i + 1) as u16)),
+        None => Ok(()),
     }
-    Ok(())
 }
 
 // The tests that a path alone applies: of each short path one, then 16; of big days 16.
 fn own(kind: PathKind, day: Day) -> Result<(), Refusal>
-    requires readable { Readable (lent_day day) }
-    requires opening_bound { day.ends.opening ≤ required (lent_day day) }
+    requires { Balanced (lent_day day) }
     ensures { result ≡ checked (first ((path_of kind).own (lent_day day.entry))) }
 {
     match kind {
@@ -180,8 +172,7 @@ pub fn cells(kind: PathKind, n: usize, total: usize) -> Needed
 
 // 5, 6, 7, then the path's own, once 1 to 4 and 14 have passed
 fn room(kind: PathKind, day: Day, lent: Sizes) -> Result<(), Refusal>
-    requires readable { Readable (lent_day day) }
-    requires opening_bound { day.ends.opening ≤ required (lent_day day) }
+    requires { Balanced (lent_day day) }
     ensures { result ≡ checked (first (path_tests (path_of kind) (lent_day day.entry) lent)) }
 {
     let n = day.periods();

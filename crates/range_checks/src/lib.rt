@@ -7,7 +7,7 @@ ghost use Rattle.day.specs.Day.{periods, required};
 ghost use Rattle.day.specs.Lent.{lent_day};
 ghost use Rattle.day.specs.Refusals.{checked, first, pair_tests, opened, reversed, shortage};
 ghost use Rattle.day.specs.Ranges.{bound_tests, range_refusal};
-ghost use Rattle.checks.specs.Passed.{Readable};
+ghost use Rattle.checks.specs.Passed.{Readable, Balanced};
 ghost use Rattle.range_checks.specs.Earlier.{earlier};
 
 use day::{Day, PathKind, Refusal, Sizes};
@@ -65,8 +65,7 @@ fn reversed(lowest: &[u16], day: Day) -> Result<(), Refusal>
 // 5, 17, 18, 7, once 1 to 4 and 14 have passed
 fn bounds(lowest: &[u16], day: Day, lent: Sizes) -> Result<(), Refusal>
     requires lowest_len { length lowest.now ≡ periods (lent_day day) }
-    requires readable { Readable (lent_day day) }
-    requires opening_bound { day.ends.opening ≤ required (lent_day day) }
+    requires balanced { Balanced (lent_day day) }
     ensures { let d = lent_day day.entry in
         result ≡ checked (first (bound_tests lowest.now d lent ++ (shortage d ∷ []))) }
 {

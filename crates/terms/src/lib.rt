@@ -13,20 +13,20 @@ pub fn making_cost(setup: u32, unit: u32, amount: u64) -> u64
     if amount == 0 {
         return 0;
     }
-    (setup as u64) + (unit as u64) * amount
+    u64::from(setup) + u64::from(unit) * amount
 }
 
-// What holding a charge costs at a rate (report: h_i); the documents say upkeep.
+// What holding a charge costs at a rate (report: h_i; operators say: upkeep).
 pub fn holding_cost(rate: u32, charge: u64) -> u64
     requires { charge < 2 ^ 24 }
     ensures { Term (rate * charge) (2 ^ 56) result }
 {
-    (rate as u64) * charge
+    u64::from(rate) * charge
 }
 
 // 1 where something is made.
 pub fn setup_of(amount: u16) -> u64
     ensures { Term (setup_at amount) 1 result }
 {
-    if amount == 0 { 0 } else { 1 }
+    u64::from(amount != 0)
 }

@@ -1,6 +1,6 @@
 -- Laws of the call: what passed tests leave for the loops, and what the loops leave is what an accepted call leaves.
 -- Assumes nothing.
-use Rattle.std.proofs.Common.{◌≡◌, refl, sym, ap, ap₂, ◌∙◌, subst, List, ◌++◌, ℕ, ◌+◌, ◌<◌, arith, length, drop, replicate, length-append}
+use Rattle.std.proofs.Common.{◌≡◌, refl, sym, ap, ◌∙◌, subst, List, ◌++◌, ℕ, ◌+◌, ◌<◌, arith, length, drop, replicate, length-append}
 use Rattle.std.proofs.Common.{length-drop, drop_at}
 use Rattle.std.proofs.Math.ListN.{length-replicate, get_or-replicate, get_or-append}
 use Rattle.day.specs.declared.Totals.{Totals}
@@ -18,7 +18,7 @@ use Rattle.weigher.specs.Walk.{FeasiblePlan, path_plan}
 use Rattle.theory.specs.Cut.{optimal_ext}
 use Rattle.theory.specs.Model.{Model}
 use Rattle.theory.specs.Problem.{Problem, Bounded, periods, total, model_of, model_rising, model_unlimited}
-use Rattle.theory.specs.Net.{net_needs, rates_of, NetTables, problem_of, periods_is, floor_is, total_is, bounded}
+use Rattle.theory.specs.Net.{net_needs, rates_of, problem_of, periods_is, floor_is, total_is, bounded}
 use Rattle.theory.specs.Store.{Loose}
 use Rattle.theory.proofs.Loose.{limits_loose}
 use Rattle.theory.proofs.Base.{loose_optimal}
@@ -83,13 +83,13 @@ module _ (d : Day) (m : Memory) (ok : Admitted uncapped d (sizes_of m)) where
   unfolding wagner_whitin
   same_rows = refl
 
-  -- The net needs and the rates as they were filled in.
-  module _ (net rates : List ℕ) (filled : NetTables d net rates) where
+  -- The problem as it was made.
+  module _ {q : Problem} (made : q ≡ problem_of d) where
     abbrev loops : Problem
-    loops = uncapacitated net d.setup d.unit rates
+    loops = uncapacitated q.demand q.setup q.unit q.holding
 
     loops_are : loops ≡ loops_of d
-    loops_are = ap₂ (λ (needs rate : List ℕ). uncapacitated needs d.setup d.unit rate) filled.needs filled.rates
+    loops_are = ap (λ (q : Problem). uncapacitated q.demand q.setup q.unit q.holding) made
 
     pub solvable : Solvable loops m
     solvable =

@@ -11,6 +11,7 @@ ghost use Rattle.uncapped_rows.specs.Bounds.{lent_uncapacitated};
 ghost use Rattle.uncapped.specs.Solved.{Solvable, Solved};
 
 use day::{Day, PathKind, Refusal, Sizes, Totals};
+use net::Tables;
 use theory::Problem;
 
 mod slots;
@@ -39,18 +40,8 @@ fn work(day: Day, costs: &mut [u64], choices: &mut [u16], slots: &mut [u16]) -> 
         (memory_after costs choices slots) }
 {
     let n = day.periods();
-    let mut need_table = [0u16; 96];
-    let mut rate_table = [0u32; 96];
-    let net = &mut need_table[..n];
-    let rates = &mut rate_table[..n];
-    net::fill(day, net, rates);
-    let p = Problem {
-        demand: net,
-        capacity: day.capacity,
-        setup: day.setup,
-        unit: day.unit,
-        holding: rates,
-    };
+    let mut tables = Tables::new();
+    let p = tables.problem(day);
     solve(p, costs, choices, slots);
     costs[..n + 1].fill(0);
     choices[..n + 1].fill(0);

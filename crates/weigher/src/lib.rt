@@ -85,8 +85,8 @@ fn judge(p: Entries, amount: u16, last: bool, s: Sums, closing: u16) -> Result<S
     requires { Room s }
     ensures { result ≡ ruling_of p amount last s closing }
 {
-    let supplied = s.supplied + (amount as u64);
-    let demanded = s.demanded + (p.demand as u64);
+    let supplied = s.supplied + u64::from(amount);
+    let demanded = s.demanded + u64::from(p.demand);
     let due = checks::due(demanded, closing, last);
     let above_capacity = p.capacity < amount;
     let short = supplied < due;
@@ -99,7 +99,7 @@ fn judge(p: Entries, amount: u16, last: bool, s: Sums, closing: u16) -> Result<S
     // Neither is below 0: no period so far is short.
     let before = s.supplied - s.demanded;
     let left = supplied - demanded;
-    let above_store = (p.store as u64) < left;
+    let above_store = u64::from(p.store) < left;
     let over = last && due < supplied;
     if above_store {
         return Err(Rule::AboveStore);
@@ -107,7 +107,7 @@ fn judge(p: Entries, amount: u16, last: bool, s: Sums, closing: u16) -> Result<S
     if over {
         return Err(Rule::Over);
     }
-    let making = terms::making_cost(p.setup, p.unit, amount as u64);
+    let making = terms::making_cost(p.setup, p.unit, u64::from(amount));
     let upkeep = terms::holding_cost(p.holding, before + left);
     let cost = s.cost + making + upkeep;
     let setups = s.setups + terms::setup_of(amount);
@@ -151,17 +151,14 @@ fn walk(day: Day, plan: &[u16]) -> Result<Totals, Breach>
     let mut s = Sums {
         cost: 0,
         setups: 0,
-        supplied: day.ends.opening as u64,
+        supplied: u64::from(day.ends.opening),
         demanded: 0,
     };
     for i in 0..day.periods() {
-        match advance(day, plan, i, s) {
-            Ok(through) => s = through,
-            Err(rule) => {
-                let period = (i + 1) as u16;
-                return Err(Breach { rule, period });
-            }
-        }
+        s = advance(day, plan, i, s).map_err(|rule| Breach {
+            rule,
+            period: (i + 1) as u16,
+        })?;
     }
     Ok(Totals {
         cost: s.cost,

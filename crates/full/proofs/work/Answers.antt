@@ -6,14 +6,14 @@ use Rattle.full.proofs.work.Goals as goal
 pub fill_and_read-requires : goal.fill_and_read-requires
 fill_and_read-requires c =
     let n = c.periods-n.ensures in
-    workable c.requires c.fill.ensures c.fill_ceilings.ensures c.total-total.ensures.is (rw n at c.cells-needed.ensures)
+    workable c.requires c.problem-p.ensures c.fill_ceilings.ensures c.total-total.ensures.is (rw n at c.cells-needed.ensures)
 
 pub totals-requires : goal.totals-requires
 totals-requires c =
-    left_feasible c.requires c.fill.ensures c.fill_ceilings.ensures c.fill_and_read.ensures c.fill_and_read.auto.slots
+    left_feasible c.requires c.problem-p.ensures c.fill_ceilings.ensures c.fill_and_read.ensures c.fill_and_read.auto.slots
 
 pub returns : goal.returns
 returns c =
     let n = c.periods-n.ensures in
-    work_accepted c.requires c.fill.ensures c.fill_ceilings.ensures c.fill_and_read.ensures c.fill_and_read.auto.slots
+    work_accepted c.requires c.problem-p.ensures c.fill_ceilings.ensures c.fill_and_read.ensures c.fill_and_read.auto.slots
     c.total-total.ensures.is (rw n at c.cells-needed.ensures) c.totals.ensures (search rules) (search rules)

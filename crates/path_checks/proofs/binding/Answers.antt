@@ -8,8 +8,8 @@ use Rattle.day.specs.Day.{total, demand_to}
 use Rattle.checks.specs.Search.{refused_here}
 use Rattle.path_checks.proofs.binding.Goals as goal
 
-pub returns-then-day-i : goal.returns-then-day-i
-returns-then-day-i c =
+pub returns-then-from-remaining : goal.returns-then-from-remaining
+returns-then-from-remaining c =
     let d = lent_day c.args.day in
     let i = c.loop-i.i in
     let below = lt-ltb (at d.capacity i) (total d - (demand_to d i - d.opening)) (omega arith) in

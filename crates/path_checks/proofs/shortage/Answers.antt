@@ -28,7 +28,7 @@ returns-then-overfull c =
     (elim c.then-overfull.branch [
       | then-overfull-via-then-overfull w ↦ short_store d i (omega arith)
       | then-overfull-via-else-overfull+then-most-net_to w ↦
-          let net : w.net_to.result ≡ net_to d (suc i) = rw (add-one, summed, c.periods-n.ensures) at w.net_to.ensures in
+          let net : w.net_to.result ≡ net_to d (suc i) = rw (c.from-demanded.ensures, add-one, summed, c.periods-n.ensures) at w.net_to.ensures in
           short_made d i (omega arith) (omega arith)
     ])
     (omega arith)

@@ -10,18 +10,18 @@ solve-requires c =
     let a = c.args in
     let given = lent_day a.day in
     let lent = memory_of a.costs.now a.choices.now a.slots.now in
-    solvable given lent c.requires _ _ c.fill.ensures
+    solvable given lent c.requires c.problem-p.ensures
 
 pub totals-requires : goal.totals-requires
 totals-requires c =
     let a = c.args in
     let given = lent_day a.day in
     let lent = memory_of a.costs.now a.choices.now a.slots.now in
-    slots_feasible given lent c.requires _ _ c.fill.ensures _ c.solve.ensures
+    slots_feasible given lent c.requires c.problem-p.ensures _ c.solve.ensures
 
 pub returns : goal.returns
 returns c =
     let a = c.args in
     let given = lent_day a.day in
     let lent = memory_of a.costs.now a.choices.now a.slots.now in
-    work_accepted given lent c.requires _ _ c.fill.ensures _ c.solve.ensures _ _ _ c.totals.ensures (search rules) (search rules)
+    work_accepted given lent c.requires c.problem-p.ensures _ c.solve.ensures _ _ _ c.totals.ensures (search rules) (search rules)
