@@ -68,26 +68,13 @@ impl Refusal {
         ensures { result ≡ period_of self }
     {
         match self {
-            Refusal::PeriodCount => 0,
-            Refusal::TableLength => 0,
-            Refusal::AboveLimit(i) => i,
-            Refusal::TotalDemand => 0,
-            Refusal::ShortArea => 0,
-            Refusal::FewSlots => 0,
-            Refusal::Shortage(i) => i,
-            Refusal::UnequalCapacities => 0,
-            Refusal::BindingCapacity(i) => i,
-            Refusal::UnknownKind => 0,
-            Refusal::TruncatedFile => 0,
-            Refusal::WrongEnd => 0,
-            Refusal::NoSuchPeriod => 0,
-            Refusal::SurplusInventory => 0,
-            Refusal::PaidSetup(i) => i,
-            Refusal::LowStore(i) => i,
-            Refusal::OpeningInventory => 0,
-            Refusal::ReversedRange(i) => i,
-            Refusal::NoTrials => 0,
-            Refusal::WrongStamp => 0,
+            Refusal::AboveLimit(i)
+            | Refusal::Shortage(i)
+            | Refusal::BindingCapacity(i)
+            | Refusal::PaidSetup(i)
+            | Refusal::LowStore(i)
+            | Refusal::ReversedRange(i) => i,
+            _ => 0,
         }
     }
 }

@@ -3,23 +3,17 @@
 
 ghost use Rattle.std.specs.Prelude.{◌≡◌};
 ghost use Rattle.day.specs.Refusals.{checked, first};
-ghost use Rattle.day.specs.File.{same_stamp, has_stamp, is_expected, wrong_stamp};
+ghost use Rattle.day.specs.File.{has_stamp, is_expected, wrong_stamp};
 ghost use Rattle.dayfile.specs.Answers.{file_tests};
 
 use day::{Refusal, Stamp};
 use dayfile::file::DayFile;
 use dayfile::layout;
 
-fn same_stamp(a: Stamp, b: Stamp) -> bool
-    ensures { result ≡ same_stamp a b }
-{
-    a.station == b.station && a.date == b.date
-}
-
 fn has_stamp(file: &[u8], stamp: Stamp) -> bool
     ensures { result ≡ has_stamp stamp file.now }
 {
-    layout::is_stamped(file) && same_stamp(layout::stamp(layout::body(file, 0)), stamp)
+    layout::is_stamped(file) && layout::stamp(layout::body(file, 0)) == stamp
 }
 
 // Whether the file has the expected stamp; none has where nothing is expected.

@@ -56,6 +56,7 @@ pub fn fill(day: Day, net: &mut [u16], rates: &mut [u32])
 }
 
 // The cells in which the net needs and the rates of a day stand: there is no heap, so of tables for the longest day the fronts.
+#[derive(Drop)]
 pub struct Tables {
     net: [u16; 96],
     rates: [u32; 96],

@@ -96,9 +96,7 @@ pub fn agrees(best: Option<Best>, day: Day, answer: Result<Totals, Refusal>, slo
     match (answer, best) {
         (Err(refusal), None) => refusal.number() == without_plan(day),
         (Ok(totals), Some(found)) => {
-            totals.cost == found.totals.cost
-                && totals.setups == found.totals.setups
-                && same_plan(found.plan, n, slots)
+            totals == found.totals && same_plan(found.plan, n, slots)
         }
         _ => false,
     }

@@ -71,10 +71,7 @@ fn goes_on(earlier: Option<Given>, given: Given, allowed: u64) -> bool {
 
 // Whether a plan has been found to hold, with such totals.
 fn holds(day: Day<'_>, plan: &[u16], totals: Totals) -> bool {
-    match weigher::weigh(day, plan) {
-        Ok(found) => found.cost == totals.cost && found.setups == totals.setups,
-        Err(_) => false,
-    }
+    weigher::weigh(day, plan).is_ok_and(|found| found == totals)
 }
 
 // Of a call that refuses.

@@ -5,4 +5,4 @@ use Rattle.weigher.proofs.Walking.{Walking}
 use Rattle.weigher.proofs.walk.Given as goal
 
 abbrev pub invariant-loop-i : goal.invariant-loop-i
-invariant-loop-i l = Walking (lent_day l.day) (at l.plan) l.i l.s
+invariant-loop-i l = Walking (lent_day l.day) (at l.plan) l.i-counter l.s
