@@ -58,6 +58,7 @@ fn work(day: Day, costs: &mut [u64], choices: &mut [u16], slots: &mut [u16]) -> 
 }
 
 // The plan of a day with one capacity throughout whose stores can't bind, into the first n slots; the answer counts its loads.
+// As in every path the tests, then the work: areas, kind and answer are its own, so one entry for all would take each as a parameter.
 pub fn plan(
     day: Day,
     costs: &mut [u64],

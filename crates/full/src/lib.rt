@@ -61,6 +61,7 @@ pub fn work(day: Day, costs: &mut [u64], choices: &mut [u16], slots: &mut [u16])
 }
 
 // The plan of a day into the first n slots, with its cost and its setups.
+// As in every path the tests, then the work: areas, kind and answer are its own, so one entry for all would take each as a parameter.
 pub fn plan(
     day: Day,
     costs: &mut [u64],

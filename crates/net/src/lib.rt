@@ -13,7 +13,7 @@ ghost use Rattle.theory.specs.Store.{ceilings_of};
 use day::Day;
 use theory::Problem;
 
-// The net need of every period.
+// The net need of every period. Tables are filled by index: of cells that iter_mut lends to a zip nothing is known afterwards.
 fn fill_needs(day: Day, net: &mut [u16])
     requires net_len { length net.old ≡ periods (lent_day day) }
     requires net_fits { NetFits (lent_day day) }

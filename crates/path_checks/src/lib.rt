@@ -52,6 +52,7 @@ pub fn shortage(day: Day) -> Result<(), Refusal>
 {
     let n = day.periods();
     let opening = u64::from(day.ends.opening);
+    // By index, here and in `binding`: a zip of the tables that also counts is no plainer.
     let mut demanded: u64 = 0;
     let mut most: u64 = 0;
     for i in 0..n {
@@ -118,7 +119,7 @@ fn low_store(day: Day) -> Result<(), Refusal>
     }
 }
 
-// The tests that a path alone applies: of each short path one, then 16; of big days 16.
+// The tests that a path alone applies: of each short path one, then 16; of big days 16. By match: in specs/ too the paths are a table of five rows.
 fn own(kind: PathKind, day: Day) -> Result<(), Refusal>
     requires { Balanced (lent_day day) }
     ensures { result ≡ checked (first ((path_of kind).own (lent_day day.entry))) }

@@ -80,7 +80,7 @@ module _ (d : Day) where
               stored = λ k l. omega (arith, ceiling_is k (omega arith), f.under k l, (p k l).room);
             }
 
-    -- OneOf amounts for periods 1 to i keep the conditions through i just where the test passes in each of them.
+    -- Some amounts for periods 1 to i keep the conditions through i just where the test passes in each of them.
     pub keeps_iff : (i : ℕ) → i ≤ n → ((x : ℕ → ℕ) × KeepsTo d i x) ↔ ((k : ℕ) → k < i → Passes d k)
     keeps_iff i le = (λ w. keeps_passes i w.0 le w.1, passes_keeps i le)
 

@@ -49,6 +49,7 @@ fn work(day: Day, costs: &mut [u64], choices: &mut [u16], slots: &mut [u16]) -> 
 }
 
 // The plan of a day whose capacities and stores can't bind, into the first n slots.
+// As in every path the tests, then the work: areas, kind and answer are its own, so one entry for all would take each as a parameter.
 pub fn plan(
     day: Day,
     costs: &mut [u64],

@@ -144,6 +144,7 @@ fn advance(day: Day, plan: &[u16], i: usize, s: Sums) -> Result<Sums, Rule>
 //         p_i(x_i)                          making = making_cost(p.setup, p.unit, amount)
 //         h_i × (I_(i−1) + I_i)             upkeep = holding_cost(p.holding, before + left)
 //         the sum through period i          cost = s.cost + making + upkeep
+// A loop and no `try_fold`, so that each turn stands as in the sum.
 fn walk(day: Day, plan: &[u16]) -> Result<Totals, Breach>
     requires { Weighable (lent_day day) plan.now }
     ensures { result ≡ walk_of (lent_day day.entry) (at plan.now) }
