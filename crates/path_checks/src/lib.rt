@@ -119,7 +119,8 @@ fn low_store(day: Day) -> Result<(), Refusal>
     }
 }
 
-// The tests that a path alone applies: of each short path one, then 16; of big days 16. By match: in specs/ too the paths are a table of five rows.
+// The tests that a path alone applies: of each short path one, then 16; of big days 16.
+// By match, as in `cells` and `limit`: in specs/ too the paths are a table of five rows.
 fn own(kind: PathKind, day: Day) -> Result<(), Refusal>
     requires { Balanced (lent_day day) }
     ensures { result ≡ checked (first ((path_of kind).own (lent_day day.entry))) }
