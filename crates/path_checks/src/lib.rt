@@ -113,7 +113,11 @@ fn low_store(day: Day) -> Result<(), Refusal>
     ensures { result ≡ checked (low_store (lent_day day.entry)) }
 {
     let required = checks::required(day);
-    match day.store.iter().position(|store| u64::from(*store) < required) {
+    match day
+        .store
+        .iter()
+        .position(|store| u64::from(*store) < required)
+    {
         Some(i) => Err(Refusal::LowStore((i + 1) as u16)),
         None => Ok(()),
     }

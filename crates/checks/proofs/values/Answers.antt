@@ -19,8 +19,8 @@ found c =
     let test = above_limit (lent_day c.args.day) in
     let long = length-range_with_len 0 n in
     let first =
-        position_from_yields_List test _ _ _ c.position.ensures.ran (YieldsList-from_range 0 n n (search rules) (omega arith))
-        (λ i b q k. search (rules, tests)) in
+    position_from_yields_List test _ _ _ c.position.ensures.ran (YieldsList-from_range 0 n n (search rules) (omega arith))
+    (λ i b q k. search (rules, tests)) in
     find_position test test (range_with_len 0 n) 0 (λ k l. ap test (omega (arith, long, get_or-range_with_len 0 n k 0))) {n = n} long ∙ sym first
 
 pub returns-in-Some : goal.returns-in-Some

@@ -16,8 +16,8 @@ found c =
     let capacity = c.args.day.capacity.now in
     let test : ℕ → Bool = λ k. not (eqb k (at capacity 0)) in
     let some =
-        any_from_yields_List test _ _ _ c.any.ensures.ran (YieldsList-from_slice capacity (search rules))
-        (λ k b q h. search (rules, tests)) in
+    any_from_yields_List test _ _ _ c.any.ensures.ran (YieldsList-from_slice capacity (search rules))
+    (λ k b q h. search (rules, tests)) in
     ap (λ b. refuse b UnequalCapacities) some
     ∙ find_any (differs (lent_day c.args.day)) test capacity 0 (λ k l. refl) UnequalCapacities c.requires.lengths.capacity
 

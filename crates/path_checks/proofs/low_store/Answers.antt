@@ -1,5 +1,5 @@
 -- The first store limit below R + Z is the first that is tight.
-use Rattle.std.proofs.Common.{◌≡◌, refl, sym, ◌∙◌, length, ltb, add-one, rules, arith}
+use Rattle.std.proofs.Common.{◌≡◌, refl, sym, ◌∙◌, ltb, add-one, rules}
 use Rattle.std.proofs.lemmas.Iterator.{YieldsList-from_slice}
 use Rattle.std.proofs.lemmas.Iterator.Search.{position_from_yields_List}
 use borrow.Author.Tests.{tests}
@@ -15,8 +15,8 @@ found : (c : After-position) → find (tight (lent_day c.args.day)) (periods (le
 found c =
     let store = c.args.day.store.now in
     let first =
-        position_from_yields_List (λ s. ltb s (required (lent_day c.args.day))) _ _ _ c.position.ensures.ran (YieldsList-from_slice store (search rules))
-        (λ b t q k. search (rules, tests)) in
+    position_from_yields_List (λ s. ltb s (required (lent_day c.args.day))) _ _ _ c.position.ensures.ran (YieldsList-from_slice store (search rules))
+    (λ b t q k. search (rules, tests)) in
     find_position (tight (lent_day c.args.day)) (λ s. ltb s (required (lent_day c.args.day))) store 0 (λ k l. refl) c.requires.lengths.store ∙ sym first
 
 pub returns-in-Some : goal.returns-in-Some

@@ -1,5 +1,5 @@
 -- The first setup cost above 0 is the first period's that has one.
-use Rattle.std.proofs.Common.{◌≡◌, refl, sym, ◌∙◌, length, ltb, add-one, rules, arith}
+use Rattle.std.proofs.Common.{◌≡◌, refl, sym, ◌∙◌, ltb, add-one, rules}
 use Rattle.std.proofs.lemmas.Iterator.{YieldsList-from_slice}
 use Rattle.std.proofs.lemmas.Iterator.Search.{position_from_yields_List}
 use borrow.Author.Tests.{tests}
@@ -15,8 +15,8 @@ found : (c : After-position) → find (paid (lent_day c.args.day)) (periods (len
 found c =
     let setup = c.args.day.setup.now in
     let first =
-        position_from_yields_List (ltb 0) _ _ _ c.position.ensures.ran (YieldsList-from_slice setup (search rules))
-        (λ b t q k. search (rules, tests)) in
+    position_from_yields_List (ltb 0) _ _ _ c.position.ensures.ran (YieldsList-from_slice setup (search rules))
+    (λ b t q k. search (rules, tests)) in
     find_position (paid (lent_day c.args.day)) (ltb 0) setup 0 (λ k l. refl) c.requires.lengths.setup ∙ sym first
 
 pub returns-in-Some : goal.returns-in-Some
