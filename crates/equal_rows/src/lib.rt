@@ -57,7 +57,7 @@ fn split(left: u64, full: u16) -> Ending
     requires { (0 < full) × (left ≤ full * 96) }
     ensures { LoadsSplit left full result }
 {
-    let c = full as u64;
+    let c = u64::from(full);
     let rest = left % c;
     Ending {
         part: rest as u16,
@@ -66,7 +66,7 @@ fn split(left: u64, full: u16) -> Ending
 }
 
 // The intervals of `count` periods from l on, past the rows.
-// The two areas go one by one: each clause would owe of a struct of `&mut` that both references stay the same.
+// The two areas go one by one, here and below: each clause would owe of a struct of `&mut` that both references stay the same.
 fn lay(
     p: Problem,
     full: u16,
@@ -155,13 +155,13 @@ fn candidate(
 }
 
 // Cells as others of their length hold them. By hand: of std's copy the compiler makes a call of `memmove`, which a station without an operating
-// system need not supply.
+// system need not supply. And `to` by index: of cells that `iter_mut` lends to a `zip` nothing is known afterwards.
 pub fn copy(from: &[u16], to: &mut [u16])
     requires { length to.old ≡ length from.now }
     ensures { to.new ≡ from.now }
 {
-    for i in 0..from.len() {
-        to[i] = from[i];
+    for (i, &amount) in from.iter().enumerate() {
+        to[i] = amount;
     }
 }
 
@@ -225,9 +225,9 @@ fn row(p: Problem, full: u16, need: u64, costs: &mut [u64], choices: &mut [u16],
     let m = slots.len();
     costs[m] = NONE;
     let mut left = need;
-    for l in 0..m {
+    for (l, &demanded) in p.demand[..m].iter().enumerate() {
         consider(p, full, l, left, costs, choices, slots);
-        left -= p.demand[l] as u64;
+        left -= u64::from(demanded);
     }
 }
 
@@ -241,7 +241,7 @@ pub fn rows(p: Problem, full: u16, costs: &mut [u64], choices: &mut [u16], slots
     costs[0] = 0;
     let mut need: u64 = 0;
     for (m, &demanded) in p.demand.iter().enumerate() {
-        need += demanded as u64;
+        need += u64::from(demanded);
         row(p, full, need, costs, choices, &mut slots[..m + 1]);
     }
 }

@@ -8,6 +8,7 @@ ghost use Rattle.uncapped_rows.specs.Bounds.{lent_uncapacitated, LotFits, SumFit
 ghost use Rattle.uncapped_rows.specs.Rows.{better, lot_cost, held_through, carried_of, CheapestOf, NextRowReady, RestReady, LastLotOf};
 ghost use Rattle.uncapped_rows.specs.Rows.{RowsReady, FillReady, RowsWritten};
 
+use std::cmp::min_by_key;
 use theory::Problem;
 
 // A row's cost, and how many periods come before its last lot.
@@ -28,14 +29,11 @@ pub struct Holding {
 fn cheaper(best: LastLot, l: usize, price: u64) -> LastLot
     ensures { result ≡ better best l price }
 {
-    if price <= best.cost {
-        LastLot {
-            cost: price,
-            from: l,
-        }
-    } else {
-        best
-    }
+    let tried = LastLot {
+        cost: price,
+        from: l,
+    };
+    min_by_key(tried, best, |lot| lot.cost)
 }
 
 // What it costs to come to l and to make the lot of candidate l.
@@ -61,7 +59,7 @@ fn hold(s: Holding, demand: u16, holding: u32) -> Holding
     requires { SumFits s demand }
     ensures { result ≡ held_through s demand holding }
 {
-    let left = s.left + (demand as u64);
+    let left = s.left + u64::from(demand);
     let held = s.held + terms::holding_cost(holding, s.left);
     Holding { left, held }
 }
@@ -74,17 +72,18 @@ fn cheapest(p: Problem, carried: &[u32], costs: &[u64], m: usize, last: LastLot)
         (at costs.now) m 0 result }
 {
     let mut best = last;
-    let mut made = p.demand[m] as u64;
+    let mut made = u64::from(p.demand[m]);
     let mut i = m;
     let mut s = Holding {
         left: made,
         held: 0,
     };
+    // By index, both loops: a candidate has an entry in five tables, and the sum of its upkeep goes on from where the last one left it.
     'candidates: for l in (0..m).rev() {
         if best.cost < carried_cost(carried, costs, l + 1, made) + s.held {
             return best;
         }
-        made += p.demand[l] as u64;
+        made += u64::from(p.demand[l]);
         let paid = lot_cost(p, costs, l, made);
         // its upkeep: strictly above the best it is dropped, and one that only equals the best is carried on
         for k in (l..i).rev() {
@@ -105,7 +104,7 @@ fn row(p: Problem, carried: &[u32], costs: &[u64], m: usize) -> LastLot
     ensures { LastLotOf (lent_uncapacitated p.entry)
         (at costs.now) m result }
 {
-    let made = p.demand[m] as u64;
+    let made = u64::from(p.demand[m]);
     let last = LastLot {
         cost: lot_cost(p, costs, m, made),
         from: m,
@@ -124,6 +123,7 @@ fn fill_carried(unit: &[u32], holding: &[u32], carried: &mut [u32])
     ensures { carried.new ≡ carried_of unit.now holding.now }
 {
     let mut least: u32 = 1000000;
+    // The two tables by index: of cells that `iter_mut` lends to a `zip` nothing is known afterwards.
     for (l, cell) in carried.iter_mut().enumerate() {
         *cell = least;
         least = least.min(unit[l]) + holding[l];
@@ -137,6 +137,7 @@ fn fill_rows(p: Problem, carried: &[u32], costs: &mut [u64], choices: &mut [u16]
         costs.old choices.old costs.new choices.new }
 {
     costs[0] = 0;
+    // By index: a row is found from the cells of all rows before it, and goes into the next cell of two areas.
     for m in 0..p.demand.len() {
         let next = row(p, carried, costs, m);
         costs[m + 1] = next.cost;

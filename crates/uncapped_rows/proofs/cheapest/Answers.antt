@@ -43,12 +43,15 @@ pub overflow_add-made : goal.overflow_add-made
 overflow_add-made c = let fits = next_fits c.requires.ready c.candidates.invariant c.candidates-test.true in omega (arith, fits.few)
 
 pub lot_cost-paid-requires-clause-lot_fits : goal.lot_cost-paid-requires-clause-lot_fits
-lot_cost-paid-requires-clause-lot_fits c = next_fits c.requires.ready c.candidates.invariant c.candidates-test.true
+lot_cost-paid-requires-clause-lot_fits c =
+    rw c.from-made-in-candidates.ensures (next_fits c.requires.ready c.candidates.invariant c.candidates-test.true)
 
 pub candidates-preserved-then-best-paid : goal.candidates-preserved-then-best-paid
 candidates-preserved-then-best-paid c =
-    searched_dropped c.requires.ready c.candidates.invariant _ (pred_is c.candidates-test.true) c.lot_cost-paid.ensures.is
-    c.loop-k.invariant.2 c.loop-k.invariant.1 c.if-best-paid.true
+    let demanded = c.from-made-in-candidates.ensures in
+    rw demanded
+    (searched_dropped c.requires.ready c.candidates.invariant _ (pred_is c.candidates-test.true) (rw demanded at c.lot_cost-paid.ensures.is)
+    c.loop-k.invariant.2 c.loop-k.invariant.1 c.if-best-paid.true)
 
 pub hold-s-requires : goal.hold-s-requires
 hold-s-requires c =
@@ -63,6 +66,7 @@ loop-k-preserved c =
 pub candidates-preserved : goal.candidates-preserved
 candidates-preserved c =
     let i = c.loop-k.invariant in
-    rw c.cheaper-best.ensures
-    (searched_more c.requires.ready c.candidates.invariant _ (pred_is c.candidates-test.true) c.lot_cost-paid.ensures.is i.2
+    let demanded = c.from-made-in-candidates.ensures in
+    rw (c.cheaper-best.ensures, demanded)
+    (searched_more c.requires.ready c.candidates.invariant _ (pred_is c.candidates-test.true) (rw demanded at c.lot_cost-paid.ensures.is) i.2
     (omega arith) (omega arith))
