@@ -16,6 +16,7 @@ use day::{Day, Loads, PathKind, Refusal, Sizes, Totals};
 use theory::Problem;
 
 // The plan into the slots. Where nothing can be made, nothing is demanded. What is left in the areas is free.
+// The areas come one by one, here and below, for the reason beside `tables::put`.
 fn solve(p: Problem, costs: &mut [u64], choices: &mut [u16], slots: &mut [u16])
     requires { Solvable (lent_problem p) (areas costs.old choices.old) slots.old }
     ensures { PlanFound (lent_problem p.entry) slots.new }
@@ -67,6 +68,7 @@ fn work(day: Day, costs: &mut [u64], choices: &mut [u16], slots: &mut [u16]) -> 
 }
 
 // The plan of a day with one capacity throughout whose stores can't bind, into the first n slots; the answer counts its loads.
+// Its own, for the reason beside `full::plan`.
 pub fn plan(
     day: Day,
     costs: &mut [u64],

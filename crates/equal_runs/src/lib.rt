@@ -108,6 +108,7 @@ fn state_after(p: RunPeriod, sizes: LoadSizes, row: &[u64], j: usize, d: usize) 
 }
 
 // One period more: the row after it, over the row before it, from its end; what the period makes goes to `picks`, from `base` on.
+// The row and the amounts come one by one, here and below, for the reason beside `tables::put`; `top` and `width` say how far each goes.
 fn advance(
     p: RunPeriod,
     sizes: LoadSizes,
