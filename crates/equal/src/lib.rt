@@ -13,6 +13,7 @@ ghost use Rattle.equal_rows.specs.Rows.{areas};
 ghost use Rattle.equal.specs.Solved.{Solvable, PlanFound};
 
 use day::{Day, Loads, PathKind, Refusal, Sizes, Totals};
+use equal_rows::ConstantProblem;
 use theory::Problem;
 
 // The plan into the slots. Where nothing can be made, nothing is demanded. What is left in the areas is free.
@@ -26,7 +27,8 @@ fn solve(p: Problem, costs: &mut [u64], choices: &mut [u16], slots: &mut [u16])
         slots.fill(0);
         return;
     }
-    equal_rows::rows(p, full, costs, choices, slots);
+    let constant = ConstantProblem { problem: p, full };
+    equal_rows::rows(constant, costs, choices, slots);
     let n = p.demand.len();
     equal_rows::copy(&choices[n * n..n * n + n], slots);
 }
