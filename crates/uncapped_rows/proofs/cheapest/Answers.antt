@@ -18,7 +18,7 @@ back : (l : ℕ) → 0 < l → l - 1 + 1 ≡ l
 back l pos = omega arith
 
 -- the lot of the next candidate
-next_fits : {p : Problem} {carried costs : List ℕ} {m : ℕ} (ready : NextRowReady p carried costs m)
+next_fits : {p : Problem} {costs : List ℕ} {m : ℕ} (ready : NextRowReady p costs m)
     → {l made i : ℕ} {s : Holding} {best : LastLot} → SearchedTo p (at costs) m l made i s best → 0 < l
     → LotFits costs (l - 1) (made + at p.demand (l - 1))
 next_fits ready t pos = lot_fits ready _ _ (omega (arith, searched_inside ready t)) (lot_more ready t _ (pred_is pos))
@@ -26,7 +26,7 @@ next_fits ready t pos = lot_fits ready _ _ (omega (arith, searched_inside ready 
 pub carried_cost-requires-clause-l_in_bounds : goal.carried_cost-requires-clause-l_in_bounds
 carried_cost-requires-clause-l_in_bounds c =
     let ready = c.requires.ready in
-    carried_cell ready _ (omega (arith, searched_inside ready c.candidates.invariant))
+    carried_cell ready c.args.p.carries _ (omega (arith, searched_inside ready c.candidates.invariant))
 
 pub carried_cost-requires-clause-lot_fits : goal.carried_cost-requires-clause-lot_fits
 carried_cost-requires-clause-lot_fits c =
@@ -36,7 +36,7 @@ carried_cost-requires-clause-lot_fits c =
 
 pub returns-then-best-carried_cost : goal.returns-then-best-carried_cost
 returns-then-best-carried_cost c =
-    searched_left c.requires.ready c.candidates.invariant
+    searched_left c.requires.ready c.candidates.invariant c.args.p.carries
     (omega (arith, rw (back c.candidates.l c.candidates-test.true) at c.carried_cost.ensures.is, c.if-best-carried_cost.true))
 
 pub overflow_add-made : goal.overflow_add-made
