@@ -85,7 +85,7 @@ fn work(day: Day, costs: &mut [u64], slots: &mut [u16], trials: usize) -> (Total
 }
 
 // The best plan of a big day in so many trials, into the first n slots.
-// As in every path the tests, then the work: areas, kind and answer are its own, so one entry for all would take each as a parameter.
+// Its own, for the reason beside `full::plan`.
 pub fn plan(
     day: Day,
     costs: &mut [u64],

@@ -13,10 +13,12 @@ ghost use Rattle.equal_rows.specs.Rows.{areas};
 ghost use Rattle.equal.specs.Solved.{Solvable, PlanFound};
 
 use day::{Day, Loads, PathKind, Refusal, Sizes, Totals};
+use equal_rows::ConstantProblem;
 use net::Tables;
 use theory::Problem;
 
 // The plan into the slots. Where nothing can be made, nothing is demanded. What is left in the areas is free.
+// The areas come one by one, here and below, for the reason beside `tables::put`.
 fn solve(p: Problem, costs: &mut [u64], choices: &mut [u16], slots: &mut [u16])
     requires { Solvable (lent_problem p) (areas costs.old choices.old) slots.old }
     ensures { PlanFound (lent_problem p.entry) slots.new }
@@ -26,7 +28,8 @@ fn solve(p: Problem, costs: &mut [u64], choices: &mut [u16], slots: &mut [u16])
         slots.fill(0);
         return;
     }
-    equal_rows::rows(p, full, costs, choices, slots);
+    let constant = ConstantProblem { problem: p, full };
+    equal_rows::rows(constant, costs, choices, slots);
     let n = p.demand.len();
     equal_rows::copy(&choices[n * n..n * n + n], slots);
 }
@@ -58,7 +61,7 @@ fn work(day: Day, costs: &mut [u64], choices: &mut [u16], slots: &mut [u16]) -> 
 }
 
 // The plan of a day with one capacity throughout whose stores can't bind, into the first n slots; the answer counts its loads.
-// As in every path the tests, then the work: areas, kind and answer are its own, so one entry for all would take each as a parameter.
+// Its own, for the reason beside `full::plan`.
 pub fn plan(
     day: Day,
     costs: &mut [u64],

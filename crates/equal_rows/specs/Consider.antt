@@ -40,8 +40,6 @@ pub data RowSettled (n m v : ℕ) (plan : List ℕ) (old new : Areas) : Type 0 w
 
 -- what `consider` asks: row l is found, the candidates before it are tried for row m, and `left` is to be made after it
 pub record Considerable (p : Problem) (c l m left : ℕ) (a : Areas) : Type 0 where
-  pub constant : ConstantCapacity p c
-  pub room : 0 < c
   pub before : l < m
   pub inside : m ≤ periods p
   pub rest : left ≡ demand_to p m - demand_to p l
@@ -55,9 +53,7 @@ pub record Considered (p : Problem) (c m i : ℕ) (old new : Areas) : Type 0 whe
   pub best : BestSoFar p c m i new
 
 -- what `row` asks: the rows before row m are found, and `need` is the demand of m periods
-pub record RowsBefore (p : Problem) (c m need : ℕ) (a : Areas) : Type 0 where
-  pub constant : ConstantCapacity p c
-  pub room : 0 < c
+pub record RowsBefore (p : Problem) (m need : ℕ) (a : Areas) : Type 0 where
   pub some : 0 < m
   pub inside : m ≤ periods p
   pub demanded : need ≡ demand_to p m
@@ -70,9 +66,7 @@ pub record RowFound (p : Problem) (m : ℕ) (old new : Areas) : Type 0 where
   pub row : PlanRow p m new
 
 -- what `rows` asks
-pub record RowsWanted (p : Problem) (c : ℕ) (a : Areas) (slots : List ℕ) : Type 0 where
-  pub constant : ConstantCapacity p c
-  pub room : 0 < c
+pub record RowsWanted (p : Problem) (a : Areas) (slots : List ℕ) : Type 0 where
   pub sized : AreasSized (periods p) a
   pub each : length slots ≡ periods p
 
@@ -98,7 +92,7 @@ module _ (p : Problem) (c : ℕ) (constant : ConstantCapacity p c) where
   need_low zero h = omega arith
   need_low (suc m) h = omega (arith, constant.supplied m h, capacity_to_lem (suc m) h, mul-le-mul_left c h)
 
-  module _ (l m left v : ℕ) (old new : Areas) (plan : List ℕ) (asked : Considerable p c l m left old)
+  module _ (room : 0 < c) (l m left v : ℕ) (old new : Areas) (plan : List ℕ) (asked : Considerable p c l m left old)
       (found : CandidateTold p c l left (m - l) old v new plan) where
     rows : ℕ → Option Solution
     rows k = Some (solution_of n old k)
@@ -109,7 +103,7 @@ module _ (p : Problem) (c : ℕ) (constant : ConstantCapacity p c) where
     answers : Answers (Candidates l) (λ x. cost_to M x m) m (by_load M c rows m l)
     unfolding rows
     answers =
-        by_load_answers M (model_rising p) (model_unlimited p) c asked.room rows m l asked.before (equal_to m asked.inside) asked.row.plan
+        by_load_answers M (model_rising p) (model_unlimited p) c room rows m l asked.before (equal_to m asked.inside) asked.row.plan
 
     told : PlanTold (m * stage_most) v plan (by_load M c rows m l)
     unfolding rows

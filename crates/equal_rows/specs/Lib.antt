@@ -3,3 +3,4 @@ pub mod Order
 pub mod Rows
 pub mod Best
 pub mod Consider
+pub mod Constant

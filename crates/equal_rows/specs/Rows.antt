@@ -1,10 +1,10 @@
 -- The areas of the equal path: the rows in front, the work on an interval past them; and what the numbers of an interval, of a row and of both mean.
 -- Main definitions: `Areas`, `PlanTold`, `row_of`. Assumes nothing.
-use Rattle.std.specs.Prelude.{◌≡◌, List, ◌++◌, ℕ, ◌+◌, ◌*◌, ◌/◌, ◌%◌, ◌≤◌, ◌<◌, min, length, take, drop, Option, None, Some}
+use Rattle.std.specs.Prelude.{◌≡◌, List, ◌++◌, ℕ, ◌+◌, ◌*◌, ◌/◌, ◌%◌, ◌≤◌, min, length, take, drop, Option, None, Some}
 use Rattle.std.proofs.Common.{ap, ◌∙◌, arith}
 use Rattle.day.specs.Sums.{at}
 use Rattle.theory.specs.Model.{Model}
-use Rattle.theory.specs.Problem.{Problem, periods, model_of, Bounded}
+use Rattle.theory.specs.Problem.{Problem, periods, model_of}
 use Rattle.theory.specs.Stages.{Solution}
 use Rattle.theory.specs.Regeneration.{glue}
 use Rattle.theory.specs.Loads.{loads_to}
@@ -68,7 +68,6 @@ EarlierKept n m = FrontKept m (m * n)
 
 -- what `lay` asks: the intervals of `count` periods from l on are in the tables, and their states fit past the rows
 pub record Layable (p : Problem) (l count top : ℕ) (a : Areas) : Type 0 where
-  pub bounded : Bounded p
   pub inside : l + count ≤ periods p
   pub states : top ≤ 2 * periods p + 1
   pub sized : AreasSized (periods p) a
@@ -78,11 +77,9 @@ pub record Laid (p : Problem) (w : LoadSizes) (l count top : ℕ) (old new : Are
   pub kept : RowsKept (periods p) old new
   pub ran : let n = periods p in Ran (model_of p) l w count top (2 * n + 2) (drop (n + 1) new.costs) (drop (n * n + n) new.choices)
 
--- what `trial` asks: c is above 0, and no more than n loads of it make W
+-- what `trial` asks: no more than n loads make W
 pub record Tryable (p : Problem) (c l W count : ℕ) (a : Areas) : Type 0 where
-  pub bounded : Bounded p
   pub inside : l + count ≤ periods p
-  pub room : 0 < c
   pub low : W ≤ c * periods p
   pub sized : AreasSized (periods p) a
 

@@ -6,16 +6,18 @@
 ghost use Rattle.std.specs.Prelude.{◌≡◌, ◌+◌, ◌-◌, ◌*◌, ◌≤◌, ◌<◌, min, length};
 ghost use Rattle.day.specs.Sums.{at};
 ghost use Rattle.equal_runs.specs.States.{index_of};
-ghost use Rattle.equal_runs.specs.Run.{lent_constant};
 ghost use Rattle.equal_rows.specs.Order.{Ordered, Decided};
 ghost use Rattle.equal_rows.specs.Rows.{areas, load_sizes, LoadsSplit, Layable, Laid, Tryable, IntervalTold, CandidateTold};
 ghost use Rattle.equal_rows.specs.Best.{PlanRow};
 ghost use Rattle.equal_rows.specs.Consider.{Keepable, RowStored, RowSettled, Considerable, Considered};
 ghost use Rattle.equal_rows.specs.Consider.{RowsBefore, RowFound, RowsWanted};
+ghost use Rattle.equal_rows.specs.Constant.{constant_problem};
 
+mod constant;
+
+pub use constant::ConstantProblem;
 use equal_runs::{LoadSizes, NONE, read_back, run};
 use std::cmp::Ordering;
-use theory::Problem;
 
 // Whether x has the smaller amount in the last period in which the two differ.
 fn smaller(x: &[u16], y: &[u16]) -> bool
@@ -57,7 +59,7 @@ fn split(left: u64, full: u16) -> Ending
     requires { (0 < full) × (left ≤ full * 96) }
     ensures { LoadsSplit left full result }
 {
-    let c = full as u64;
+    let c = u64::from(full);
     let rest = left % c;
     Ending {
         part: rest as u16,
@@ -66,26 +68,25 @@ fn split(left: u64, full: u16) -> Ending
 }
 
 // The intervals of `count` periods from l on, past the rows.
-// The two areas go one by one: each clause would owe of a struct of `&mut` that both references stay the same.
+// The two areas go one by one, here and below: each clause would owe of a struct of `&mut` that both references stay the same.
 fn lay(
-    p: Problem,
-    full: u16,
+    p: ConstantProblem,
     ending: Ending,
     l: usize,
     count: usize,
     costs: &mut [u64],
     choices: &mut [u16],
 )
-    requires { Layable (lent_constant p full)
+    requires { Layable (constant_problem p)
         l count ending.top (areas costs.old choices.old) }
-    ensures { Laid (lent_constant p.entry full)
-        (load_sizes full ending.part) l count ending.top
+    ensures { Laid (constant_problem p.entry)
+        (load_sizes p.entry.full ending.part) l count ending.top
         (areas costs.old choices.old)
         (areas costs.new choices.new) }
 {
-    let n = p.demand.len();
+    let n = p.problem.demand.len();
     let sizes = LoadSizes {
-        full,
+        full: p.full,
         part: ending.part,
     };
     let top = ending.top;
@@ -93,7 +94,7 @@ fn lay(
     let from = n + 1;
     let past = n * n + n;
     run(
-        p,
+        p.problem,
         l,
         count,
         sizes,
@@ -106,62 +107,60 @@ fn lay(
 
 // The interval from l that makes `left` in as many periods as there are slots: its amounts, and its cost.
 fn trial(
-    p: Problem,
-    full: u16,
+    p: ConstantProblem,
     l: usize,
     left: u64,
     costs: &mut [u64],
     choices: &mut [u16],
     slots: &mut [u16],
 ) -> u64
-    requires { Tryable (lent_constant p full)
-        full l left (length slots.old) (areas costs.old choices.old) }
-    ensures { IntervalTold (lent_constant p.entry full)
-        full l left
+    requires { Tryable (constant_problem p)
+        p.full l left (length slots.old) (areas costs.old choices.old) }
+    ensures { IntervalTold (constant_problem p.entry)
+        p.entry.full l left
         (areas costs.old choices.old)
         result (areas costs.new choices.new) slots.new }
 {
-    let n = p.demand.len();
-    let ending = split(left, full);
-    lay(p, full, ending, l, slots.len(), costs, choices);
+    let n = p.problem.demand.len();
+    let ending = split(left, p.full);
+    lay(p, ending, l, slots.len(), costs, choices);
     let top = ending.top;
     let past = n * n + n;
-    read_back(full, 2 * n + 2, &choices[past..], top, slots);
+    read_back(p.full, 2 * n + 2, &choices[past..], top, slots);
     costs[n + 1 + top]
 }
 
 // Row l, and after it the interval from l that makes `left`: as many periods as there are slots. Its amounts, and its cost.
 fn candidate(
-    p: Problem,
-    full: u16,
+    p: ConstantProblem,
     l: usize,
     left: u64,
     costs: &mut [u64],
     choices: &mut [u16],
     slots: &mut [u16],
 ) -> u64
-    requires { Considerable (lent_constant p full)
-        full l (length slots.old) left (areas costs.old choices.old) }
-    ensures { CandidateTold (lent_constant p.entry full)
-        full l left (length slots.old - l)
+    requires { Considerable (constant_problem p)
+        p.full l (length slots.old) left (areas costs.old choices.old) }
+    ensures { CandidateTold (constant_problem p.entry)
+        p.entry.full l left (length slots.old - l)
         (areas costs.old choices.old)
         result (areas costs.new choices.new) slots.new }
 {
-    let from = l * p.demand.len();
+    let from = l * p.problem.demand.len();
     copy(&choices[from..from + l], &mut slots[..l]);
     let before = costs[l];
-    let run = trial(p, full, l, left, costs, choices, &mut slots[l..]);
+    let run = trial(p, l, left, costs, choices, &mut slots[l..]);
     before + run
 }
 
 // Cells as others of their length hold them. By hand: of std's copy the compiler makes a call of `memmove`, which a station without an operating
-// system need not supply.
+// system need not supply. And `to` by index: of cells that `iter_mut` lends to a `zip` nothing is known afterwards.
 pub fn copy(from: &[u16], to: &mut [u16])
     requires { length to.old ≡ length from.now }
     ensures { to.new ≡ from.now }
 {
-    for i in 0..from.len() {
-        to[i] = from[i];
+    for (i, &amount) in from.iter().enumerate() {
+        to[i] = amount;
     }
 }
 
@@ -194,30 +193,29 @@ fn settle(v: u64, n: usize, slots: &[u16], costs: &mut [u64], choices: &mut [u16
 
 // The candidate that begins with row l is tried for the row of as many periods as there are slots, and kept where it goes first.
 fn consider(
-    p: Problem,
-    full: u16,
+    p: ConstantProblem,
     l: usize,
     left: u64,
     costs: &mut [u64],
     choices: &mut [u16],
     slots: &mut [u16],
 )
-    requires { Considerable (lent_constant p full)
-        full l (length slots.old) left (areas costs.old choices.old) }
-    ensures { Considered (lent_constant p.entry full)
-        full (length slots.old) (l + 1)
+    requires { Considerable (constant_problem p)
+        p.full l (length slots.old) left (areas costs.old choices.old) }
+    ensures { Considered (constant_problem p.entry)
+        p.entry.full (length slots.old) (l + 1)
         (areas costs.old choices.old)
         (areas costs.new choices.new) }
 {
-    let v = candidate(p, full, l, left, costs, choices, slots);
-    settle(v, p.demand.len(), slots, costs, choices);
+    let v = candidate(p, l, left, costs, choices, slots);
+    settle(v, p.problem.demand.len(), slots, costs, choices);
 }
 
 // The row of as many periods as there are slots, whose demand is `need`, from the rows before it.
-fn row(p: Problem, full: u16, need: u64, costs: &mut [u64], choices: &mut [u16], slots: &mut [u16])
-    requires { RowsBefore (lent_constant p full)
-        full (length slots.old) need (areas costs.old choices.old) }
-    ensures { RowFound (lent_constant p.entry full)
+fn row(p: ConstantProblem, need: u64, costs: &mut [u64], choices: &mut [u16], slots: &mut [u16])
+    requires { RowsBefore (constant_problem p)
+        (length slots.old) need (areas costs.old choices.old) }
+    ensures { RowFound (constant_problem p.entry)
         (length slots.old)
         (areas costs.old choices.old)
         (areas costs.new choices.new) }
@@ -225,23 +223,23 @@ fn row(p: Problem, full: u16, need: u64, costs: &mut [u64], choices: &mut [u16],
     let m = slots.len();
     costs[m] = NONE;
     let mut left = need;
-    for l in 0..m {
-        consider(p, full, l, left, costs, choices, slots);
-        left -= p.demand[l] as u64;
+    for (l, &demanded) in p.problem.demand[..m].iter().enumerate() {
+        consider(p, l, left, costs, choices, slots);
+        left -= u64::from(demanded);
     }
 }
 
 // Every row, where each period can make a full load; the last is the plan.
-pub fn rows(p: Problem, full: u16, costs: &mut [u64], choices: &mut [u16], slots: &mut [u16])
-    requires { RowsWanted (lent_constant p full)
-        full (areas costs.old choices.old) slots.old }
-    ensures { PlanRow (lent_constant p.entry full)
-        (length p.entry.demand.now) (areas costs.new choices.new) }
+pub fn rows(p: ConstantProblem, costs: &mut [u64], choices: &mut [u16], slots: &mut [u16])
+    requires { RowsWanted (constant_problem p)
+        (areas costs.old choices.old) slots.old }
+    ensures { PlanRow (constant_problem p.entry)
+        (length p.entry.problem.demand.now) (areas costs.new choices.new) }
 {
     costs[0] = 0;
     let mut need: u64 = 0;
-    for (m, &demanded) in p.demand.iter().enumerate() {
-        need += demanded as u64;
-        row(p, full, need, costs, choices, &mut slots[..m + 1]);
+    for (m, &demanded) in p.problem.demand.iter().enumerate() {
+        need += u64::from(demanded);
+        row(p, need, costs, choices, &mut slots[..m + 1]);
     }
 }

@@ -12,6 +12,7 @@ ghost use Rattle.equal_runs.specs.States.{offer_of, cheaper_of, load_of, state_b
 ghost use Rattle.equal_runs.specs.Fill.{RowFilled, RowLow, Advanced};
 ghost use Rattle.equal_runs.specs.Run.{Runnable, Ran, lent_constant, start_of, step_of, back_of};
 
+use std::cmp::min_by_key;
 use theory::Problem;
 
 // A number above every cost: what can't be reached costs this or more. It is no Option, since it stands in a lent cell of 64 bits.
@@ -45,7 +46,7 @@ fn made_by(sizes: LoadSizes, j: u64, d: u64) -> u64
     requires { (j ≤ 96) × (d ≤ 1) }
     ensures { Term (made sizes.full sizes.part j d) stock_most result }
 {
-    j * sizes.full as u64 + d * sizes.part as u64
+    j * u64::from(sizes.full) + d * u64::from(sizes.part)
 }
 
 // To make x after a state that cost `before`, where it costs `hold` to hold what is then in inventory.
@@ -54,7 +55,7 @@ fn offer(p: RunPeriod, before: u64, x: u16, hold: u64) -> RunState
     ensures { result ≡ offer_of p before x hold }
 {
     RunState {
-        cost: before + (terms::making_cost(p.setup, p.unit, x as u64) + hold),
+        cost: before + (terms::making_cost(p.setup, p.unit, u64::from(x)) + hold),
         amount: x,
     }
 }
@@ -63,7 +64,7 @@ fn offer(p: RunPeriod, before: u64, x: u16, hold: u64) -> RunState
 fn cheaper(a: RunState, b: RunState) -> RunState
     ensures { result ≡ cheaper_of a b }
 {
-    if b.cost < a.cost { b } else { a }
+    min_by_key(a, b, |state| state.cost)
 }
 
 // A load is tried where the state at s has n of it; the state without one stands `step` before s.
@@ -107,6 +108,7 @@ fn state_after(p: RunPeriod, sizes: LoadSizes, row: &[u64], j: usize, d: usize) 
 }
 
 // One period more: the row after it, over the row before it, from its end; what the period makes goes to `picks`, from `base` on.
+// The row and the amounts come one by one, here and below, for the reason beside `tables::put`; `top` and `width` say how far each goes.
 fn advance(
     p: RunPeriod,
     sizes: LoadSizes,
@@ -119,6 +121,7 @@ fn advance(
     ensures { Advanced p sizes 0 top row.old row.new base picks.old
         picks.new }
 {
+    // By index: a state is found from cells at its own place and below it, and written to that place in two lists.
     for s in (0..top + 1).rev() {
         let state = state_after(p, sizes, row, s / 2, s % 2);
         row[s] = state.cost;
@@ -168,9 +171,10 @@ pub fn run(
 {
     start(top, row);
     let mut due: u64 = 0;
+    // By index: a period has an entry in four tables, and its amounts a place among those of the interval.
     for k in 0..count {
         let i = l + k;
-        due += problem.demand[i] as u64;
+        due += u64::from(problem.demand[i]);
         let p = period_at(problem, i, due);
         advance(p, sizes, top, row, k * width, picks);
     }
@@ -195,6 +199,7 @@ pub fn read_back(full: u16, width: usize, picks: &[u16], s: usize, slots: &mut [
     ensures { slots.new ≡ back_of full width picks.now (length slots.old) s }
 {
     let mut state = s;
+    // By index: of slots that `iter_mut` lends to `rev` nothing is known afterwards.
     for k in (0..slots.len()).rev() {
         let x = picks[k * width + state];
         slots[k] = x;

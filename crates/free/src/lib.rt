@@ -45,7 +45,7 @@ fn work(day: Day, costs: &mut [u64], slots: &mut [u16]) -> Totals
 }
 
 // The plan of a day without setup cost whose stores can't bind, into the first n slots.
-// As in every path the tests, then the work: areas, kind and answer are its own, so one entry for all would take each as a parameter.
+// Its own, for the reason beside `full::plan`.
 pub fn plan(day: Day, costs: &mut [u64], slots: &mut [u16]) -> Result<Totals, Refusal>
     ensures { Runs free (lent_day day.entry) (cells_before costs slots) result (cells_after costs slots) }
 {

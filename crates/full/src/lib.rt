@@ -14,6 +14,7 @@ use path_checks::Needed;
 use theory::Problem;
 
 // The plan into the slots, by the needed cells of both areas.
+// The areas come one by one, here and below, for the reason beside `tables::put`.
 fn fill_and_read(
     p: Problem,
     ceilings: &[u16],
@@ -61,7 +62,7 @@ pub fn work(day: Day, costs: &mut [u64], choices: &mut [u16], slots: &mut [u16])
 }
 
 // The plan of a day into the first n slots, with its cost and its setups.
-// As in every path the tests, then the work: areas, kind and answer are its own, so one entry for all would take each as a parameter.
+// Not one `plan` for all paths: they share the call of the tests alone, and each has areas, work and a promise of its own.
 pub fn plan(
     day: Day,
     costs: &mut [u64],

@@ -35,7 +35,8 @@ fn end_for(row: &Row<'_>, entries: &[u16], newcomer: usize) -> usize
     ensures { Outdone row.now.stage (at row.now.costs.now) entries.now newcomer 0 (length entries.now) result }
 {
     let limit = row.key(newcomer);
-    // By place, which is what is sought: `rev` with `position` takes the call a fifth more time.
+    // By place, which is what is sought: `rev` with `position` takes the call a fifth more time, and a closure for `rposition` asks that it is given
+    // entries alone, which of items taken from the back is not known.
     for place in (0..entries.len()).rev() {
         if row.key(usize::from(entries[place])) < limit {
             return place + 1;

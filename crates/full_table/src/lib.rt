@@ -10,6 +10,7 @@ use std::mem;
 use theory::Problem;
 
 // A period as a stage, where the totals from `low` to `high` can be reached before it, and no more than its ceiling may be after it.
+// The ceilings come beside the problem, here and in `full`: the other paths run on it without them, and only these lines read both.
 fn stage_at(p: Problem, ceilings: &[u16], i: usize, low: usize, high: usize) -> Stage
     requires { Staged (lent_problem p) ceilings.now i low high }
     ensures { result ≡ stage_at (lent_problem p.entry) ceilings.now i low high }

@@ -22,7 +22,8 @@ fn earlier(first: Result<(), Refusal>, second: Result<(), Refusal>) -> Result<()
     }
 }
 
-// 1, then 2 and 3 on both, where a second table of needs is read: the lowest, or the actual ones of a played day
+// 1, then 2 and 3 on both, where a second table of needs is read: the lowest, or the actual ones of a played day.
+// It comes beside the day, as a call gives it, here and below: a struct of the two would be made at each call and opened at each test.
 pub fn tables(needs: &[u16], day: Day) -> Result<(), Refusal>
     ensures { result ≡ checked (first (pair_tests needs.now (lent_day day.entry))) }
 {

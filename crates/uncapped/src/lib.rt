@@ -17,6 +17,7 @@ use theory::Problem;
 mod slots;
 
 // The plan into the slots. What is left in the areas is free.
+// The areas come one by one, here and below, for the reason beside `tables::put`.
 fn solve(p: Problem, costs: &mut [u64], choices: &mut [u16], slots: &mut [u16])
     requires { Solvable (lent_uncapacitated p) (memory_of costs.old choices.old slots.old) }
     ensures { Solved
@@ -48,8 +49,7 @@ fn work(day: Day, costs: &mut [u64], choices: &mut [u16], slots: &mut [u16]) -> 
     weigher::totals(day, slots)
 }
 
-// The plan of a day whose capacities and stores can't bind, into the first n slots.
-// As in every path the tests, then the work: areas, kind and answer are its own, so one entry for all would take each as a parameter.
+// The plan of a day whose capacities and stores can't bind, into the first n slots. Its own, for the reason beside `full::plan`.
 pub fn plan(
     day: Day,
     costs: &mut [u64],

@@ -18,7 +18,7 @@ pub fn read_back(demand: &[u16], choices: &[u16], slots: &mut [u16])
     let mut m = demand.len();
     // Not over a range: each row's choice says where the next one ends.
     while 0 < m {
-        let from = choices[m] as usize;
+        let from = usize::from(choices[m]);
         put_lot(demand, slots, from, m - 1);
         m = from;
     }

@@ -15,7 +15,7 @@ use Rattle.theory.specs.Carried.{carried_to, carried_least, before_dear}
 use Rattle.uncapped_rows.specs.declared.LastLot.{LastLot}
 use Rattle.uncapped_rows.specs.declared.Holding.{Holding}
 use Rattle.uncapped_rows.specs.Bounds.{LotFits, SumFits, max_making, max_holding}
-use Rattle.uncapped_rows.specs.Rows.{better, lot_cost, held_through, Least, CheapestOf, NextRowReady, LastLotOf}
+use Rattle.uncapped_rows.specs.Rows.{better, lot_cost, held_through, carried_of, Least, CheapestOf, NextRowReady, LastLotOf}
 
 -- candidates that are dearer than the best are passed over
 dearer_least : (f : ℕ → ℕ) (m l l' : ℕ) (best : LastLot) → l' ≤ l → ((j : ℕ) → l' ≤ j → j < l → best.cost < f j) → Least f m l best → Least f m l' best
@@ -61,7 +61,7 @@ pub record SearchedTo (p : Problem) (costs : ℕ → ℕ) (m l made i : ℕ) (s 
   pub holding : SummedTo p m i s
   pub cheapest : CheapestOf p costs m l best
 
-module _ {p : Problem} {carried costs : List ℕ} {m : ℕ} (ready : NextRowReady p carried costs m) where
+module _ {p : Problem} {costs : List ℕ} {m : ℕ} (ready : NextRowReady p costs m) where
   abbrev M : Model
   M = model_of p
 
@@ -85,16 +85,17 @@ module _ {p : Problem} {carried costs : List ℕ} {m : ℕ} (ready : NextRowRead
       }
 
   -- a cell for each period, which holds what is carried into it
-  carried_size : length carried ≡ length p.unit
-  carried_size = ap length ready.carries ∙ length-list_of (carried_to (at p.unit) (at p.holding)) (length p.unit)
+  module _ {carried : List ℕ} (carries : carried ≡ carried_of p.unit p.holding) where
+    carried_size : length carried ≡ length p.unit
+    carried_size = ap length carries ∙ length-list_of (carried_to (at p.unit) (at p.holding)) (length p.unit)
 
-  pub carried_cell : (l : ℕ) → l ≤ m → l < length carried
-  carried_cell l le = omega (arith, carried_size, ready.inside, ready.bounded.units)
+    pub carried_cell : (l : ℕ) → l ≤ m → l < length carried
+    carried_cell l le = omega (arith, carried_size, ready.inside, ready.bounded.units)
 
-  carried_is : (l : ℕ) → l ≤ m → at carried l ≡ carried_to (at p.unit) (at p.holding) l
-  carried_is l le =
-      ap (λ (cells : List ℕ). at cells l) ready.carries
-      ∙ at-list_of (carried_to (at p.unit) (at p.holding)) (length p.unit) l (omega (arith, ready.inside, ready.bounded.units))
+    carried_is : (l : ℕ) → l ≤ m → at carried l ≡ carried_to (at p.unit) (at p.holding) l
+    carried_is l le =
+        ap (λ (cells : List ℕ). at cells l) carries
+        ∙ at-list_of (carried_to (at p.unit) (at p.holding)) (length p.unit) l (omega (arith, ready.inside, ready.bounded.units))
 
   -- nothing is held through the row's last period
   unheld : M.holding m * (M.floor (suc m) - M.floor (suc m)) ≡ 0
@@ -150,8 +151,9 @@ module _ {p : Problem} {carried costs : List ℕ} {m : ℕ} (ready : NextRowRead
     searched_inside = omega (arith, t.order, t.holding.inside)
 
     -- Where what is carried in from before passes the best, no earlier candidate is tried.
-    pub searched_left : best.cost < at costs l + at carried l * made + s₀.held → CheapestOf p (at costs) m 0 best
-    searched_left dear =
+    pub searched_left : {carried : List ℕ} → carried ≡ carried_of p.unit p.holding → best.cost < at costs l + at carried l * made + s₀.held
+        → CheapestOf p (at costs) m 0 best
+    searched_left {carried} carries dear =
         dearer_least (price M (at costs) (suc m)) m l 0 best (omega arith)
         (λ j a h. omega (arith, bound j h, amount, held_grows l i₀ t.order, t.holding.kept)) t.cheapest
       where
@@ -161,7 +163,7 @@ module _ {p : Problem} {carried costs : List ℕ} {m : ℕ} (ready : NextRowRead
         amount : w * (M.floor (suc m) - M.floor l) ≡ at carried l * made
         amount =
             let e : M.floor (suc m) - M.floor l ≡ made = omega (arith, t.lot) in
-            ap (λ (v : ℕ). w * v) e ∙ ap (λ (v : ℕ). v * made) (sym (carried_is l searched_inside))
+            ap (λ (v : ℕ). w * v) e ∙ ap (λ (v : ℕ). v * made) (sym (carried_is carries l searched_inside))
 
         bound : (j : ℕ) → j < l
             → at costs l + w * (M.floor (suc m) - M.floor l) + (held M (suc m) (suc m) - held M (suc m) l) ≤ price M (at costs) (suc m) j

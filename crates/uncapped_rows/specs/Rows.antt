@@ -49,16 +49,15 @@ abbrev pub LeastCosts : Problem → (ℕ → ℕ) → ℕ → Type 0
 LeastCosts p costs m = (l : ℕ) → l ≤ m → (j : ℕ) → j < l → costs l ≤ price (model_of p) costs l j
 
 -- what the search for row m + 1 asks; and what the rest of it asks, once its last candidate is tried
-pub record NextRowReady (p : Problem) (carried costs : List ℕ) (m : ℕ) : Type 0 where
+pub record NextRowReady (p : Problem) (costs : List ℕ) (m : ℕ) : Type 0 where
   pub bounded : Bounded p
   pub inside : m < periods p
   pub cells : m < length costs
   pub low : LowCosts (at costs) m
   pub least : LeastCosts p (at costs) m
-  pub carries : carried ≡ carried_of p.unit p.holding
 
-pub record RestReady (p : Problem) (carried costs : List ℕ) (m : ℕ) (last : LastLot) : Type 0 where
-  pub ready : NextRowReady p carried costs m
+pub record RestReady (p : Problem) (costs : List ℕ) (m : ℕ) (last : LastLot) : Type 0 where
+  pub ready : NextRowReady p costs m
   pub tried : CheapestOf p (at costs) m m last
 
 -- the last lot of row m + 1, given the costs of the rows before it
@@ -68,15 +67,11 @@ pub record LastLotOf (p : Problem) (costs : ℕ → ℕ) (m : ℕ) (r : LastLot)
   pub low : r.cost ≤ costs m + max_making
   pub least : (j : ℕ) → j ≤ m → r.cost ≤ price (model_of p) costs (suc m) j
 
--- what the rows ask, and what the loop over them asks of the table beside it
+-- what the rows ask
 pub record FillReady (p : Problem) (costs choices : List ℕ) : Type 0 where
   pub bounded : Bounded p
   pub cost_cells : periods p < length costs
   pub choice_cells : periods p < length choices
-
-pub record RowsReady (p : Problem) (carried costs choices : List ℕ) : Type 0 where
-  pub ready : FillReady p costs choices
-  pub carries : carried ≡ carried_of p.unit p.holding
 
 -- what they leave: the choices tell the rows; cells past n are as they were
 pub record RowsWritten (p : Problem) (costs₀ choices₀ costs choices : List ℕ) : Type 0 where

@@ -6,8 +6,12 @@ ghost use Rattle.std.specs.Prelude.{◌≡◌, ◌+◌, ◌*◌, ◌^◌, ◌<�
 ghost use Rattle.day.specs.Sums.{at, Term};
 ghost use Rattle.uncapped_rows.specs.Bounds.{lent_uncapacitated, LotFits, SumFits, Rates};
 ghost use Rattle.uncapped_rows.specs.Rows.{better, lot_cost, held_through, carried_of, CheapestOf, NextRowReady, RestReady, LastLotOf};
-ghost use Rattle.uncapped_rows.specs.Rows.{RowsReady, FillReady, RowsWritten};
+ghost use Rattle.uncapped_rows.specs.Rows.{FillReady, RowsWritten};
 
+mod carrying;
+
+use carrying::Carrying;
+use std::cmp::min_by_key;
 use theory::Problem;
 
 // A row's cost, and how many periods come before its last lot.
@@ -28,14 +32,11 @@ pub struct Holding {
 fn cheaper(best: LastLot, l: usize, price: u64) -> LastLot
     ensures { result ≡ better best l price }
 {
-    if price <= best.cost {
-        LastLot {
-            cost: price,
-            from: l,
-        }
-    } else {
-        best
-    }
+    let tried = LastLot {
+        cost: price,
+        from: l,
+    };
+    min_by_key(tried, best, |lot| lot.cost)
 }
 
 // What it costs to come to l and to make the lot of candidate l.
@@ -61,37 +62,38 @@ fn hold(s: Holding, demand: u16, holding: u32) -> Holding
     requires { SumFits s demand }
     ensures { result ≡ held_through s demand holding }
 {
-    let left = s.left + (demand as u64);
+    let left = s.left + u64::from(demand);
     let held = s.held + terms::holding_cost(holding, s.left);
     Holding { left, held }
 }
 
 // The rest of the search for row m + 1, once its last candidate is tried. A dropped candidate leaves the upkeep where it is summed to, and the
 // next one carries on from there. The row is left where the least that any earlier candidate can cost passes the best.
-fn cheapest(p: Problem, carried: &[u32], costs: &[u64], m: usize, last: LastLot) -> LastLot
-    requires { RestReady (lent_uncapacitated p) carried.now costs.now m last }
-    ensures { CheapestOf (lent_uncapacitated p.entry)
+fn cheapest(p: Carrying, costs: &[u64], m: usize, last: LastLot) -> LastLot
+    requires { RestReady (lent_uncapacitated p.problem) costs.now m last }
+    ensures { CheapestOf (lent_uncapacitated p.entry.problem)
         (at costs.now) m 0 result }
 {
     let mut best = last;
-    let mut made = p.demand[m] as u64;
+    let mut made = u64::from(p.problem.demand[m]);
     let mut i = m;
     let mut s = Holding {
         left: made,
         held: 0,
     };
+    // By index, both loops: a candidate has an entry in five tables, and the sum of its upkeep goes on from where the last one left it.
     'candidates: for l in (0..m).rev() {
-        if best.cost < carried_cost(carried, costs, l + 1, made) + s.held {
+        if best.cost < carried_cost(p.carried, costs, l + 1, made) + s.held {
             return best;
         }
-        made += p.demand[l] as u64;
-        let paid = lot_cost(p, costs, l, made);
+        made += u64::from(p.problem.demand[l]);
+        let paid = lot_cost(p.problem, costs, l, made);
         // its upkeep: strictly above the best it is dropped, and one that only equals the best is carried on
         for k in (l..i).rev() {
             if best.cost < paid + s.held {
                 continue 'candidates;
             }
-            s = hold(s, p.demand[k], p.holding[k]);
+            s = hold(s, p.problem.demand[k], p.problem.holding[k]);
             i = k;
         }
         best = cheaper(best, l, paid + s.held);
@@ -100,20 +102,20 @@ fn cheapest(p: Problem, carried: &[u32], costs: &[u64], m: usize, last: LastLot)
 }
 
 // Row m + 1. Where no more is demanded, it is row m: its last candidate makes nothing.
-fn row(p: Problem, carried: &[u32], costs: &[u64], m: usize) -> LastLot
-    requires { NextRowReady (lent_uncapacitated p) carried.now costs.now m }
-    ensures { LastLotOf (lent_uncapacitated p.entry)
+fn row(p: Carrying, costs: &[u64], m: usize) -> LastLot
+    requires { NextRowReady (lent_uncapacitated p.problem) costs.now m }
+    ensures { LastLotOf (lent_uncapacitated p.entry.problem)
         (at costs.now) m result }
 {
-    let made = p.demand[m] as u64;
+    let made = u64::from(p.problem.demand[m]);
     let last = LastLot {
-        cost: lot_cost(p, costs, m, made),
+        cost: lot_cost(p.problem, costs, m, made),
         from: m,
     };
     if made == 0 {
         return last;
     }
-    cheapest(p, carried, costs, m, last)
+    cheapest(p, costs, m, last)
 }
 
 // For every period what a unit costs at least that is carried into it. Into the first none is: the limit of a unit cost stands there, so that
@@ -124,6 +126,7 @@ fn fill_carried(unit: &[u32], holding: &[u32], carried: &mut [u32])
     ensures { carried.new ≡ carried_of unit.now holding.now }
 {
     let mut least: u32 = 1000000;
+    // The two tables by index: of cells that `iter_mut` lends to a `zip` nothing is known afterwards.
     for (l, cell) in carried.iter_mut().enumerate() {
         *cell = least;
         least = least.min(unit[l]) + holding[l];
@@ -131,14 +134,15 @@ fn fill_carried(unit: &[u32], holding: &[u32], carried: &mut [u32])
 }
 
 // Every row, from the first on, whose cost is 0: cell m of the areas holds row m.
-fn fill_rows(p: Problem, carried: &[u32], costs: &mut [u64], choices: &mut [u16])
-    requires { RowsReady (lent_uncapacitated p) carried.now costs.old choices.old }
-    ensures { RowsWritten (lent_uncapacitated p.entry)
+fn fill_rows(p: Carrying, costs: &mut [u64], choices: &mut [u16])
+    requires { FillReady (lent_uncapacitated p.problem) costs.old choices.old }
+    ensures { RowsWritten (lent_uncapacitated p.entry.problem)
         costs.old choices.old costs.new choices.new }
 {
     costs[0] = 0;
-    for m in 0..p.demand.len() {
-        let next = row(p, carried, costs, m);
+    // By index: a row is found from the cells of all rows before it, and goes into the next cell of two areas.
+    for m in 0..p.problem.demand.len() {
+        let next = row(p, costs, m);
         costs[m + 1] = next.cost;
         choices[m + 1] = next.from as u16;
     }
@@ -153,5 +157,9 @@ pub fn fill(p: Problem, costs: &mut [u64], choices: &mut [u16])
     let mut carried_table = [0u32; 96];
     let carried = &mut carried_table[..p.unit.len()];
     fill_carried(p.unit, p.holding, carried);
-    fill_rows(p, carried, costs, choices);
+    let carrying = Carrying {
+        problem: p,
+        carried,
+    };
+    fill_rows(carrying, costs, choices);
 }

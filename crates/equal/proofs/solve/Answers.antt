@@ -47,9 +47,8 @@ returns-then-full-eq0 c =
     let clear : c.fill.new.self ≡ replicate (length c.args.slots.now) 0 = search rules in
     idle (lent_problem c.args.p) _ c.requires.constant c.if-full-eq0.true (rw c.requires.each at clear)
 
-pub rows-requires : goal.rows-requires
-rows-requires c =
-    record { constant = by_one c.args.p _ c.requires.constant; room = omega arith; sized = c.requires.sized; each = c.requires.each }
+pub invariant_of-constant-clause-constant : goal.invariant_of-constant-clause-constant
+invariant_of-constant-clause-constant c = by_one c.args.p _ c.requires.constant
 
 pub returns : goal.returns
 returns c = last_row c.args.p _ c.requires.constant _ _ c.rows.ensures c.copy.ensures

@@ -1,10 +1,10 @@
 -- The first of the candidates before l is told in row m.
-use Rattle.equal_runs.specs.Run.{lent_constant}
 use Rattle.equal_rows.specs.Rows.{areas}
+use Rattle.equal_rows.specs.Constant.{constant_problem}
 use Rattle.equal_rows.proofs.Trying.{Trying}
 use Rattle.equal_rows.proofs.row.Given as goal
 
 abbrev pub invariant-loop-l : goal.invariant-loop-l
 invariant-loop-l l =
-    Trying (lent_constant l.p l.full) l.full l.m (areas l.initial.costs l.initial.choices) (areas l.costs l.choices)
+    Trying (constant_problem l.p) l.p.full l.m (areas l.initial.costs l.initial.choices) (areas l.costs l.choices)
     l.left l.l

@@ -1,16 +1,16 @@
 -- One row more.
 use Rattle.std.proofs.Common.{ap, ℕ, ◌+◌, length-take-le, length-set, add-one, arith}
 use Rattle.theory.specs.Problem.{demand_to}
-use Rattle.equal_runs.specs.Run.{lent_constant}
 use Rattle.equal_rows.specs.Rows.{Areas, areas, sized_as}
 use Rattle.equal_rows.specs.Consider.{RowFound}
+use Rattle.equal_rows.specs.Constant.{constant_problem}
 use Rattle.equal_rows.proofs.Done.{row_more}
 use Rattle.equal_rows.proofs.rows.Goals as goal
 
 pub loop-m-preserved : goal.loop-m-preserved
 loop-m-preserved c =
     let a = c.args in
-    let p = lent_constant a.p a.full in
+    let p = constant_problem a.p in
     let inv = c.loop-m.invariant in
     let m : ℕ = c.loop-m.m in
     let now : Areas = areas c.loop-m.costs c.loop-m.choices in
@@ -26,14 +26,12 @@ loop-m-preserved c =
 pub row-requires : goal.row-requires
 row-requires c =
     let a = c.args in
-    let p = lent_constant a.p a.full in
+    let p = constant_problem a.p in
     let inv = c.loop-m.invariant in
     let m : ℕ = c.loop-m.m in
     let next = ap (demand_to p) (add-one m) in
     rw (length-take-le (m + 1) c.loop-m.slots (omega arith))
     (record {
-      constant = c.requires.constant;
-      room = c.requires.room;
       some = omega arith;
       inside = omega arith;
       demanded = omega (arith, inv.demanded, next);

@@ -12,9 +12,10 @@ use Rattle.equal_runs.specs.declared.LoadSizes.{LoadSizes}
 use Rattle.equal_runs.specs.Bounds.{stage_most}
 use Rattle.equal_runs.specs.States.{index_of}
 use Rattle.equal_runs.specs.Told.{CostTold, first_to}
-use Rattle.equal_runs.specs.Run.{lent_constant, back_of, back_plan}
+use Rattle.equal_runs.specs.Run.{back_of, back_plan}
 use Rattle.equal_rows.specs.Rows.{Areas, areas, load_sizes, LoadsSplit, AmountsTold, Laid, IntervalTold, interval_of}
 use Rattle.equal_rows.specs.declared.Ending.{Ending}
+use Rattle.equal_rows.specs.Constant.{constant_problem}
 use Rattle.equal_rows.proofs.Parts.{mid_end}
 use Rattle.equal_rows.proofs.trial.Goals as goal
 
@@ -66,5 +67,5 @@ module _ (p : Problem) (c l W count : ℕ) (old new : Areas) (plan : List ℕ) (
 pub returns : goal.returns
 returns c =
     let a = c.args in
-    tried (lent_constant a.p a.full) a.full a.l _ _ (areas a.costs.now a.choices.now)
-    (areas c.lay.new.costs c.lay.new.choices) _ _ c.requires.room c.split-ending.ensures c.read_back.auto.slots c.lay.ensures c.read_back.ensures
+    tried (constant_problem a.p) a.p.full a.l _ _ (areas a.costs.now a.choices.now)
+    (areas c.lay.new.costs c.lay.new.choices) _ _ c.args.p.room c.split-ending.ensures c.read_back.auto.slots c.lay.ensures c.read_back.ensures

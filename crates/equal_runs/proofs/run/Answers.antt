@@ -33,7 +33,7 @@ loop-k-preserved c =
     let k : ℕ = c.loop-k.k in
     let next : a.l + (k + 1) ≡ suc (a.l + k) = omega arith in
     let p = c.period_at-p.result in
-    let e = c.period_at-p.ensures in
+    let e = rw c.from-due.ensures at c.period_at-p.ensures in
     let narrow : Narrow p a.sizes = record { setup = omega arith; unit = omega arith; holding = omega arith; full = omega arith; part = omega arith } in
     record {
       sums = omega (arith, inv.sums, ap (sum_to (at a.problem.demand.now)) next);

@@ -4,9 +4,9 @@ use Rattle.uncapped_rows.proofs.Filling.{rows_none, rows_more}
 use Rattle.uncapped_rows.proofs.fill_rows.Goals as goal
 
 pub loop-m-init : goal.loop-m-init
-loop-m-init c = rows_none _ _ _ (get_or-set_same c.args.costs.now 0 0 0 (omega (arith, c.requires.ready.cost_cells)))
+loop-m-init c = rows_none _ _ _ (get_or-set_same c.args.costs.now 0 0 0 (omega (arith, c.requires.cost_cells)))
 
 pub loop-m-preserved : goal.loop-m-preserved
 loop-m-preserved c =
-    rows_more _ _ _ (simp length-set c.requires.ready.cost_cells) c.requires.ready.choice_cells
+    rows_more _ _ _ (simp length-set c.requires.cost_cells) c.requires.choice_cells
     _ _ _ _ _ (add-one _) c.loop-m-test.true c.loop-m.invariant c.row-next.ensures

@@ -5,4 +5,4 @@ use Rattle.uncapped_rows.proofs.fill_rows.Given as goal
 
 abbrev pub invariant-loop-m : goal.invariant-loop-m
 invariant-loop-m l =
-    LotRowsTo (lent_uncapacitated l.p) l.m l.initial.costs l.initial.choices l.costs l.choices
+    LotRowsTo (lent_uncapacitated l.p.problem) l.m l.initial.costs l.initial.choices l.costs l.choices

@@ -9,7 +9,8 @@ loop-m-preserved c =
     let a = c.args in
     let m = c.loop-m.m in
     let i = c.loop-m.invariant in
-    let less = begins_less (at a.choices.now) c.requires.begins m (m - 1) (omega arith) i.0 in (
+    let less = begins_less (at a.choices.now) c.requires.begins m (m - 1) (omega arith) i.0 in
+    rw c.from-from.ensures (
       omega (arith, less),
-      ends_more a.demand.now a.choices.now a.slots.now m (m - 1) (omega arith) i.0 _ _ c.put_lot.ensures i.1,
+      ends_more a.demand.now a.choices.now a.slots.now m (m - 1) (omega arith) i.0 _ _ (rw c.from-from.ensures at c.put_lot.ensures) i.1,
     )
