@@ -1,22 +1,32 @@
 -- What the search over both tables finds is the first lowest need above its highest.
-use Rattle.std.proofs.Common.{◌≡◌, ◌≤◌, ◌<◌, ℕ, refl, add-one, rules}
-use Rattle.std.proofs.lemmas.Iterator.{IsFirst-from_position, YieldsList-from_slice, YieldsList-from_zip}
+use Rattle.std.proofs.Common.{◌≡◌, refl, sym, ap, ◌∙◌, ℕ, Bool, ltb, length, add-one, rules, arith}
+use Rattle.std.specs.List.{zip}
+use Rattle.std.proofs.lemmas.Iterator.{YieldsList-from_slice, YieldsList-from_zip}
+use Rattle.std.proofs.lemmas.Iterator.Search.{position_from_yields_List}
+use Rattle.std.proofs.lemmas.Slice.Zip.{length-zip, get_or-zip}
 use borrow.Author.Tests.{tests}
 use Rattle.day.specs.Day.{periods}
 use Rattle.day.specs.Find.{find}
 use Rattle.day.specs.Lent.{lent_day}
 use Rattle.day.specs.Refusals.{reverses}
-use Rattle.range_checks.proofs.Laws.{reversed_found}
+use Rattle.checks.specs.Search.{find_position}
 use Rattle.range_checks.proofs.reversed.Goals as goal
 use Rattle.range_checks.proofs.reversed.Goals.{After-position-first}
 
 found : (c : After-position-first) → find (reverses c.args.lowest.now (lent_day c.args.day)) (periods (lent_day c.args.day)) ≡ c.position-first.result
 found c =
-    reversed_found c.args.lowest.now (lent_day c.args.day) c.requires.lowest_len c.position-first.result
-    (IsFirst-from_position c.position-first.new.self _ c.position-first.result (λ (p : ℕ × ℕ). p.1 < p.0) (λ (p : ℕ × ℕ). p.0 ≤ p.1)
-    c.position-first.ensures.ran
-    (YieldsList-from_zip (YieldsList-from_slice c.args.lowest.now (search rules)) (YieldsList-from_slice c.args.day.demand.now (search rules)))
-    (λ x q k. search (rules, tests)) (λ x q k. search (rules, tests)))
+    let lowest = c.args.lowest.now in
+    let demand = c.args.day.demand.now in
+    let size = c.requires.lowest_len in
+    let test : ℕ × ℕ → Bool = λ p. ltb p.1 p.0 in
+    let long : length (zip lowest demand) ≡ length demand = omega (arith, length-zip lowest demand) in
+    let first =
+    position_from_yields_List test c.position-first.new.self _ c.position-first.result c.position-first.ensures.ran
+    (YieldsList-from_zip (YieldsList-from_slice lowest (search rules)) (YieldsList-from_slice demand (search rules)))
+    (λ x b q k. search (rules, tests)) in
+    find_position (reverses lowest (lent_day c.args.day)) test (zip lowest demand) (0, 0)
+    (λ k l. ap test (get_or-zip lowest demand k (0, 0) (omega arith) (omega arith))) long
+    ∙ sym first
 
 pub returns-in-Some : goal.returns-in-Some
 returns-in-Some c = rw (add-one, found (goal.at.returns-in-Some c).After-position-first, c.in-Some.is) refl
