@@ -8,13 +8,15 @@ ghost use Rattle.day.specs.Ranges.{range_refusal, BothBounded, Bounding};
 
 use day::{Bounds, Day, Refusal, Sizes};
 
-// The work, once the tests have passed: the full path on both tables, into slots of its own, since none are lent.
+// The work, once the tests have passed: the full path on both tables, into slots of its own, since none are lent. The lowest needs come beside
+// the day for the reason beside `range_checks::tables`, the areas one by one for that beside `tables::put`.
 fn work(lowest: &[u16], day: Day, costs: &mut [u64], choices: &mut [u16]) -> Bounds
     requires { range_refusal lowest.now (lent_day day) (sizes_of (memory_of costs.old choices.old [])) ≡ None }
     ensures { BothBounded lowest.now (lent_day day.entry) result
         (areas_before costs choices)
         (areas_after costs choices) }
 {
+    // There is no heap: of slots for the longest day the front.
     let mut plan = [0u16; 96];
     let slots = &mut plan[..day.periods()];
     let low = full::work(day.with_demand(lowest), costs, choices, slots);

@@ -1,16 +1,10 @@
 -- What the loop of `rows` keeps, and one row more. Assumes nothing.
-use Rattle.std.proofs.Common.{◌≡◌, refl, ℕ, ◌+◌, ◌*◌, ◌≤◌, ◌<◌, ⊎_elim, eq-or-lt_of_le, arith}
+use Rattle.std.proofs.Common.{◌≡◌, ℕ, ◌+◌, ◌*◌, ◌≤◌, ◌<◌, ⊎_elim, eq-or-lt_of_le, arith}
 use Rattle.std.proofs.Math.Nat.{mul-le-mul_right}
-use Rattle.day.specs.Sums.{at}
-use Rattle.theory.specs.Problem.{Problem, periods, demand_to, model_of}
-use Rattle.theory.specs.Recursion.{plan_none}
+use Rattle.theory.specs.Problem.{Problem, periods, demand_to}
 use Rattle.equal_rows.specs.Rows.{Areas}
 use Rattle.equal_rows.specs.Best.{PlanRow, row_kept}
 use Rattle.equal_rows.specs.Consider.{RowFound}
-
--- no period, and no cost
-pub row_zero : (p : Problem) (a : Areas) → at a.costs 0 ≡ 0 → PlanRow p 0 a
-row_zero p a e = record { plan = rw e (plan_none (model_of p) 0 0 refl refl); low = omega arith }
 
 -- one row more
 pub row_more : (p : Problem) (m : ℕ) (a b : Areas) → m < periods p → ((k : ℕ) → k < m + 1 → PlanRow p k a) → RowFound p (m + 1) a b

@@ -1,5 +1,5 @@
--- What the loop of `row` keeps, and its steps. Main statements: `first_try`, `next_try`, `all_tried`. Assumes nothing.
-use Rattle.std.proofs.Common.{◌≡◌, refl, ap, ℕ, suc, ◌+◌, ◌-◌, ◌*◌, ◌≤◌, ◌<◌, add-one, arith, length, get_or-set_same}
+-- What the loop of `row` keeps, and its steps. Main statements: `next_try`, `all_tried`. Assumes nothing.
+use Rattle.std.proofs.Common.{◌≡◌, refl, ap, ℕ, suc, ◌+◌, ◌-◌, ◌*◌, ◌≤◌, ◌<◌, add-one, arith}
 use Rattle.std.proofs.Math.Nat.{mul-le-mul_right}
 use Rattle.std.proofs.Math.ListN.{set}
 use Rattle.std.proofs.Math.Seq.{take-set-le}
@@ -7,7 +7,7 @@ use Rattle.day.specs.Sums.{at, sum_grows}
 use Rattle.theory.specs.Problem.{Problem, periods, demand_to}
 use Rattle.equal_runs.specs.Bounds.{marker}
 use Rattle.equal_rows.specs.Rows.{Areas, areas, EarlierKept}
-use Rattle.equal_rows.specs.Best.{PlanRow, kept_trans, row_kept, best_none}
+use Rattle.equal_rows.specs.Best.{PlanRow, kept_trans, row_kept}
 use Rattle.equal_rows.specs.Consider.{ConstantCapacity, Considered, RowFound, all_considered}
 
 module _ (p : Problem) (c m : ℕ) where
@@ -18,10 +18,6 @@ module _ (p : Problem) (c m : ℕ) where
   -- what stands before it is as it was
   pub marked_kept : (a : Areas) → EarlierKept (periods p) m a (marked a)
   marked_kept a = record { costs = take-set-le m a.costs m marker (omega arith); choices = refl }
-
-  pub first_try : (a : Areas) → m < length a.costs → Considered p c m 0 (marked a) (marked a)
-  first_try a h =
-      record { kept = record { costs = refl; choices = refl }; best = best_none p c m (marked a) (get_or-set_same a.costs m marker 0 h) }
 
   pub next_try : (l l' : ℕ) (a b d : Areas) → Considered p c m l a b → Considered p c m l' b d → Considered p c m l' a d
   next_try l l' a b d u v = record { kept = kept_trans u.kept v.kept; best = v.best }

@@ -47,6 +47,7 @@ fn fill(row: &Row<'_>, after: &mut [u64], choices: &mut [u16], cells: &mut [u16]
 {
     let stage = row.stage;
     let mut queue = Candidates::new(row, cells);
+    // Over totals, which the recursion counts with; each is the place of its two cells too.
     for total in stage.floor..=stage.top {
         let cell = queue.cell(row, total);
         queue.enter(row, total);

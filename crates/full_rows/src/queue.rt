@@ -8,7 +8,7 @@ ghost use Rattle.full_rows.specs.Queue.{Entry, Queue, Trimmed, Outdone};
 use crate::row::{Row, cheaper};
 use crate::{Cell, Choice};
 
-// The entries are the cells from `head` to `tail`.
+// The entries are the cells from `head` to `tail` of a lent part: there is no heap for a queue of its own.
 #[derive(Drop)]
 pub struct Candidates<'a> {
     cells: &'a mut [u16],

@@ -154,6 +154,7 @@ pub fn fill(p: Problem, costs: &mut [u64], choices: &mut [u16])
     ensures { RowsWritten (lent_uncapacitated p.entry)
         costs.old choices.old costs.new choices.new }
 {
+    // There is no heap: of a table for the longest day the front.
     let mut carried_table = [0u32; 96];
     let carried = &mut carried_table[..p.unit.len()];
     fill_carried(p.unit, p.holding, carried);
