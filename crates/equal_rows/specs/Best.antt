@@ -1,5 +1,5 @@
 -- A row found from the rows before it: what the loop over its candidates keeps, and that it ends with the plan.
--- Main statements: `old_stays`, `new_goes`, `row_found`. Assumes nothing.
+-- Main statements: `best_none`, `old_stays`, `new_goes`, `row_found`. Assumes nothing.
 use Rattle.std.specs.Prelude.{◌≡◌, refl, List, [], ◌∷◌, ℕ, zero, suc, ◌+◌, ◌*◌, ◌≤◌, ◌<◌, take, drop, Option, None, Some}
 use Rattle.std.proofs.Common.{sym, ap, ◌∙◌, ⊎_elim, eq-or-lt_of_le, le_of_suc-le-suc, arith, take-take, get_or-take}
 use Rattle.day.specs.Sums.{at}
@@ -98,6 +98,11 @@ module _ (p : Problem) (m i j : ℕ) (old new : Areas) (kept : FrontKept i j old
 
   pub best_kept : (c i : ℕ) → BestSoFar p c m i old → BestSoFar p c m i new
   best_kept c i best = record { first = best.first; answers = best.answers; told = rw (same_cell, same_row) best.told }
+
+-- No candidate is tried yet.
+pub best_none : (p : Problem) (c m : ℕ) (a : Areas) → at a.costs m ≡ marker → BestSoFar p c m 0 a
+best_none p c m a e =
+    record { first = None; answers = λ y q. omega (arith, q.1); told = record { cost = (omega arith, omega arith); amounts = tt } }
 
 -- All candidates are tried: the first of them is the plan.
 pub row_found : (p : Problem) (c m : ℕ) (a : Areas) → 0 < m → Equal (model_of p) c m → Covered (model_of p) m → BestSoFar p c m m a → PlanRow p m a

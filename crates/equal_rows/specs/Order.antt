@@ -1,5 +1,6 @@
 -- Which of two plans of n periods goes first, by their costs and then by their amounts. Assumes nothing.
 use Rattle.std.specs.Prelude.{◌≡◌, Bool, true, false, ℕ, ◌≤◌}
+use Rattle.std.proofs.Common.{arith}
 use Rattle.day.specs.Plan.{Smaller}
 
 -- what the answer to "is x the smaller?" says
@@ -16,3 +17,8 @@ pub record Sooner (n v : ℕ) (x : ℕ → ℕ) (w : ℕ) (y : ℕ → ℕ) : Ty
 abbrev pub Decided : ℕ → ℕ → (ℕ → ℕ) → ℕ → (ℕ → ℕ) → Bool → Type 0
 Decided n v x w y true = Sooner n v x w y
 Decided n v x w y false = Sooner n w y v x
+
+-- of two that cost the same the smaller goes first
+pub decided_tie : (n v : ℕ) (x : ℕ → ℕ) (w : ℕ) (y : ℕ → ℕ) (r : Bool) → v ≡ w → Ordered n x y r → Decided n v x w y r
+decided_tie n v x w y true e o = record { cheap = omega arith; small = λ _. o }
+decided_tie n v x w y false e o = record { cheap = omega arith; small = λ _. o }

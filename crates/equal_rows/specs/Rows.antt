@@ -1,7 +1,7 @@
 -- The areas of the equal path: the rows in front, the work on an interval past them; and what the numbers of an interval, of a row and of both mean.
 -- Main definitions: `Areas`, `PlanTold`, `row_of`. Assumes nothing.
-use Rattle.std.specs.Prelude.{◌≡◌, List, ℕ, ◌+◌, ◌*◌, ◌/◌, ◌%◌, ◌≤◌, min, length, take, drop, Option, None, Some}
-use Rattle.std.proofs.Common.{◌∙◌}
+use Rattle.std.specs.Prelude.{◌≡◌, List, ◌++◌, ℕ, ◌+◌, ◌*◌, ◌/◌, ◌%◌, ◌≤◌, min, length, take, drop, Option, None, Some}
+use Rattle.std.proofs.Common.{ap, ◌∙◌, arith}
 use Rattle.day.specs.Sums.{at}
 use Rattle.theory.specs.Model.{Model}
 use Rattle.theory.specs.Problem.{Problem, periods, model_of}
@@ -99,3 +99,10 @@ solution_of n a m = record { cost = at a.costs m; plan = row_of n a m }
 pub record CandidateTold (p : Problem) (c l W count : ℕ) (old : Areas) (r : ℕ) (new : Areas) (plan : List ℕ) : Type 0 where
   pub kept : RowsKept (periods p) old new
   pub told : PlanTold ((l + count) * stage_most) r plan (glue (Some (solution_of (periods p) old l)) (interval_of (model_of p) c l W count))
+
+-- it costs and makes what the two do together
+pub glue_told : (A B v : ℕ) (f : Solution) (plan : List ℕ) (o : Option Solution) → f.cost ≤ A → PlanTold B v plan o
+    → PlanTold (A + B) (f.cost + v) (f.plan ++ plan) (glue (Some f) o)
+glue_told A B v f plan None h t = record { cost = (omega (arith, t.cost.0), omega (arith, t.cost.1)); amounts = tt }
+glue_told A B v f plan (Some g) h t =
+    record { cost = (omega (arith, t.cost.0), omega (arith, t.cost.1)); amounts = ap (λ (l : List ℕ). f.plan ++ l) t.amounts }

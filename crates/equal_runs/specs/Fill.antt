@@ -19,6 +19,9 @@ pub record RowFilled (old new : List ℕ) (base : ℕ) (f : ℕ → ℕ) (s top 
   pub done : (t : ℕ) → s ≤ t → t ≤ top → at new (base + t) ≡ f t
   pub low : (i : ℕ) → i < base + s → at new i ≡ at old i
 
+pub filled_none : (l : List ℕ) (base : ℕ) (f : ℕ → ℕ) (s top : ℕ) → s ≡ suc top → RowFilled l l base f s top
+filled_none l base f s top e = record { size = refl; done = λ t a b. absurd (omega arith); low = λ i h. refl }
+
 pub filled_more : (old new : List ℕ) (base : ℕ) (f : ℕ → ℕ) (s s' top i v : ℕ)
     → RowFilled old new base f s top
     → s ≡ suc s'
@@ -43,6 +46,9 @@ pub record Advanced (p : RunPeriod) (w : LoadSizes) (s top : ℕ) (row row' : Li
   pub amounts : RowFilled picks picks' base (λ t. (state_at p w (at row) t).amount) s top
 
 module _ (p : RunPeriod) (w : LoadSizes) (row : List ℕ) (base : ℕ) (picks : List ℕ) (s top : ℕ) where
+  pub advanced_none : s ≡ suc top → Advanced p w s top row row base picks picks
+  advanced_none e = record { costs = filled_none row 0 _ s top e; amounts = filled_none picks base _ s top e }
+
   -- one state more is written, found from the row as it stands
   pub advanced_more : (s' : ℕ) (row' picks' : List ℕ) (state : RunState)
       → Advanced p w s top row row' base picks picks'

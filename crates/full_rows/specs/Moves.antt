@@ -1,7 +1,7 @@
 -- What the moves on the queue keep: entering at its back, leaving at its head, writing elsewhere.
 -- Main statements: `queue_enter` and `queue_trim`. Assumes nothing.
-use Rattle.std.specs.Prelude.{◌≡◌, refl, List, ℕ, ◌+◌, ◌-◌, ◌≤◌, ◌<◌, length, set}
-use Rattle.std.proofs.Common.{le_trans, arith, get_or-set_same, get_or-set_other}
+use Rattle.std.specs.Prelude.{◌≡◌, refl, List, ℕ, ◌+◌, ◌-◌, ◌*◌, ◌≤◌, ◌<◌, min, length, set}
+use Rattle.std.proofs.Common.{ap, le_trans, arith, get_or-set_same, get_or-set_other}
 use Rattle.std.proofs.Math.Decide.{dec_lt}
 use Rattle.day.specs.Sums.{at}
 use Rattle.full_rows.specs.declared.Stage.{Stage}
@@ -11,6 +11,51 @@ pub entry_later : {s : Stage} {X Y : ℕ} (Z : ℕ) → X ≤ Z → Entry s X Y 
 entry_later Z l e = record { low = e.low; high = e.high; below = omega (arith, e.below) }
 
 module _ {s : Stage} {row : ℕ → ℕ} where
+  pub queue_none : (cells : List ℕ) (start : ℕ) → Queue s row cells s.low start start
+  queue_none cells start =
+      record {
+        ordered = omega arith;
+        entries = λ i a b. absurd (omega arith);
+        rising = λ i j a l b. absurd (omega arith);
+        substitutes = λ Y c. absurd (omega (arith, c.entry.low, c.entry.below));
+      }
+
+  -- totals that cannot be reached before the stage need not enter
+  pub queue_later : {cells : List ℕ} {X head tail : ℕ} (Z : ℕ) → X ≤ Z → min Z (s.high + 1) ≤ X → Queue s row cells X head tail
+      → Queue s row cells Z head tail
+  queue_later {cells} {X} Z l m q =
+      record {
+        ordered = q.ordered;
+        entries = λ i a b. entry_later Z l (q.entries i a b);
+        rising = q.rising;
+        substitutes = λ Y c.
+            let e = c.entry in
+            let entry : Entry s X Y = record { low = e.low; high = e.high; below = omega (arith, e.high, e.below) } in
+            q.substitutes Y (record { entry = entry; near = omega (arith, c.near) });
+      }
+
+  -- it reads the row up to `high`, and the cells from its head on
+  pub queue_ext : {row' : ℕ → ℕ} {cells cells' : List ℕ} {X head tail : ℕ} → ((Y : ℕ) → Y ≤ s.high → row' Y ≡ row Y)
+      → ((i : ℕ) → head ≤ i → at cells' i ≡ at cells i) → Queue s row cells X head tail → Queue s row' cells' X head tail
+  queue_ext {row'} {cells} {cells'} {X} {head} {tail} e f q =
+      record {
+        ordered = q.ordered;
+        entries = λ i a b. let g = f i a in rw g (q.entries i a b);
+        rising = λ i j a l b. let g = key_at i a (omega arith) in let h = key_at j (omega arith) b in rw (g, h) (q.rising i j a l b);
+        substitutes = λ Y c.
+            let w = q.substitutes Y c in
+            let g = key_at w.place w.from w.to in
+            let h = key_is Y c.entry.high in
+            let m = f w.place w.from in
+            record { place = w.place; from = w.from; to = w.to; later = rw m w.later; cheap = rw (g, h) w.cheap };
+      }
+    where
+      key_is : (Y : ℕ) → Y ≤ s.high → key_of s row' Y ≡ key_of s row Y
+      key_is Y h = ap (λ (d : ℕ). d + s.unit * (s.top - Y)) (e Y h)
+
+      key_at : (i : ℕ) → head ≤ i → i < tail → key_of s row' (at cells' i) ≡ key_of s row (at cells i)
+      key_at i a b = let g = f i a in rw g (key_is (at cells i) (q.entries i a b).high)
+
   -- Entries that X outdoes leave, and X enters.
   pub queue_enter : {cells : List ℕ} {X head tail r : ℕ} → Queue s row cells X head tail → Entry s (X + 1) X → Outdone s row cells X head tail r
       → r < length cells → Queue s row (set cells r X) (X + 1) head (r + 1)
