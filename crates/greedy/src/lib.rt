@@ -34,6 +34,7 @@ fn source(from: Offers, slots: &[u16], d: usize) -> Option<usize>
     requires { Covers d from.keys.now from.capacity.now slots.now }
     ensures { Sources (at from.entry.keys.now) (at from.entry.capacity.now) (at slots.now) d result }
 {
+    // Over the indices: the answer is one, and of three tables only entry k is used.
     (0..d)
         .filter(|&k| slots[k] < from.capacity[k])
         .min_by_key(|&k| from.keys[k])
@@ -45,7 +46,7 @@ fn serve(from: Offers, slots: &mut [u16], d: usize, need: u16) -> Option<()>
     ensures { Told result (serve (at from.entry.keys.now) (at from.entry.capacity.now) d need slots.old) slots.new }
 {
     let mut left = need;
-    // Not over a range: a batch ends the need or fills a period.
+    // A loop that counts no index: only the batches, as they are made, say how many there are.
     while 0 < left {
         let k = source(from, slots, d)?;
         let batch = left.min(from.capacity[k] - slots[k]);

@@ -27,8 +27,7 @@ fn another(marks: &[u64], dropped: bool) -> Option<Turn>
     if !dropped {
         return None;
     }
-    let period = last_open(marks)?;
-    Some(Turn {
+    last_open(marks).map(|period| Turn {
         period,
         dropped: false,
     })
@@ -40,8 +39,7 @@ pub fn next(marks: &[u64], ahead: usize, dropped: bool) -> Option<Turn>
     requires { ahead ≤ length marks.now }
     ensures { (plan : List ℕ) → turn_of result ≡ next (length marks.now) (state_in marks.now plan ahead dropped) }
 {
-    match last_open(&marks[..ahead]) {
-        Some(period) => Some(Turn { period, dropped }),
-        None => another(marks, dropped),
-    }
+    last_open(&marks[..ahead])
+        .map(|period| Turn { period, dropped })
+        .or_else(|| another(marks, dropped))
 }
