@@ -11,7 +11,7 @@ use day::Stamp;
 // A store limit that limits nothing: no record holds it. It is no Option, since it stands in a lent cell of 16 bits.
 pub const NO_LIMIT: u16 = 65535;
 
-// Numbers stand most significant byte first.
+// Numbers stand most significant byte first. Two functions: `from_be_bytes` is of no trait.
 pub fn number2(body: &[u8], at: usize) -> u16
     requires { at + 1 < length body.now }
     ensures { result ≡ number2 body.now at }
