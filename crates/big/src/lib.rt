@@ -32,6 +32,7 @@ fn answer(day: Day, first: &[u16], best: &[u16], used: usize) -> (Totals, Trials
     let totals = weigher::totals(day, best);
     let free = drops::free_cost(day, first);
     let gap = totals.cost - free;
+    // `as`: from usize std has no From for u64.
     (
         totals,
         Trials {

@@ -1,4 +1,5 @@
 // Records by kind and length, the stamp, the head, and where the period records stand.
+// A place goes beside the whole file: it may hold no record, so there is no struct of one, and places count from the file's first byte.
 ghost use Rattle.std.specs.Prelude.{◌≡◌, ◌+◌, ◌≤◌, ◌<◌, length};
 ghost use Rattle.day.specs.File.{next, number2, number4, is_record, is_period, is_charges, is_stamped, charges_at, head_end, record_at};
 ghost use Rattle.day.specs.File.{periods_in, stamp_of};

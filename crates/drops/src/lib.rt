@@ -44,8 +44,8 @@ pub fn free_cost(day: Day, plan: &[u16]) -> u64
     weigher::totals(free, plan).cost
 }
 
-// Trial 1: all periods are allowed. There is a plan, since no period is short. Capacities, marks and plans come one by one, for the reason beside
-// `tables::put`.
+// Trial 1: all periods are allowed. There is a plan, since no period is short. Here and below capacities, marks and plans come one by one, for the
+// reason beside `tables::put`.
 pub fn begin(
     ready: Ready,
     allowed: &mut [u16],

@@ -22,7 +22,7 @@ pub fn keys(unit: &[u32], holding: &[u32], cells: &mut [u64])
     }
 }
 
-// What the rule serves from: of each period its key, and its capacity.
+// What the rule serves from: of each period its key, and its capacity. Two slices: keys stand in lent cells, capacities in the day's table.
 #[derive(Clone, Copy)]
 pub struct Offers<'a> {
     pub keys: &'a [u64],
@@ -30,6 +30,7 @@ pub struct Offers<'a> {
 }
 
 // The best of the first d periods: it has capacity left and the least key, of equal keys the earliest.
+// `d` goes beside whole tables: what is served is told of all slots, not of a front.
 fn source(from: Offers, slots: &[u16], d: usize) -> Option<usize>
     requires { Covers d from.keys.now from.capacity.now slots.now }
     ensures { Sources (at from.entry.keys.now) (at from.entry.capacity.now) (at slots.now) d result }

@@ -1,4 +1,5 @@
-//! Which period the next trial of a big day forbids. A mark says of each period whether it is forbidden: 0 where it is allowed.
+//! Which period the next trial of a big day forbids. A mark says of each period whether it is forbidden: 0 where it is allowed,
+//! a number, since it stands in a lent cell of 64 bits.
 #![tactic(auto)]
 
 ghost use Rattle.std.specs.Prelude.{◌≡◌, List, ℕ, ◌≤◌, length};
