@@ -1,4 +1,4 @@
--- The work of the call on a big day: what its first step and its last ask and leave. Assumes nothing.
+-- The work of the call on a big day: what its steps ask and leave. Assumes nothing.
 use Rattle.std.specs.Prelude.{◌≡◌, List, ◌++◌, ℕ, ◌-◌, ◌≤◌, ◌<◌, length}
 use Rattle.std.proofs.Common.{sym, ap, ◌∙◌}
 use Rattle.std.proofs.Math.ListN.{get_or-append}

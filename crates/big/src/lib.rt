@@ -17,6 +17,7 @@ fn prepare(day: Day, net: &mut [u16], keys: &mut [u64])
     requires { Preparable (lent_day day) net.old keys.old }
     ensures { Prepared (lent_day day.entry) net.new keys.new }
 {
+    // There is no heap: of tables for the longest day the fronts, here and below.
     let mut rate_table = [0u32; 96];
     let rates = &mut rate_table[..day.periods()];
     net::fill(day, net, rates);
@@ -31,6 +32,7 @@ fn answer(day: Day, first: &[u16], best: &[u16], used: usize) -> (Totals, Trials
     let totals = weigher::totals(day, best);
     let free = drops::free_cost(day, first);
     let gap = totals.cost - free;
+    // `as`: from usize std has no From for u64.
     (
         totals,
         Trials {
@@ -53,7 +55,6 @@ fn make_trials(
     ensures { TrialsGive trials (lent_day day.entry) result first.new marks.new best.new }
 {
     let n = day.periods();
-    // There is no heap: of tables for the longest day the fronts.
     let mut need_table = [0u16; 96];
     let mut allowed_table = [0u16; 96];
     let mut plan_table = [0u16; 96];

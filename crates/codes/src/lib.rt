@@ -25,7 +25,7 @@ pub trait Coded<A> {
     ghost no_values: { (why : Self) → (figures why).values ≡ None };
 }
 
-// What a call gives, as the numbers of its out-array.
+// What a call gives, as the numbers of its out-array. No From: only a type's own crate may write one into an array.
 pub trait Given<A, const N: usize> {
     ghost values: { Self → List A };
 
@@ -139,6 +139,7 @@ impl Given<u64, 3> for (usize, Ends) {
 
     fn numbers(self) -> [u64; 3] {
         let (n, ends) = self;
+        // `as`: from usize std has no From for u64.
         [n as u64, u64::from(ends.opening), u64::from(ends.closing)]
     }
 }
@@ -181,10 +182,7 @@ pub fn shown<A: Copy, T: Given<A, N> + Drop, E: Coded<A> + Drop, const N: usize>
 pub fn checked(answer: Result<(), Refusal>) -> u64
     ensures { result ≡ check_code answer }
 {
-    match answer {
-        Ok(()) => 0,
-        Err(r) => refused(r),
-    }
+    answer.err().map_or(0, refused)
 }
 
 // The stamp that a C program expects, as two numbers; none where they are fewer or more.

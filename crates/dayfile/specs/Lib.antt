@@ -1,4 +1,4 @@
--- The kinds of record, by their bytes.
+-- The kinds of record, by their bytes; the calls and their tests; the layout, what its laws say, and what is said of records that break it.
 pub mod Kinds
 -- The contracts of the calls.
 pub mod Answers

@@ -1,4 +1,5 @@
 // Records by kind and length, the stamp, the head, and where the period records stand.
+// A place goes beside the whole file: it may hold no record, so there is no struct of one, and places count from the file's first byte.
 ghost use Rattle.std.specs.Prelude.{◌≡◌, ◌+◌, ◌≤◌, ◌<◌, length};
 ghost use Rattle.day.specs.File.{next, number2, number4, is_record, is_period, is_charges, is_stamped, charges_at, head_end, record_at};
 ghost use Rattle.day.specs.File.{periods_in, stamp_of};
@@ -11,7 +12,7 @@ use day::Stamp;
 // A store limit that limits nothing: no record holds it. It is no Option, since it stands in a lent cell of 16 bits.
 pub const NO_LIMIT: u16 = 65535;
 
-// Numbers stand most significant byte first.
+// Numbers stand most significant byte first. Two functions: `from_be_bytes` is of no trait.
 pub fn number2(body: &[u8], at: usize) -> u16
     requires { at + 1 < length body.now }
     ensures { result ≡ number2 body.now at }

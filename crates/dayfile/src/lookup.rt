@@ -73,8 +73,5 @@ pub fn find(file: &[u8], period: usize) -> Result<&[u8], Refusal>
 pub fn body(file: &[u8], period: usize) -> &[u8]
     ensures { HandsOut file.entry period result }
 {
-    match find(file, period) {
-        Ok(body) => body,
-        Err(_) => &file[0..0],
-    }
+    find(file, period).unwrap_or(&file[0..0])
 }

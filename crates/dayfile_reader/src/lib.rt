@@ -1,5 +1,4 @@
-//! The reader: the periods of a file into six lent tables. What it does is `Reading` of the
-//! crate dayfile.
+//! The reader: the periods of a file into six lent tables. What it does is `Reading` of the crate dayfile.
 #![tactic(auto)]
 
 ghost use Rattle.std.specs.Prelude.{◌≡◌, ◌≤◌, length, slice_index};
@@ -88,6 +87,7 @@ fn fill(
         ≡ with_day file.entry.bytes.now (tables_lent demand capacity setup unit holding store) }
 {
     let mut at = layout::head_end(file.bytes);
+    // By index: `tables::put` takes one.
     for k in 0..file.periods {
         let p = period(file.bytes, at);
         tables::put(k, p, demand, capacity, setup, unit, holding, store);
@@ -101,6 +101,7 @@ fn values(file: DayFile) -> Result<(), Refusal>
     ensures { result ≡ checked (bad_value (day_in file.entry.bytes.now)) }
 {
     let n = file.periods;
+    // There is no heap: of tables for the longest day the fronts.
     let mut demand = [0u16; 96];
     let mut capacity = [0u16; 96];
     let mut setup = [0u32; 96];

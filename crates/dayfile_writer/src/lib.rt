@@ -85,7 +85,7 @@ fn end_record(n: u16) -> [u8; 3]
     record
 }
 
-// Copies bytes to where `at` says.
+// Copies bytes to where `at` says. A place in lent bytes, here and below: there is no heap to build the file in.
 fn copy(bytes: &[u8], out: &mut [u8], at: usize)
     requires { at + length bytes.now ≤ length out.old }
     ensures { out.new ≡ sets out.old at bytes.now }
@@ -130,6 +130,7 @@ fn put_periods(day: Day, out: &mut [u8], first: usize) -> usize
     ensures written { out.new ≡ sets out.old first (records_of (lent_day day.entry) (periods (lent_day day.entry))) }
 {
     let mut at = first;
+    // By index: a period's entries stand in six tables, whose length is one fact.
     for k in 0..day.periods() {
         let p = day.entries(k);
         let record = period_record(p);

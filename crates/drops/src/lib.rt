@@ -38,13 +38,14 @@ pub fn free_cost(day: Day, plan: &[u16]) -> u64
     requires { FeasiblePlan (starts_free day.capacity.now (lent_day day)) plan.now }
     ensures { result ≡ cost (starts_free day.entry.capacity.now (lent_day day.entry)) (at plan.now) }
 {
+    // There is no heap: of a table for the longest day the front.
     let starts = [0u32; 96];
     let free = day.with_setup(&starts[..day.periods()]);
     weigher::totals(free, plan).cost
 }
 
-// Trial 1: all periods are allowed. There is a plan, since no period is short. Capacities, marks and plans come one by one, for the reason beside
-// `tables::put`.
+// Trial 1: all periods are allowed. There is a plan, since no period is short. Here and below capacities, marks and plans come one by one, for the
+// reason beside `tables::put`.
 pub fn begin(
     ready: Ready,
     allowed: &mut [u16],

@@ -1,6 +1,6 @@
 -- What the search and the service ask, and what a call tells that may find no capacity.
--- Main definitions: `Covers`, `Told`. Main statements: `served_turn`, `served_stuck`, one turn of the service of a need; `told_next`, `told_stuck`, one need more.
--- Assumes nothing.
+-- Main definitions: `Covers`, `Told`. Main statements: `served_turn`, `served_stuck`, one turn of the service of a need; `told_next`, `told_stuck`, one need
+-- more. Assumes nothing.
 use Rattle.std.specs.Prelude.{◌≡◌, Option, Some, None, List, ℕ, suc, ◌+◌, ◌-◌, ◌≤◌, ◌<◌, min, length, set}
 use Rattle.std.proofs.Common.{sym, ap, ◌∙◌, subst, arith}
 use Rattle.day.specs.Sums.{at}

@@ -22,7 +22,7 @@ pub fn keys(unit: &[u32], holding: &[u32], cells: &mut [u64])
     }
 }
 
-// What the rule serves from: of each period its key, and its capacity.
+// What the rule serves from: of each period its key, and its capacity. Two slices: keys stand in lent cells, capacities in the day's table.
 #[derive(Clone, Copy)]
 pub struct Offers<'a> {
     pub keys: &'a [u64],
@@ -30,10 +30,12 @@ pub struct Offers<'a> {
 }
 
 // The best of the first d periods: it has capacity left and the least key, of equal keys the earliest.
+// `d` goes beside whole tables: what is served is told of all slots, not of a front.
 fn source(from: Offers, slots: &[u16], d: usize) -> Option<usize>
     requires { Covers d from.keys.now from.capacity.now slots.now }
     ensures { Sources (at from.entry.keys.now) (at from.entry.capacity.now) (at slots.now) d result }
 {
+    // Over the indices: the answer is one, and of three tables only entry k is used.
     (0..d)
         .filter(|&k| slots[k] < from.capacity[k])
         .min_by_key(|&k| from.keys[k])
@@ -45,7 +47,7 @@ fn serve(from: Offers, slots: &mut [u16], d: usize, need: u16) -> Option<()>
     ensures { Told result (serve (at from.entry.keys.now) (at from.entry.capacity.now) d need slots.old) slots.new }
 {
     let mut left = need;
-    // Not over a range: a batch ends the need or fills a period.
+    // A loop that counts no index: only the batches, as they are made, say how many there are.
     while 0 < left {
         let k = source(from, slots, d)?;
         let batch = left.min(from.capacity[k] - slots[k]);

@@ -1,6 +1,6 @@
 -- What the search for the next period answers, as the rule's definition has it, and laws of the search.
--- Main definitions: `turn_of`, `state_in`. Main statements: `open_here`, `open_below`, one period down; `open_front`, the search looks at the marks of its periods
--- alone. Assumes nothing.
+-- Main definitions: `turn_of`, `state_in`. Main statements: `open_here`, `open_below`, one period down; `open_front`, the search looks at the marks of its
+-- periods alone. Assumes nothing.
 use Rattle.std.specs.Prelude.{◌≡◌, refl, Bool, Option, Some, None, List, ℕ, zero, suc, ◌≤◌, ◌<◌, length, take}
 use Rattle.std.proofs.Common.{ap, ap₂, ◌∙◌, arith, length-take-le, get_or-take}
 use Rattle.day.specs.Sums.{at}

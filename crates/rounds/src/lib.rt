@@ -1,4 +1,5 @@
-//! Which period the next trial of a big day forbids. A mark says of each period whether it is forbidden: 0 where it is allowed.
+//! Which period the next trial of a big day forbids. A mark says of each period whether it is forbidden: 0 where it is allowed,
+//! a number, since it stands in a lent cell of 64 bits.
 #![tactic(auto)]
 
 ghost use Rattle.std.specs.Prelude.{◌≡◌, List, ℕ, ◌≤◌, length};
@@ -27,8 +28,7 @@ fn another(marks: &[u64], dropped: bool) -> Option<Turn>
     if !dropped {
         return None;
     }
-    let period = last_open(marks)?;
-    Some(Turn {
+    last_open(marks).map(|period| Turn {
         period,
         dropped: false,
     })
@@ -40,8 +40,7 @@ pub fn next(marks: &[u64], ahead: usize, dropped: bool) -> Option<Turn>
     requires { ahead ≤ length marks.now }
     ensures { (plan : List ℕ) → turn_of result ≡ next (length marks.now) (state_in marks.now plan ahead dropped) }
 {
-    match last_open(&marks[..ahead]) {
-        Some(period) => Some(Turn { period, dropped }),
-        None => another(marks, dropped),
-    }
+    last_open(&marks[..ahead])
+        .map(|period| Turn { period, dropped })
+        .or_else(|| another(marks, dropped))
 }

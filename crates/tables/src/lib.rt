@@ -31,7 +31,7 @@ pub fn put(
     store[k] = p.store;
 }
 
-// How many cells each table has at least.
+// How many cells each table has at least; the lengths come one by one, as the tables do.
 pub fn shortest(
     demand: usize,
     capacity: usize,

@@ -56,7 +56,8 @@ fn draw(seed: u32) -> Drawn
     }
 }
 
-// The first n cells of each table take the numbers drawn for n periods; later cells stay.
+// The first n cells of each table take the numbers drawn for n periods; later cells stay. The tables come one by one, for the reason beside
+// `tables::put`.
 fn draw_periods(
     seed: u32,
     n: usize,
@@ -72,6 +73,7 @@ fn draw_periods(
         ≡ with_load seed n (tables_lent demand capacity setup unit holding store) }
 {
     let mut at = seed;
+    // By index: `tables::put` takes one.
     for k in 0..n {
         let Drawn {
             entries,
@@ -93,7 +95,7 @@ fn tests(n: usize, cells: usize) -> Result<(), Refusal>
     Ok(())
 }
 
-// Fills the tables with the test load of n periods that the seed gives.
+// Fills the tables with the test load of n periods that the seed gives. The tables come one by one, as those of `draw_periods`.
 pub fn fill(
     seed: u32,
     n: usize,

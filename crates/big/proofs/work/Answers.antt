@@ -9,7 +9,8 @@ use Rattle.big.proofs.work.Goals as goal
 pub make_trials-used-requires : goal.make_trials-used-requires
 make_trials-used-requires c =
     let a = c.args in
-    trials_ask a.trials (lent_day a.day) (memory_of a.costs.now [] a.slots.now) c.requires _ _ _ _ (grind (arith, common_steps)) (grind (arith, common_steps)) (grind (arith, common_steps)) (grind (arith, common_steps))
+    trials_ask a.trials (lent_day a.day) (memory_of a.costs.now [] a.slots.now) c.requires _ _ _ _
+    (grind (arith, common_steps)) (grind (arith, common_steps)) (grind (arith, common_steps)) (grind (arith, common_steps))
 
 pub answer-given-requires : goal.answer-given-requires
 answer-given-requires c =

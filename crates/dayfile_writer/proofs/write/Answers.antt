@@ -1,13 +1,12 @@
--- The tables' refusal, or that of the room after it; else the file, of the length that was summed.
+-- The refusal of the room, after the tables' tests; else the file, of the length that was summed.
 use Rattle.std.proofs.Common.{◌≡◌, ◌+◌, [], ◌∷◌, ℕ, refl, ap, arith, length, lt-ltb, le-ltb}
 use Rattle.std.specs.Prelude.{None}
-use Rattle.std.proofs.lemmas.Result.{err_from_is_err_and}
 use Rattle.day.specs.Sums.{at}
 use Rattle.day.specs.Day.{Day}
 use Rattle.day.specs.Lent.{lent_day}
 use Rattle.day.specs.declared.Stamp.{Stamp}
 use Rattle.day.specs.Refusals.{first, table_tests, bad_slots}
-use Rattle.day.specs.Tests.{passed, refused, is_gives, first_refused, first_passed}
+use Rattle.day.specs.Tests.{passed, is_gives, first_passed}
 use Rattle.day.specs.File.{charges_of, file_of}
 use Rattle.checks.specs.Passed.{Limits, tables_passed}
 use Rattle.dayfile.specs.Answers.{bad_write}
@@ -21,15 +20,6 @@ size_is : (t : Stamp) (d : Day) (head records : ℕ) → Limits d → head ≡ 5
 size_is t d head records w h r =
     let same = ap (record_bytes (at d.store)) w.lengths.store in
     omega (arith, file_length t d, h, r, same)
-
-pub returns-in_err-tables : goal.returns-in_err-tables
-returns-in_err-tables c =
-    let a = c.args in
-    let d = lent_day a.day in
-    let last = bad_slots (length a.out.now) (length (file_of a.stamp d)) in
-    let p = err_from_is_err_and c.from_residual.result c.from_residual.ensures.1 in
-    let r = refused (first (table_tests d)) c.tables.ensures c.in_err-tables.was in
-    rw (p.1, p.2) (is_gives (first_refused (table_tests d) (last ∷ []) r), refl)
 
 pub returns-then-out-size : goal.returns-then-out-size
 returns-then-out-size c =

@@ -5,7 +5,10 @@ use Rattle.theory.specs.Greedy.{serve}
 use Rattle.greedy.proofs.serve.Given as goal
 
 abbrev pub invariant-loop-left : goal.invariant-loop-left
-invariant-loop-left l = serve (at l.from.keys.now) (at l.from.capacity.now) l.d l.left l.slots ≡ serve (at l.from.keys.now) (at l.from.capacity.now) l.d l.need l.fn.slots
+invariant-loop-left l =
+    let key = at l.from.keys.now in
+    let capacity = at l.from.capacity.now in
+    serve key capacity l.d l.left l.slots ≡ serve key capacity l.d l.need l.fn.slots
 
 abbrev pub decreases-loop-left : goal.decreases-loop-left
 decreases-loop-left l = l.left
