@@ -5,12 +5,13 @@
 --     day_in_front, with_day_lem                              the tables that a reading filled begin with the file's day
 --     laid_out; counted, walk_clean                           the walk meets no fault exactly if the file is laid out as `Layout` says
 -- Assumes nothing.
-use Rattle.std.specs.Prelude.{◌≡◌, refl, Bool, true, false, not, ◌&&◌, ◌||◌, cond, List, [], ◌∷◌, ℕ, zero, suc, ◌≤◌, ◌<◌, eqb, leb, ltb}
-use Rattle.std.specs.Prelude.{length, Option, None, Some}
+use Rattle.std.specs.Prelude.{◌≡◌, refl, Bool, true, false, not, ◌&&◌, ◌||◌, cond, List, [], ◌∷◌, ℕ, zero, suc, ◌+◌, ◌-◌, ◌≤◌, ◌<◌, eqb, leb, ltb}
+use Rattle.std.specs.Prelude.{length, take, drop, Option, None, Some}
 use Rattle.std.proofs.Common.{ap, ◌∙◌, arith, eq-or-lt_of_le, le_of_suc-le-suc, inl, inr, ⊎_elim, length-take, length-drop, eqb-true, leb-true}
 use Rattle.std.proofs.Common.{ltb-true, lt-ltb, le-ltb, le-leb, eq-eqb}
 use Rattle.std.proofs.Math.Bool.{or-true}
 use Rattle.std.proofs.Math.Arith.{le-zero}
+use Rattle.std.proofs.Math.Nat.{add-sub_cancel_left}
 use Rattle.std.proofs.lemmas.Bool.{not-true, not-false}
 use Rattle.day.specs.Sums.{at, length-list_of}
 use Rattle.day.specs.declared.Ends.{Ends}
@@ -79,6 +80,10 @@ whole_charges s p e = go (is_record charge_kind s p) refl e
     go : (b : Bool) → is_record charge_kind s p ≡ b → (b && not (both_zero (number2 (body s p) 0) (number2 (body s p) 2))) ≡ true → WholeCharges s p
     go true q w = record { here = whole_record charge_kind s p q; nonzero = not-true _ w }
     go false q w = let z : ◌≡◌ {A = ℕ} 0 1 = cc in absurd (omega arith)
+
+-- a body is what stands from the byte after the kind to the next record
+pub body_part : (s : List ℕ) (p : ℕ) {end : ℕ} → end ≡ next s p → take (end - (p + 1)) (drop (p + 1) s) ≡ body s p
+body_part s p e = rw (e, add-sub_cancel_left) refl
 
 -- a whole body is as long as its kind says
 pub body_whole : (s : List ℕ) (p : ℕ) → next s p ≤ length s → length (body s p) ≡ body_length (at s p)
