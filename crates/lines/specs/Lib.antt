@@ -1,4 +1,4 @@
--- A number's digits; the lines that programs print, and what it means that one stands in a buffer.
+-- A number's digits; the lines that programs print; std's digits are a number's, and a sum over a part of a table.
 pub mod Digits
 pub mod Text
 pub mod Laws

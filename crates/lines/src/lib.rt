@@ -5,7 +5,7 @@ ghost use Rattle.std.specs.Prelude.{◌≡◌, ◌+◌, ◌≤◌, ◌++◌, len
 ghost use Rattle.day.specs.Sums.{at};
 ghost use Rattle.day.specs.Lent.{lent_day};
 ghost use Rattle.day.specs.Plan.{inventory as left};
-ghost use Rattle.lines.specs.Text.{labelled, line_of, labels, line_room, text_bytes, plan_line, amount_line, refusal_line, played_line, margin_refusal_line};
+ghost use Rattle.lines.specs.Text.{labelled, line_of, labels, line_room, text_bytes, line_bytes, plan_line, amount_line, refusal_line, played_line, margin_refusal_line};
 ghost use Rattle.lines.specs.Text.{HavePeriods};
 
 use arrayvec::ArrayString;
@@ -35,7 +35,8 @@ fn put<const CAP: usize>(text: &mut ArrayString<CAP>, word: &str, n: u64)
 fn line<const CAP: usize>(parts: &[(&str, u64)]) -> ArrayString<CAP>
     requires room { line_room (labels parts.now) ≤ CAP }
     requires few { CAP ≤ text_bytes }
-    ensures { result.bytes ≡ line_of (labels parts.now) }
+    ensures said { result.bytes ≡ line_of (labels parts.now) }
+    ensures short { length result.bytes ≤ line_room (labels parts.now) }
 {
     let mut text = ArrayString::new();
     for &(word, n) in parts {
@@ -73,7 +74,8 @@ pub fn amount_line(day: Day, plan: &[u16], i: usize) -> Line
 
 // A refusal, which is the whole text where it stands.
 pub fn refusal_line(refusal: Refusal) -> Text
-    ensures { result.bytes ≡ refusal_line refusal }
+    ensures said { result.bytes ≡ refusal_line refusal }
+    ensures few { length result.bytes ≤ line_bytes }
 {
     let number = u64::from(refusal.number());
     let period = u64::from(refusal.period());

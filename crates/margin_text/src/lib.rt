@@ -1,7 +1,7 @@
 //! The text that `margins` prints for a day and a file of actual needs.
 #![tactic(auto)]
 
-ghost use Rattle.std.specs.Prelude.{◌≡◌, ◌+◌, ◌*◌, ◌≤◌, ◌<◌, length, IfOk, OnOk, IfErr};
+ghost use Rattle.std.specs.Prelude.{◌≡◌, ◌+◌, ◌*◌, ◌/◌, ◌≤◌, ◌<◌, length, IfOk, OnOk, IfErr};
 ghost use Rattle.day.specs.Sums.{at};
 ghost use Rattle.day.specs.Day.{max_demand, max_periods, periods};
 ghost use Rattle.day.specs.Lent.{lent_day};
@@ -43,15 +43,14 @@ fn raise(margin: u16, demand: &[u16]) -> Needs
 }
 
 // The actual needs in a file of two bytes each.
-fn decode(file: &[u8], n: usize) -> Needs
-    requires file_len { length file.now ≡ 2 * n }
-    requires n_bound { n ≤ max_periods }
-    ensures needs { result.items ≡ needs_in file.now n }
-    ensures len { length result.items ≡ n }
+fn decode(file: &[u8]) -> Needs
+    requires { length file.now ≤ 2 * max_periods }
+    ensures needs { result.items ≡ needs_in file.now (length file.now / 2) }
+    ensures len { length result.items ≡ length file.now / 2 }
 {
     let mut needs = Needs::new();
-    for i in 0..n {
-        needs.push(layout::number2(file, 2 * i));
+    for pair in file.chunks_exact(2) {
+        needs.push(layout::number2(pair, 0));
     }
     needs
 }
@@ -104,7 +103,7 @@ fn actual_needs(day: Day, file: &[u8]) -> Result<Needs, Refusal>
     if file.len() != 2 * day.periods() {
         return Err(Refusal::TableLength);
     }
-    let actual = decode(file, day.periods());
+    let actual = decode(file);
     checks::values(day.with_demand(&actual))?;
     Ok(actual)
 }

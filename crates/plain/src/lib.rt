@@ -5,6 +5,7 @@
 ghost use Rattle.std.specs.Prelude.{◌≡◌, ◌↔◌, ◌≤◌, IsTrue};
 ghost use Rattle.day.specs.Day.{periods};
 ghost use Rattle.day.specs.Lent.{lent_day};
+ghost use Rattle.day.specs.Refusals.{number_of};
 ghost use Rattle.plain.specs.Agreement.{SamePlan, without_plan, Agreement};
 ghost use Rattle.plain.specs.Search.{plan_of, plans_of, better_of};
 ghost use Rattle.plain.specs.Optimal.{Searched};
@@ -69,18 +70,19 @@ fn same_plan(plan: [u16; 4], n: usize, slots: &[u16]) -> bool
     requires { n ≤ 4 }
     ensures { IsTrue result ↔ SamePlan n plan slots.now }
 {
-    n <= slots.len() && plan[..n].iter().zip(slots).all(|(x, y)| x == y)
+    slots.starts_with(&plan[..n])
 }
 
-// The refusal's number of a day without a plan: 14 where A is above R + Z, else 7.
-fn without_plan(day: Day) -> u8
+// Whether a refusal is that of a day without a plan: 14 where A is above R + Z, else 7.
+fn says_no_plan(refusal: Refusal, day: Day) -> bool
     requires { periods (lent_day day) ≤ 4 }
-    ensures { result ≡ without_plan (lent_day day.entry) }
+    ensures { IsTrue result ↔ number_of refusal ≡ without_plan (lent_day day.entry) }
 {
-    if checks::required(day) < u64::from(day.ends.opening) {
-        14
-    } else {
-        7
+    let surplus = checks::required(day) < u64::from(day.ends.opening);
+    match refusal {
+        Refusal::SurplusInventory => surplus,
+        Refusal::Shortage(_) => !surplus,
+        _ => false,
     }
 }
 
@@ -94,7 +96,7 @@ pub fn agrees(best: Option<Best>, day: Day, answer: Result<Totals, Refusal>, slo
         return false;
     }
     match (answer, best) {
-        (Err(refusal), None) => refusal.number() == without_plan(day),
+        (Err(refusal), None) => says_no_plan(refusal, day),
         (Ok(totals), Some(found)) => {
             totals == found.totals && same_plan(found.plan, n, slots)
         }

@@ -1,3 +1,2 @@
 -- The text that `dayplan` prints for a day.
 pub mod Text
-pub mod Laws

@@ -11,7 +11,7 @@ ghost use Rattle.plan_text.specs.Text.{amount_lines, SaysPlanOf};
 use day::{Day, Totals};
 use lines::Text;
 
-// The lines of a plan: its first, and one for each period.
+// The lines of a plan: its first, and one for each period. By index: a line gives the period's number, and what both tables' entries up to it leave.
 fn plan_lines(day: Day, plan: &[u16], totals: Totals) -> Text
     requires { HavePeriods day.demand.now plan.now (periods (lent_day day)) }
     ensures { result.bytes ≡ plan_line (periods (lent_day day.entry)) totals.cost totals.setups

@@ -6,7 +6,7 @@ ghost use Rattle.program_plan.specs.Areas.{PlansInAreas};
 
 use day::{Day, Refusal, Totals};
 
-// The full path, in areas of its own.
+// The full path, in areas of its own. They are arrays, since with a heap's memory the call could fail for one reason more.
 pub fn plan(day: Day, slots: &mut [u16]) -> Result<Totals, Refusal>
     ensures { PlansInAreas (lent_day day.entry) slots.old result slots.new }
 {

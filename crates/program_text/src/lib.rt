@@ -31,7 +31,8 @@ fn expected(id: &[u8]) -> Option<Stamp>
     Some(layout::stamp(id))
 }
 
-// Reads a file. One of more than 1,837 bytes is refused 12 before any other test.
+// Reads a file. One of more than 1,837 bytes is refused 12 before any other test. The tables come one by one, as the reader takes them: see beside
+// `put` in crates/tables. In `text_of` they are arrays, which take no heap.
 fn read(
     file: &[u8],
     demand: &mut [u16],

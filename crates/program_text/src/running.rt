@@ -4,25 +4,19 @@ ghost use Rattle.std.specs.Io.KnownBytes.{Appends};
 ghost use Rattle.program_text.specs.Run.{Writes};
 
 use crate::{Program, text_of};
+use std::io;
 use std::io::{Read, Write};
 use std::process::ExitCode;
 use std::rt::Files;
-use std::{fmt, io};
+use thiserror::Error;
 
 // Why a program stops: what it failed to read from or to write to.
-#[derive(Debug, Drop)]
+#[derive(Debug, Drop, Error)]
 enum Stopped {
+    #[error("standard input: {0}")]
     Input(io::Error),
+    #[error("standard output: {0}")]
     Output(io::Error),
-}
-
-impl fmt::Display for Stopped {
-    fn fmt<W: fmt::Write>(&self, f: &mut fmt::Formatter<W>) -> fmt::Result {
-        match self {
-            Stopped::Input(e) => write!(f, "standard input: {e}"),
-            Stopped::Output(e) => write!(f, "standard output: {e}"),
-        }
-    }
 }
 
 // The bytes of the actual needs, which only `margins` reads.

@@ -125,6 +125,7 @@ fn draw_stores(draws: &mut Draws, stores: Stores) -> [u16; 4]
 
 // A made-up day: the first n cells of its tables, and its ends; and the seed for the next one. The ends are drawn after the periods, then
 // the store limits, and the next day's seed is the one before these draws: so the same seed gives the same days but for ends and stores.
+// Six arrays with n beside: a day is lent as six slices of one length, and the lengths of six vectors would be six facts.
 #[derive(Clone, Copy)]
 pub struct Tiny {
     pub seed: u32,
@@ -173,6 +174,7 @@ impl Kind {
         let mut draws = Draws { seed };
         let n = 1 + usize::from(draws.draw() % 4);
         let common = draws.draw() % 5;
+        // One by one: what an array's `map` gives is known call by call alone, and over five tables of four the proof did not close.
         let a = draw_period(&mut draws, self.capacities, common);
         let b = draw_period(&mut draws, self.capacities, common);
         let c = draw_period(&mut draws, self.capacities, common);

@@ -1,16 +1,9 @@
 //! The call, in lent memory whose every cell holds the mark.
-use day::{Day, Refusal, Sizes, Totals, Trials};
+use day::{Day, Sizes, Totals, Trials};
 use std::io;
-use trial_text::cells::Memory;
+use trial_text::cells::{Memory, Outcome};
 use trial_text::line::Line;
 use trial_text::show::{Amounts, Cost, Kept, Refused};
-
-// What a call showed: a plan's totals and the trials that it took, or why it was refused; and whether it left lent cells as it must.
-#[derive(Clone, Copy)]
-pub struct Outcome {
-    pub answer: Result<(Totals, Trials), Refusal>,
-    pub kept: bool,
-}
 
 // So many cost cells and slots: the call takes no choice area.
 pub fn sizes(costs: usize, slots: usize) -> Sizes {
@@ -21,8 +14,8 @@ pub fn sizes(costs: usize, slots: usize) -> Sizes {
     }
 }
 
-// The call, with so many trials allowed. It needs 3 × n cost cells.
-pub fn run(day: Day<'_>, memory: &mut Memory, allowed: usize) -> Outcome {
+// The call, with so many trials allowed: a plan's totals, and the trials that it took. It needs 3 × n cost cells.
+pub fn run(day: Day<'_>, memory: &mut Memory, allowed: usize) -> Outcome<(Totals, Trials)> {
     let answer = big::plan(
         day,
         memory.costs.as_mut_slice(),
@@ -30,11 +23,7 @@ pub fn run(day: Day<'_>, memory: &mut Memory, allowed: usize) -> Outcome {
         allowed,
     );
     let n = day.periods();
-    let kept = match answer {
-        Ok(_) => memory.is_cleared(sizes(n.saturating_mul(3), n)),
-        Err(_) => memory.is_marked(),
-    };
-    Outcome { answer, kept }
+    memory.outcome(answer, sizes(n.saturating_mul(3), n))
 }
 
 // How many trials are allowed is in field 6, how many cost cells and slots are lent in fields 7 and 8.

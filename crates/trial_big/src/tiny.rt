@@ -38,6 +38,7 @@ enum Seen {
     Cheaper = 11,
 }
 
+// Why each enum that is counted has one of these stands beside `Counts` in crates/trial_text.
 impl From<Seen> for u8 {
     fn from(seen: Seen) -> u8 {
         seen as u8

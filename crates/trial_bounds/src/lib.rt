@@ -19,21 +19,17 @@ pub fn bounds<R: Print + AllocGlobal>(rt: &R, line: Line<'_>, day: Day<'_>) -> i
         slots: 0,
     };
     let mut memory = Memory::new(rt.alloc(), lent)?;
-    print!(rt; "{} bounds", line.name)?;
-    let kept = match bounds::least_costs(
+    let answer = bounds::least_costs(
         lowest.as_slice(),
         day,
         memory.costs.as_mut_slice(),
         memory.choices.as_mut_slice(),
-    ) {
-        Err(refusal) => {
-            print!(rt; "{}", Refused(refusal))?;
-            memory.is_marked()
-        }
-        Ok(Bounds { lowest, highest }) => {
-            print!(rt; " lowest {lowest} highest {highest}")?;
-            memory.is_cleared(paths::needed(Path::Full, day))
-        }
-    };
-    println!(rt; "{}", Kept(kept))
+    );
+    let outcome = memory.outcome(answer, paths::needed(Path::Full, day));
+    print!(rt; "{} bounds", line.name)?;
+    match outcome.answer {
+        Err(refusal) => print!(rt; "{}", Refused(refusal))?,
+        Ok(Bounds { lowest, highest }) => print!(rt; " lowest {lowest} highest {highest}")?,
+    }
+    println!(rt; "{}", Kept(outcome.kept))
 }

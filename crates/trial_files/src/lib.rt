@@ -30,17 +30,13 @@ fn hexadecimal(alloc: Global, digits: &str) -> Result<Vec<u8>, AllocError> {
     digits
         .as_bytes()
         .chunks_exact(2)
-        .map(|pair| digit(pair[0]) << 4 | digit(pair[1]))
+        .map(|pair| value(pair[0]) << 4 | value(pair[1]))
         .collect(alloc)
 }
 
 // A digit's value; 0 of anything else.
-fn digit(byte: u8) -> u8 {
-    match byte {
-        b'0'..=b'9' => byte - b'0',
-        b'A'..=b'F' => byte - b'A' + 10,
-        _ => 0,
-    }
+fn value(digit: u8) -> u8 {
+    char::from(digit).to_digit(16).unwrap_or(0) as u8
 }
 
 // The stamp of a station's own files: station 17, on 16 November 2026.
@@ -119,7 +115,7 @@ fn fare_of(alloc: Global, file: &[u8]) -> Result<Fare, AllocError> {
     }
 }
 
-// The file cut at each length.
+// The file cut at each length. By number: a turn takes the first n bytes, and no single one.
 fn cut(alloc: Global, file: &[u8]) -> Result<Counts, AllocError> {
     let mut counts = Counts::new();
     for n in 0..file.len() {
@@ -146,7 +142,7 @@ fn change_at(
     Ok(())
 }
 
-// With every value at each place.
+// With every value at each place. By index: a turn writes at one place, and reads the whole file.
 fn change(alloc: Global, file: &mut [u8]) -> Result<Counts, AllocError> {
     let mut counts = Counts::new();
     for at in 0..file.len() {

@@ -3,11 +3,12 @@ ghost use Rattle.std.specs.Prelude.{◌≤◌};
 
 use day::{Day, Loads, Refusal, Sizes, Totals};
 use std::{fmt, io};
-use trial_text::cells::Memory;
+use trial_text::cells::{Memory, Outcome};
 use trial_text::days::total;
 use trial_text::line::Line;
 use trial_text::show::{Amounts, Cost, Kept, LoadCounts, Refused};
 
+// `day::PathKind` has a fifth, which takes a number of trials too: crates/trial_big tries it.
 #[derive(Clone, Copy)]
 pub enum Path {
     Full,
@@ -41,7 +42,7 @@ impl fmt::Display for Path {
     }
 }
 
-// How many cells and slots a path needs, of at most 128 periods.
+// How many cells and slots a path needs, of at most 128 periods. Counted here once more, and not by `path_checks::cells`: the trials judge that count.
 pub fn needed(path: Path, day: Day<'_>) -> Sizes
     ensures { (result.costs ≤ 8196) × (result.choices ≤ 16785408) }
 {
@@ -60,16 +61,11 @@ pub fn needed(path: Path, day: Day<'_>) -> Sizes
     }
 }
 
-// What a call showed: a plan's totals, with its loads where the path counts them, or why it was refused; and whether it left every lent cell as it
-// must.
-#[derive(Clone, Copy)]
-pub struct Outcome {
-    pub answer: Result<(Totals, Option<Loads>), Refusal>,
-    pub kept: bool,
-}
+// A plan's totals, with its loads where the path counts them.
+pub type Planned = (Totals, Option<Loads>);
 
 // The free path takes no choice area.
-fn plan(path: Path, day: Day<'_>, memory: &mut Memory) -> Result<(Totals, Option<Loads>), Refusal> {
+fn plan(path: Path, day: Day<'_>, memory: &mut Memory) -> Result<Planned, Refusal> {
     let costs = memory.costs.as_mut_slice();
     let choices = memory.choices.as_mut_slice();
     let slots = memory.slots.as_mut_slice();
@@ -85,13 +81,9 @@ fn plan(path: Path, day: Day<'_>, memory: &mut Memory) -> Result<(Totals, Option
 }
 
 // A path in lent memory.
-pub fn run(path: Path, day: Day<'_>, memory: &mut Memory) -> Outcome {
+pub fn run(path: Path, day: Day<'_>, memory: &mut Memory) -> Outcome<Planned> {
     let answer = plan(path, day, memory);
-    let kept = match answer {
-        Ok(_) => memory.is_cleared(needed(path, day)),
-        Err(_) => memory.is_marked(),
-    };
-    Outcome { answer, kept }
+    memory.outcome(answer, needed(path, day))
 }
 
 // One path in so many cells and slots.

@@ -33,6 +33,7 @@ enum Seen {
     Stores = 9,
 }
 
+// Why each enum that is counted has one of these stands beside `Counts` in crates/trial_text.
 impl From<Seen> for u8 {
     fn from(seen: Seen) -> u8 {
         seen as u8
@@ -129,6 +130,7 @@ pub fn made_up<R: Print + AllocGlobal>(rt: &R, line: Line<'_>) -> io::Result<()>
         calls(rt.alloc(), tiny.day(), &mut counts)?;
     }
     print!(rt; "made-up {}", line.name)?;
+    // By number, as a line gives its fields.
     for k in 1..5 {
         print!(rt; "{}", line.field(k))?;
     }

@@ -43,6 +43,7 @@ enum Seen {
     Unplayed = 5,
 }
 
+// Why each enum that is counted has one of these stands beside `Counts` in crates/trial_text.
 impl From<Seen> for u8 {
     fn from(seen: Seen) -> u8 {
         seen as u8

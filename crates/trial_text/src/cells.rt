@@ -1,5 +1,5 @@
 //! Lent cells, every one of which holds the mark before a call.
-use day::Sizes;
+use day::{Refusal, Sizes};
 use std::alloc::{AllocError, Global};
 
 // The mark.
@@ -14,6 +14,13 @@ pub fn marked<T: Copy + Into<u64>>(cells: &[T]) -> bool {
 fn cleared<T: Copy + Into<u64>>(cells: &[T], n: usize) -> bool {
     let (first, later) = cells.split_at(n.min(cells.len()));
     first.iter().all(|cell| (*cell).into() == 0) && marked(later)
+}
+
+// What a call showed: its answer, or why it was refused; and whether it left every lent cell as it must.
+#[derive(Clone, Copy)]
+pub struct Outcome<T> {
+    pub answer: Result<T, Refusal>,
+    pub kept: bool,
 }
 
 // Memory that is lent to a call.
@@ -35,7 +42,7 @@ impl Memory {
     }
 
     // Whether it is as a refused call must leave it: every cell and slot holds the mark.
-    pub fn is_marked(&self) -> bool {
+    fn is_marked(&self) -> bool {
         marked(self.costs.as_slice())
             && marked(self.choices.as_slice())
             && marked(self.slots.as_slice())
@@ -43,10 +50,19 @@ impl Memory {
 
     // Whether it is as a call must leave it that needs so much for its answer: the needed cells hold zero; the later ones, and the slots after the
     // plan, hold the mark.
-    pub fn is_cleared(&self, needed: Sizes) -> bool {
+    fn is_cleared(&self, needed: Sizes) -> bool {
         cleared(self.costs.as_slice(), needed.costs)
             && cleared(self.choices.as_slice(), needed.choices)
             && marked(self.slots.get(needed.slots..).unwrap_or(&[]))
+    }
+
+    // What a call showed that answered so, and needs so much for its answer.
+    pub fn outcome<T>(&self, answer: Result<T, Refusal>, needed: Sizes) -> Outcome<T> {
+        let kept = match answer {
+            Ok(_) => self.is_cleared(needed),
+            Err(_) => self.is_marked(),
+        };
+        Outcome { answer, kept }
     }
 
     // The plan of n periods in the slots.

@@ -4,6 +4,7 @@ use std::fmt;
 const KINDS: usize = 21;
 
 // How many there are of each kind, by the kind's number. It is printed with those numbers; a number past the last is not counted.
+// Each enum of kinds has a `From` of its own, beside it: `as u8` takes one enum at a time, and std has no trait of the enums that it takes.
 #[derive(Drop)]
 pub struct Counts {
     of: [u64; KINDS],

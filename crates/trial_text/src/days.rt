@@ -6,7 +6,7 @@ use crate::line::{Line, first, for_all, numbers};
 use day::{Day, Ends};
 use std::alloc::{AllocError, Global};
 
-// A day's tables, of its own.
+// A day's tables, of its own. Six vectors side by side, since a day is lent as six slices.
 #[derive(Drop)]
 pub struct Tables {
     pub demand: Vec<u16>,
@@ -88,9 +88,8 @@ pub fn total(day: Day<'_>) -> usize
 pub fn summed(demand: &[u16]) -> usize
     ensures { result ≤ 4097 }
 {
-    let mut sum = 0;
-    for need in demand {
-        sum = (sum + usize::from(*need)).min(MANY);
-    }
-    sum
+    let sum = demand
+        .iter()
+        .fold(0usize, |sum, need| sum.saturating_add(usize::from(*need)));
+    sum.min(MANY)
 }

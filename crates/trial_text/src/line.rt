@@ -87,8 +87,7 @@ where
     N: FromStr<Err = ParseIntError> + Default + Copy,
 {
     let mut numbers = numbers(alloc, text)?;
-    if numbers.len() == 1 {
-        let alone: N = numbers[0];
+    if let [alone] = *numbers.as_slice() {
         numbers.resize(n, alone)?;
     }
     Ok(numbers)

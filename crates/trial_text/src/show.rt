@@ -1,4 +1,4 @@
-//! What the trials print, each with a space before it.
+//! What the trials print, each with a space before it. A type for each, since Rust takes a `Display` of another crate's type only here.
 use day::{Ends, Loads, Refusal, Totals};
 use std::fmt;
 
