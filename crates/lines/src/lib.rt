@@ -5,8 +5,8 @@ ghost use Rattle.std.specs.Prelude.{◌≡◌, ◌+◌, ◌≤◌, ◌++◌, len
 ghost use Rattle.day.specs.Sums.{at};
 ghost use Rattle.day.specs.Lent.{lent_day};
 ghost use Rattle.day.specs.Plan.{inventory as left};
-ghost use Rattle.lines.specs.Text.{labelled, line_of, labels, line_room, text_bytes, line_bytes, plan_line, amount_line, refusal_line, played_line, margin_refusal_line};
-ghost use Rattle.lines.specs.Text.{HavePeriods};
+ghost use Rattle.lines.specs.Text.{labelled, line_of, labels, line_room, text_bytes, line_bytes, HavePeriods};
+ghost use Rattle.lines.specs.Text.{plan_line, amount_line, refusal_line, played_line, margin_refusal_line};
 
 use arrayvec::ArrayString;
 use day::{Day, Refusal};

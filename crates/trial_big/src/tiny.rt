@@ -59,14 +59,29 @@ struct Given {
     used: u64,
 }
 
-// Whether one more allowed trial is used, or changes nothing; in no case is the plan dearer.
-fn goes_on(earlier: Option<Given>, given: Given, allowed: u64) -> bool {
-    match earlier {
-        None => given.used == 1 && allowed == 1,
-        Some(earlier) if given.used == allowed => {
-            given.used.checked_sub(earlier.used) == Some(1) && given.cost <= earlier.cost
+// A call's turn: how many trials are allowed, and what the call before it gave, with one fewer.
+#[derive(Clone, Copy)]
+struct Turn {
+    allowed: u64,
+    earlier: Option<Given>,
+}
+
+impl Turn {
+    // Whether one more allowed trial is used, or changes nothing; in no case is the plan dearer.
+    fn goes_on(self, given: Given) -> bool {
+        match self.earlier {
+            None => given.used == 1 && self.allowed == 1,
+            Some(earlier) if given.used == self.allowed => {
+                given.used.checked_sub(earlier.used) == Some(1) && given.cost <= earlier.cost
+            }
+            Some(earlier) => given == earlier,
         }
-        Some(earlier) => given == earlier,
+    }
+
+    // Whether the call is cheaper than the one before it.
+    fn is_cheaper(self, given: Given) -> bool {
+        self.earlier
+            .is_some_and(|earlier| given.cost < earlier.cost)
     }
 }
 
@@ -87,16 +102,10 @@ fn count_refused(refusal: Refusal, plan: Option<Best>, counts: &mut Counts) {
 }
 
 // Of a call that plans.
-fn count_planned(
-    totals: Totals,
-    trials: Trials,
-    found: Found,
-    earlier: Option<Given>,
-    allowed: u64,
-    counts: &mut Counts,
-) {
+fn count_planned(totals: Totals, trials: Trials, found: Found, turn: Turn, counts: &mut Counts) {
     let cost = totals.cost;
     let used = trials.used;
+    let given = Given { cost, used };
     let bound = cost.saturating_sub(trials.gap);
     let free = found.free.map(|free| free.totals.cost);
     counts.count(Seen::Planned);
@@ -105,15 +114,9 @@ fn count_planned(
         Seen::Between,
         found.plan.is_some_and(|plan| bound <= plan.totals.cost && plan.totals.cost <= cost),
     );
-    counts.count_if(
-        Seen::GoesOn,
-        goes_on(earlier, Given { cost, used }, allowed),
-    );
-    counts.count_if(Seen::Stops, used < allowed);
-    counts.count_if(
-        Seen::Cheaper,
-        earlier.is_some_and(|earlier| cost < earlier.cost),
-    );
+    counts.count_if(Seen::GoesOn, turn.goes_on(given));
+    counts.count_if(Seen::Stops, used < turn.allowed);
+    counts.count_if(Seen::Cheaper, turn.is_cheaper(given));
 }
 
 // One call; it gives what the next one is compared with.
@@ -137,7 +140,11 @@ fn call(
     };
     let slots = memory.slots.as_slice();
     counts.count_if(Seen::Holds, holds(day, slots, totals));
-    count_planned(totals, trials, found, earlier, allowed as u64, counts);
+    let turn = Turn {
+        allowed: allowed as u64,
+        earlier,
+    };
+    count_planned(totals, trials, found, turn, counts);
     if allowed == 1 {
         let bound = Totals {
             cost: totals.cost.saturating_sub(trials.gap),
