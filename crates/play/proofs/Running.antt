@@ -1,11 +1,11 @@
--- What a play carries from one period to the next. Main statements: `inventory_balance`, `demand_balance`, through every period; `running_room`, in the
--- loop over the periods no sum is too large for one more. Assumes nothing.
-use Rattle.std.proofs.Common.{◌≡◌, refl, ℕ, zero, suc, ◌+◌, ◌*◌, ◌≤◌, arith}
+-- What a play carries from one period to the next. Main statements: `inventory_balance`, `demand_balance`, through every period;
+-- `running_more`, `running_room`, `running_through`, the loop over the periods. Assumes nothing.
+use Rattle.std.proofs.Common.{◌≡◌, refl, ℕ, zero, suc, ◌+◌, ◌*◌, ◌≤◌, ◌<◌, add-one, arith}
 use Rattle.day.specs.Sums.{sum_to}
 use Rattle.day.specs.Day.{max_periods, max_capacity}
 use Rattle.play.specs.declared.Flows.{Flows}
 use Rattle.play.specs.Play.{delivered_of, lost_of, disposed_of, left_of, available_at, flows_to}
-use Rattle.play.specs.Run.{Room}
+use Rattle.play.specs.Run.{next_of, Room}
 
 module _ (opening : ℕ) (store x needs : ℕ → ℕ) where
   -- what is there is delivered, spilled or left; a need is delivered or missed
@@ -34,6 +34,18 @@ pub record Running (opening : ℕ) (store x needs : ℕ → ℕ) (n i : ℕ) (p 
   pub needed : sum_to needs i ≤ max_capacity * i
 
 module _ {opening : ℕ} {store x needs : ℕ → ℕ} {n i : ℕ} {p : Flows} (r : Running opening store x needs n i p) where
+  -- one period more
+  pub running_more : {q : Flows} → i < n → x i ≤ max_capacity → needs i ≤ max_capacity → q ≡ next_of p (x i) (needs i) (store i)
+      → Running opening store x needs n (i + 1) q
+  running_more l a b e =
+      rw add-one
+      (record {
+        inside = l;
+        sums = rw r.sums at e;
+        produced = omega (arith, r.produced);
+        needed = omega (arith, r.needed);
+      })
+
   -- by the balances no sum is too large for it
   pub running_room : n ≤ max_periods → opening ≤ max_capacity → Room p
   running_room few low =
@@ -48,3 +60,7 @@ module _ {opening : ℕ} {store x needs : ℕ → ℕ} {n i : ℕ} {p : Flows} (
         disposed = omega (arith, there, r.produced, r.inside);
         left = omega (arith, there, r.produced, r.inside);
       })
+
+  -- after the last period it is all of them
+  pub running_through : n ≤ i → p ≡ flows_to opening store x needs n
+  running_through l = let e : i ≡ n = omega (arith, r.inside) in rw e at r.sums
