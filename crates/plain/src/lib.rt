@@ -97,9 +97,7 @@ pub fn agrees(best: Option<Best>, day: Day, answer: Result<Totals, Refusal>, slo
     }
     match (answer, best) {
         (Err(refusal), None) => says_no_plan(refusal, day),
-        (Ok(totals), Some(found)) => {
-            totals == found.totals && same_plan(found.plan, n, slots)
-        }
+        (Ok(totals), Some(found)) => { totals == found.totals && same_plan(found.plan, n, slots) }
         _ => false,
     }
 }
