@@ -39,14 +39,18 @@ module _ {B : Type 0} (P : ℕ → Bool) (test : B → Bool) (xs : List B) (x : 
   pub find_position : {n : ℕ} → length xs ≡ n → find P n ≡ position test xs
   find_position long = subst (λ n. find P n ≡ position test xs) long (go (find P (length xs)) refl)
     where
-      failing : (i : ℕ) → i ≤ (length xs) → find P i ≡ None → (k : ℕ) → k < i → test (get_or xs k x) ≡ false
+      failing : (i : ℕ) → i ≤ length xs → find P i ≡ None → (k : ℕ) → k < i → test (get_or xs k x) ≡ false
       failing i h e k l = same k (omega arith) ∙ none_found P i e k l
 
       go : (o : Option ℕ) → find P (length xs) ≡ o → o ≡ position test xs
-      go None e = let all = position_or_len_is test xs (length xs) x (omega arith) (failing (length xs) (omega arith) e) (λ l. absurd (omega arith)) in rw (all, le-ltb (length xs) (length xs) (omega arith)) refl
+      go None e =
+          let none = failing (length xs) (omega arith) e in
+          let all = position_or_len_is test xs (length xs) x (omega arith) none (λ l. absurd (omega arith)) in
+          rw (all, le-ltb (length xs) (length xs) (omega arith)) refl
       go (Some i) e =
           let f = some_found P (length xs) i e in
-          let here = position_or_len_is test xs i x (omega (arith, f.inside)) (λ k l. same k (omega (arith, f.inside)) ∙ f.first k l) (λ l. same i l ∙ f.passes) in
+          let none : (k : ℕ) → k < i → test (get_or xs k x) ≡ false = λ k l. same k (omega (arith, f.inside)) ∙ f.first k l in
+          let here = position_or_len_is test xs i x (omega (arith, f.inside)) none (λ l. same i l ∙ f.passes) in
           rw (here, lt-ltb i (length xs) f.inside) refl
 
   -- and `any` says whether there is one

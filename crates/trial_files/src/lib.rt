@@ -34,7 +34,7 @@ fn hexadecimal(alloc: Global, digits: &str) -> Result<Vec<u8>, AllocError> {
         .collect(alloc)
 }
 
-// A digit's value; 0 of anything else.
+// A digit's value, of a large letter or a small one; 0 of anything else.
 fn value(digit: u8) -> u8 {
     char::from(digit).to_digit(16).unwrap_or(0) as u8
 }
