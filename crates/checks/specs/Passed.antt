@@ -1,11 +1,11 @@
 -- What a caller of the tests learns. Main statements, in the order of the tests:
---     tables-passed, day-passed             1, 2, 3: what `Limits` says of the tables; 4, 14
---     area-passed                           5
---     shortage-passed, shortage-found       7: what must have been made is at most what can have been; the first period in which it is not
---     equal-passed                          8
---     binding-passed                        9
---     free-passed                           15
---     store-passed                          16
+--     tables_passed, day_passed             1, 2, 3: what `Limits` says of the tables; 4, 14
+--     area_passed                           5
+--     shortage_passed, shortage_found       7: what must have been made is at most what can have been; the first period in which it is not
+--     equal_passed                          8
+--     binding_passed                        9
+--     free_passed                           15
+--     store_passed                          16
 --     admitted                              all tests of a path: what its work relies on
 -- Assumes nothing.
 use Rattle.std.proofs.lemmas.Option.{none-some, same_Some}

@@ -1,6 +1,6 @@
 -- A search for the first period in which a test holds: as a loop, what it knows, a turn, what it answers there and at its end; by the library.
 -- Assumes nothing.
-use Rattle.std.specs.Prelude.{◌≡◌, refl, Bool, true, false, List, ℕ, ◌+◌, ◌≤◌, ◌<◌, length, get_or, Option, None, Some, Ok, Err}
+use Rattle.std.specs.Prelude.{◌≡◌, refl, Bool, true, false, List, ℕ, suc, ◌+◌, ◌≤◌, ◌<◌, length, get_or, Option, None, Some, Result, Ok, Err}
 use Rattle.std.specs.List.{list_any, position}
 use Rattle.std.proofs.Common.{ap, subst, ◌∙◌, add-one, arith, le-ltb, lt-ltb}
 use Rattle.std.proofs.lemmas.List.{get_or_default}
@@ -9,6 +9,11 @@ use Rattle.std.proofs.lemmas.List.Sums.{position_or_len_is}
 use Rattle.day.specs.declared.Refusal.{Refusal}
 use Rattle.day.specs.Find.{find, find_none, find_here, none_found, some_found}
 use Rattle.day.specs.Refusals.{refuse, refuse_at, anywhere, checked}
+
+-- what a search over the periods says: it found none, or the first, counted from 1
+abbrev pub unless_found : Option ℕ → Result Unit ℕ
+unless_found None = Ok tt
+unless_found (Some k) = Err (suc k)
 
 -- of n periods the first i have been passed, and the test holds in none of these
 pub record Searched (P : ℕ → Bool) (n i : ℕ) : Type 0 where

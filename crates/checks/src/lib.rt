@@ -2,17 +2,18 @@
 //! Every function answers what the conditions say that it cites from the crate day. What a caller learns from an answer is in specs/.
 #![tactic(auto)]
 
-ghost use Rattle.std.specs.Prelude.{◌≡◌, ◌-◌, ◌*◌, ◌^◌, ◌≤◌, ◌<◌, length};
+ghost use Rattle.std.specs.Prelude.{◌≡◌, ◌-◌, ◌*◌, ◌^◌, ◌≤◌, ◌<◌, length, IfSome};
 ghost use Rattle.day.specs.Sums.{Term, at, sum_to};
 ghost use Rattle.day.specs.Day.{periods, required, due_of, total, max_periods, max_capacity, max_sum};
 ghost use Rattle.day.specs.Lent.{lent_day};
 ghost use Rattle.day.specs.Refusals.{checked, first, above, bad_count, bad_lengths, bad_value, table_tests, total_tests, day_tests};
 ghost use Rattle.checks.specs.Passed.{Readable};
+ghost use Rattle.checks.specs.Search.{unless_found};
 
 use day::{Day, Ends, Entries, Refusal};
 
 // the limits; upkeep is paid for half a period
-const MAX_PERIODS: usize = 96;
+pub const MAX_PERIODS: usize = 96;
 
 const MAX_DEMAND: u16 = 4096;
 
@@ -57,15 +58,25 @@ fn above(p: Entries) -> bool
     MAX_DEMAND < p.demand || MAX_SETUP < p.setup || MAX_RATE < p.unit || MAX_HALF_RATE < p.holding
 }
 
+// What a search over the periods says: it found none, or the first, counted from 1.
+pub fn unless_found(found: Option<usize>) -> Result<(), u16>
+    requires { IfSome found (λ i. i < max_periods) }
+    ensures { result ≡ unless_found found }
+{
+    match found {
+        Some(i) => Err((i + 1) as u16),
+        None => Ok(()),
+    }
+}
+
+// What is asked of the day, here and below, is what earlier tests have found: no type has it before them.
 // 3, for at most 96 periods in tables of one length: the first period with a value above its limit
 pub fn values(day: Day) -> Result<(), Refusal>
     requires { Readable (lent_day day) }
     ensures { result ≡ checked (bad_value (lent_day day.entry)) }
 {
-    match (0..day.periods()).position(|i| above(day.entries(i))) {
-        Some(i) => Err(Refusal::AboveLimit((i + 1) as u16)),
-        None => Ok(()),
-    }
+    let found = (0..day.periods()).position(|i| above(day.entries(i)));
+    unless_found(found).map_err(Refusal::AboveLimit)
 }
 
 // 1, 2, 3, which open every call on tables
@@ -125,7 +136,8 @@ pub fn day(day: Day, limit: u64) -> Result<(), Refusal>
     totals(day, limit)
 }
 
-// What must have been there by the end of a period: the demand so far, and Z with it after the last.
+// What must have been there by the end of a period: the demand so far, and Z with it after the last. A flag beside Z and no Option, here and in
+// `net_to`: Z stands in the day whether it counts yet or not.
 pub fn due(demanded: u64, closing: u16, last: bool) -> u64
     requires { demanded < 2 ^ 24 }
     ensures { result ≡ due_of last demanded closing }

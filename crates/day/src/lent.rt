@@ -3,8 +3,8 @@ ghost use Rattle.day.specs.Widths.{Widths};
 
 use crate::Ends;
 
-// Its tables, with one entry a period, and its ends. In the operators' words: need r, capacity c, start cost b, unit cost p, upkeep h, store
-// limit s.
+// Its tables, with one entry a period, as six slices, since C lends them so; and its ends. In the operators' words: need r, capacity c,
+// start cost b, unit cost p, upkeep h, store limit s.
 #[derive(Clone, Copy)]
 pub struct Day<'a> {
     pub demand: &'a [u16],

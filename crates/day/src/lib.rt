@@ -36,6 +36,7 @@ pub enum Refusal {
     WrongStamp,
 }
 
+// Numbers, and 0 where no period is named, since C and the operators read them so.
 impl Refusal {
     pub fn number(self) -> u8
         ensures { result ≡ number_of self }
@@ -130,7 +131,7 @@ impl<'a> Day<'a> {
         }
     }
 
-    // The day with another table of needs.
+    // The day with another table of needs. Field by field, as below: of a struct with a ghost field `..self` is not taken.
     pub fn with_demand(self, needs: &'a [u16]) -> Day<'a>
         ensures { lent_day result ≡ with_demand needs.entry.now (lent_day self.entry) }
     {

@@ -10,10 +10,12 @@ ghost use Rattle.theory.specs.Net.{net_needs, rates_of, NetFits, HalfRates, NetT
 ghost use Rattle.theory.specs.Problem.{lent_problem};
 ghost use Rattle.theory.specs.Store.{ceilings_of};
 
+use checks::MAX_PERIODS;
 use day::Day;
 use theory::Problem;
 
-// The net need of every period. Tables are filled by index: of cells that iter_mut lends to a zip nothing is known afterwards.
+// What is asked of the day, here and below, is what the tests of any path leave of it: a type for it would be made for one call a path.
+// The net need of every period. The day by index, here and below: of cells that iter_mut lends to a zip nothing is known afterwards.
 fn fill_needs(day: Day, net: &mut [u16])
     requires net_len { length net.old ≡ periods (lent_day day) }
     requires net_fits { NetFits (lent_day day) }
@@ -22,10 +24,10 @@ fn fill_needs(day: Day, net: &mut [u16])
     let n = day.periods();
     let mut demanded: u64 = 0;
     let mut made: u64 = 0;
-    for i in 0..n {
+    for (i, cell) in net.iter_mut().enumerate() {
         demanded += u64::from(day.demand[i]);
         let next = checks::net_to(demanded, i + 1 == n, day.ends);
-        net[i] = (next - made) as u16;
+        *cell = (next - made) as u16;
         made = next;
     }
 }
@@ -37,6 +39,7 @@ fn fill_rates(holding: &[u32], rates: &mut [u32])
     ensures { rates.new ≡ rates_of holding.now }
 {
     let mut next: u32 = 0;
+    // By index: of rates that iter_mut lends to `rev` nothing is known afterwards.
     for i in (0..holding.len()).rev() {
         rates[i] = holding[i] + next;
         next = holding[i];
@@ -58,16 +61,16 @@ pub fn fill(day: Day, net: &mut [u16], rates: &mut [u32])
 // The cells in which the net needs and the rates of a day stand: there is no heap, so of tables for the longest day the fronts.
 #[derive(Drop)]
 pub struct Tables {
-    net: [u16; 96],
-    rates: [u32; 96],
+    net: [u16; MAX_PERIODS],
+    rates: [u32; MAX_PERIODS],
 }
 
 impl Tables {
     // What they hold is free: `problem` fills what is read.
     pub fn new() -> Tables {
         Tables {
-            net: [0; 96],
-            rates: [0; 96],
+            net: [0; MAX_PERIODS],
+            rates: [0; MAX_PERIODS],
         }
     }
 
@@ -104,9 +107,9 @@ pub fn fill_ceilings(day: Day, ceilings: &mut [u16])
     let total = checks::total(day);
     let opening = u64::from(day.ends.opening);
     let mut demanded: u64 = 0;
-    for i in 0..day.periods() {
+    for (i, cell) in ceilings.iter_mut().enumerate() {
         demanded += u64::from(day.demand[i]);
         let limit = demanded + u64::from(day.store[i]);
-        ceilings[i] = total.min(limit.saturating_sub(opening)) as u16;
+        *cell = total.min(limit.saturating_sub(opening)) as u16;
     }
 }

@@ -52,7 +52,7 @@ pub fn shortage(day: Day) -> Result<(), Refusal>
 {
     let n = day.periods();
     let opening = u64::from(day.ends.opening);
-    // By index, here and in `binding`: a zip of the tables that also counts is no plainer.
+    // By index, here and in `binding`: a zip of the tables with its count would give items such as `(i, ((need, capacity), store))`.
     let mut demanded: u64 = 0;
     let mut most: u64 = 0;
     for i in 0..n {
@@ -67,6 +67,7 @@ pub fn shortage(day: Day) -> Result<(), Refusal>
     Ok(())
 }
 
+// What is asked of the day, here and below, is what earlier tests have found: no type has it before them.
 // 8, for tables of one length: every capacity is as the first
 fn equal(day: Day) -> Result<(), Refusal>
     requires { Readable (lent_day day) }
@@ -101,10 +102,8 @@ fn paid(day: Day) -> Result<(), Refusal>
     requires { Readable (lent_day day) }
     ensures { result ≡ checked (paid_setup (lent_day day.entry)) }
 {
-    match day.setup.iter().position(|setup| *setup > 0) {
-        Some(i) => Err(Refusal::PaidSetup((i + 1) as u16)),
-        None => Ok(()),
-    }
+    let found = day.setup.iter().position(|setup| *setup > 0);
+    checks::unless_found(found).map_err(Refusal::PaidSetup)
 }
 
 // 16, for tables of one length: the first store limit below R + Z
@@ -113,14 +112,11 @@ fn low_store(day: Day) -> Result<(), Refusal>
     ensures { result ≡ checked (low_store (lent_day day.entry)) }
 {
     let required = checks::required(day);
-    match day
+    let found = day
         .store
         .iter()
-        .position(|store| u64::from(*store) < required)
-    {
-        Some(i) => Err(Refusal::LowStore((i + 1) as u16)),
-        None => Ok(()),
-    }
+        .position(|store| u64::from(*store) < required);
+    checks::unless_found(found).map_err(Refusal::LowStore)
 }
 
 // The tests that a path alone applies: of each short path one, then 16; of big days 16.
@@ -182,6 +178,7 @@ fn room(kind: PathKind, day: Day, lent: Sizes) -> Result<(), Refusal>
     ensures { result ≡ checked (first (path_tests (path_of kind) (lent_day day.entry) lent)) }
 {
     let n = day.periods();
+    // `as`: between u64 and usize std has no From.
     memory(lent, cells(kind, n, checks::total(day) as usize), n)?;
     shortage(day)?;
     own(kind, day)

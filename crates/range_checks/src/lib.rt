@@ -53,14 +53,11 @@ fn reversed(lowest: &[u16], day: Day) -> Result<(), Refusal>
     requires readable { Readable (lent_day day) }
     ensures { result ≡ checked (reversed lowest.now (lent_day day.entry)) }
 {
-    let first = lowest
+    let found = lowest
         .iter()
         .zip(day.demand)
         .position(|(low, high)| high < low);
-    match first {
-        Some(i) => Err(Refusal::ReversedRange((i + 1) as u16)),
-        None => Ok(()),
-    }
+    checks::unless_found(found).map_err(Refusal::ReversedRange)
 }
 
 // 5, 17, 18, 7, once 1 to 4 and 14 have passed
@@ -70,6 +67,7 @@ fn bounds(lowest: &[u16], day: Day, lent: Sizes) -> Result<(), Refusal>
     ensures { let d = lent_day day.entry in
         result ≡ checked (first (bound_tests lowest.now d lent ++ (shortage d ∷ []))) }
 {
+    // `as`: between u64 and usize std has no From.
     let total = checks::total(day) as usize;
     path_checks::areas(
         lent,

@@ -27,6 +27,7 @@ pub enum Rule {
     Over,
 }
 
+// A number, since C and the operators read it so.
 impl Rule {
     pub fn number(self) -> u8
         ensures { result ≡ rule_number self }
@@ -119,6 +120,7 @@ fn judge(p: Entries, amount: u16, last: bool, s: Sums, closing: u16) -> Result<S
     })
 }
 
+// A plan comes beside its day, here and below: `compare` reads two of one day.
 // The period at index i: from the sums through the periods before it to those through it, or to the rule that it breaks (`ruling_at`).
 fn advance(day: Day, plan: &[u16], i: usize, s: Sums) -> Result<Sums, Rule>
     requires { NextPeriod (lent_day day) plan.now i s }
@@ -144,7 +146,7 @@ fn advance(day: Day, plan: &[u16], i: usize, s: Sums) -> Result<Sums, Rule>
 //         p_i(x_i)                          making = making_cost(p.setup, p.unit, amount)
 //         h_i × (I_(i−1) + I_i)             upkeep = holding_cost(p.holding, before + left)
 //         the sum through period i          cost = s.cost + making + upkeep
-// A loop and no `try_fold`, so that each turn stands as in the sum.
+// A loop and no `try_fold`, so that each turn stands as in the sum; by index: of a day's six tables `entries` gives period i.
 fn walk(day: Day, plan: &[u16]) -> Result<Totals, Breach>
     requires { Weighable (lent_day day) plan.now }
     ensures { result ≡ walk_of (lent_day day.entry) (at plan.now) }

@@ -1,5 +1,5 @@
 -- What the search over both tables finds is the first lowest need above its highest.
-use Rattle.std.proofs.Common.{◌≡◌, refl, sym, ap, ◌∙◌, ℕ, Bool, ltb, length, add-one, rules, arith}
+use Rattle.std.proofs.Common.{◌≡◌, ℕ, Option, None, Some, Bool, sym, ap, ◌∙◌, length, ltb, rules, arith}
 use Rattle.std.specs.List.{zip}
 use Rattle.std.proofs.lemmas.Iterator.{YieldsList-from_slice, YieldsList-from_zip}
 use Rattle.std.proofs.lemmas.Iterator.Search.{position_from_yields_List}
@@ -8,12 +8,12 @@ use borrow.Author.Tests.{tests}
 use Rattle.day.specs.Day.{periods}
 use Rattle.day.specs.Find.{find}
 use Rattle.day.specs.Lent.{lent_day}
-use Rattle.day.specs.Refusals.{reverses}
-use Rattle.checks.specs.Search.{find_position}
+use Rattle.day.specs.Refusals.{checked, reverses, reversed}
+use Rattle.checks.specs.Search.{unless_found, find_position}
 use Rattle.range_checks.proofs.reversed.Goals as goal
-use Rattle.range_checks.proofs.reversed.Goals.{After-position-first}
+use Rattle.range_checks.proofs.reversed.Goals.{After-position-found}
 
-found : (c : After-position-first) → find (reverses c.args.lowest.now (lent_day c.args.day)) (periods (lent_day c.args.day)) ≡ c.position-first.result
+found : (c : After-position-found) → find (reverses c.args.lowest.now (lent_day c.args.day)) (periods (lent_day c.args.day)) ≡ c.position-found.result
 found c =
     let lowest = c.args.lowest.now in
     let demand = c.args.day.demand.now in
@@ -21,15 +21,17 @@ found c =
     let test : ℕ × ℕ → Bool = λ p. ltb p.1 p.0 in
     let long : length (zip lowest demand) ≡ length demand = omega (arith, length-zip lowest demand) in
     let first =
-    position_from_yields_List test c.position-first.new.self _ c.position-first.result c.position-first.ensures.ran
+    position_from_yields_List test c.position-found.new.self _ c.position-found.result c.position-found.ensures.ran
     (YieldsList-from_zip (YieldsList-from_slice lowest (search rules)) (YieldsList-from_slice demand (search rules)))
     (λ x b q k. search (rules, tests)) in
     find_position (reverses lowest (lent_day c.args.day)) test (zip lowest demand) (0, 0)
     (λ k l. ap test (get_or-zip lowest demand k (0, 0) (omega arith) (omega arith))) long
     ∙ sym first
 
-pub returns-in-Some : goal.returns-in-Some
-returns-in-Some c = rw (add-one, found (goal.at.returns-in-Some c).After-position-first, c.in-Some.is) refl
-
-pub returns-in-None : goal.returns-in-None
-returns-in-None c = rw (found (goal.at.returns-in-None c).After-position-first, c.in-None.is) refl
+pub returns : goal.returns
+returns c = go c.position-found.result (found (goal.at.returns c).After-position-found) c.unless_found.ensures
+  where
+    go : (o : Option ℕ) → find (reverses c.args.lowest.now (lent_day c.args.day)) (periods (lent_day c.args.day)) ≡ o → c.unless_found.result ≡ unless_found o
+        → c.map_err.result ≡ checked (reversed c.args.lowest.now (lent_day c.args.day))
+    go None e is = rw e (search rules)
+    go (Some k) e is = rw e (search rules)
