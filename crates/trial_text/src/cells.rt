@@ -27,7 +27,11 @@ pub struct Outcome<T> {
 
 impl<T: Copy> Outcome<T> {
     // Ends a line: with the refusal, or with what `answered` prints of the answer; and then whether the cells were kept.
-    pub fn print<R: Print, F: FnOnce(T) -> io::Result<()>>(self, rt: &R, answered: F) -> io::Result<()>
+    pub fn print<R: Print, F: FnOnce(T) -> io::Result<()>>(
+        self,
+        rt: &R,
+        answered: F,
+    ) -> io::Result<()>
         requires { F.IsAlwaysCallable answered }
     {
         match self.answer {
