@@ -30,9 +30,9 @@ fn put(rt: &(impl Files + Print + Eprint), name: &str, bytes: &[u8]) -> io::Resu
 }
 
 // The file of a day.
-fn save(rt: &(impl Files + Print + Eprint), name: &str, day: Day) -> io::Result<()> {
-    let mut file = [0u8; 1837];
-    match dayfile_writer::write(day, &mut file, STAMP) {
+fn save(rt: &(impl Files + Print + Eprint + AllocGlobal), name: &str, day: Day) -> io::Result<()> {
+    let mut file = vec![in rt.alloc(); 0; 1837]?;
+    match dayfile_writer::write(day, file.as_mut_slice(), STAMP) {
         Ok(n) => put(rt, name, &file[..n]),
         Err(_) => println!(rt; "refused {name}"),
     }
@@ -90,7 +90,7 @@ fn save_ends(rt: &(impl Files + Print + Eprint + AllocGlobal)) -> io::Result<()>
 }
 
 // M11's tables, with a store that takes little before the last period: what the second needs, the first can't make.
-fn save_store(rt: &(impl Files + Print + Eprint)) -> io::Result<()> {
+fn save_store(rt: &(impl Files + Print + Eprint + AllocGlobal)) -> io::Result<()> {
     let day = Day::new(
         &[2, 2, 3],
         &[4, 4, 4],
@@ -113,7 +113,7 @@ fn fuel() -> [u32; 96] {
     array::from_fn(|i| if i < 28 { 1100 } else { 900 })
 }
 
-fn save_passes(rt: &(impl Files + Print + Eprint)) -> io::Result<()> {
+fn save_passes(rt: &(impl Files + Print + Eprint + AllocGlobal)) -> io::Result<()> {
     let demand = passes();
     let unit = fuel();
     let day = Day::new(

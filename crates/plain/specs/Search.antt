@@ -21,6 +21,15 @@ plans_of n = if nat_le 1 n && nat_le n 4 then 11 ^ n else 0
 abbrev pub found_as : Totals → List ℕ → Best
 found_as t plan = record { totals = t; plan = plan }
 
+-- what a plan that has been weighed is found as
+abbrev pub found_of : List ℕ → Weighed → Option Best
+found_of plan (Err fault) = None
+found_of plan (Ok t) = Some (found_as t plan)
+
+-- plan number m, where it holds
+abbrev pub found_at : Day → ℕ → Option Best
+found_at d m = found_of (plan_of m) (weighed_of d (plan_of m))
+
 -- the better of the best so far and a plan that has been weighed; of equally cheap ones the best so far
 abbrev pub better_of : Option Best → List ℕ → Weighed → Option Best
 better_of best plan (Err fault) = best

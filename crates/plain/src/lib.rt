@@ -7,13 +7,13 @@ ghost use Rattle.day.specs.Day.{periods};
 ghost use Rattle.day.specs.Lent.{lent_day};
 ghost use Rattle.day.specs.Refusals.{number_of};
 ghost use Rattle.plain.specs.Agreement.{SamePlan, without_plan, Agreement};
-ghost use Rattle.plain.specs.Search.{plan_of, plans_of, better_of};
+ghost use Rattle.plain.specs.Search.{plan_of, plans_of, found_at};
 ghost use Rattle.plain.specs.Optimal.{Searched};
 
 use day::{Day, Refusal, Totals};
-use weigher::Fault;
 
 // What the search finds: the day's plan in the first cells, with its cost and setups.
+// An array, not a vector of n amounts: `plan_of` gives four and the weigher takes four, and n is the day's, which stands by wherever a plan is read.
 #[derive(Clone, Copy)]
 pub struct Best {
     pub totals: Totals,
@@ -39,16 +39,14 @@ fn plans(n: usize) -> u32
     }
 }
 
-// The better of the best so far and a plan that has been weighed; of equally cheap ones the best so far.
-fn better(best: Option<Best>, plan: [u16; 4], weighed: Result<Totals, Fault>) -> Option<Best>
-    ensures { result ≡ better_of best plan weighed }
+// Plan number m with its cost and setups, where it holds.
+fn found(day: Day, m: u32) -> Option<Best>
+    ensures { result ≡ found_at (lent_day day.entry) m }
 {
-    let Ok(totals) = weighed else {
-        return best;
-    };
-    match best {
-        Some(found) if found.totals.cost <= totals.cost => best,
-        _ => Some(Best { totals, plan }),
+    let plan = plan_of(m);
+    match weigher::weigh(day, &plan) {
+        Ok(totals) => Some(Best { totals, plan }),
+        Err(_) => None,
     }
 }
 
@@ -56,13 +54,9 @@ fn better(best: Option<Best>, plan: [u16; 4], weighed: Result<Totals, Fault>) ->
 pub fn search(day: Day) -> Option<Best>
     ensures { Searched (lent_day day.entry) result }
 {
-    let mut best = None;
-    for m in 0..plans(day.periods()) {
-        let plan = plan_of(m);
-        let weighed = weigher::weigh(day, &plan);
-        best = better(best, plan, weighed);
-    }
-    best
+    (0..plans(day.periods()))
+        .filter_map(|m| found(day, m))
+        .min_by_key(|best| best.totals.cost)
 }
 
 // Whether the first n slots hold the plan found.

@@ -9,6 +9,7 @@ ghost use Rattle.test_load.specs.Draws.{next_seed, seed_after, upper};
 ghost use Rattle.tiny_days.specs.MadeUp.{capacity_of, store_of, drawn_of, ends_from, stores_from, MadeUp, day_in, days_left};
 
 use day::{Day, Ends};
+use std::array;
 use test_load::{next_seed, upper};
 
 // Which capacities a made-up day has: any, one throughout, or such as cannot bind.
@@ -38,7 +39,7 @@ pub enum Stores {
     Ample,
 }
 
-// The store limit of one period, from the number drawn for it.
+// The store limit of one period, from the number drawn for it; 65,535 limits nothing, for the reason beside `NO_LIMIT` in crates/dayfile.
 fn store_of(stores: Stores, drawn: u16) -> u16
     ensures { result ≡ store_of stores drawn }
 {
@@ -49,7 +50,7 @@ fn store_of(stores: Stores, drawn: u16) -> u16
     }
 }
 
-// The draws of a test load, one after the other.
+// The draws of a test load, one after the other: a day has draws before and after its periods, so they are no period's alone, as a test load's are.
 #[derive(Drop)]
 struct Draws {
     seed: u32,
@@ -65,7 +66,7 @@ impl Draws {
     }
 }
 
-// One period of a made-up day. Small numbers, so that ties are many.
+// One period of a made-up day. Small numbers, so that ties are many. Not `day::Entries`: the store limits are drawn later, after the ends.
 #[derive(Clone, Copy)]
 struct Drawn {
     demand: u16,
@@ -119,8 +120,7 @@ fn draw_ends(draws: &mut Draws, most: u16) -> Ends
 fn draw_stores(draws: &mut Draws, stores: Stores) -> [u16; 4]
     ensures { result ≡ stores_from draws.old.seed stores }
 {
-    let mut limit = || store_of(stores, draws.draw() % 6);
-    [limit(), limit(), limit(), limit()]
+    array::from_fn(|_| store_of(stores, draws.draw() % 6))
 }
 
 // A made-up day: the first n cells of its tables, and its ends; and the seed for the next one. The ends are drawn after the periods, then
@@ -174,7 +174,8 @@ impl Kind {
         let mut draws = Draws { seed };
         let n = 1 + usize::from(draws.draw() % 4);
         let common = draws.draw() % 5;
-        // One by one: what an array's `map` gives is known call by call alone, and over five tables of four the proof did not close.
+        // One by one, here and in the tables below: what `array::from_fn` or an array's `map` gives is known call by call alone, and over five tables of
+        // four the proof did not close.
         let a = draw_period(&mut draws, self.capacities, common);
         let b = draw_period(&mut draws, self.capacities, common);
         let c = draw_period(&mut draws, self.capacities, common);

@@ -3,7 +3,7 @@ use day::{Day, Sizes, Totals, Trials};
 use std::io;
 use trial_text::cells::{Memory, Outcome};
 use trial_text::line::Line;
-use trial_text::show::{Amounts, Cost, Kept, Refused};
+use trial_text::show::{Amounts, Cost};
 
 // So many cost cells and slots: the call takes no choice area.
 pub fn sizes(costs: usize, slots: usize) -> Sizes {
@@ -31,12 +31,9 @@ pub fn lent<R: Print + AllocGlobal>(rt: &R, line: Line<'_>, day: Day<'_>) -> io:
     let mut memory = Memory::new(rt.alloc(), sizes(line.number(7), line.number(8)))?;
     let outcome = run(day, &mut memory, line.number(6));
     print!(rt; "{} big", line.name)?;
-    match outcome.answer {
-        Err(refusal) => print!(rt; "{}", Refused(refusal))?,
-        Ok((totals, Trials { used, gap })) => {
-            let plan = memory.plan(day.periods());
-            print!(rt; "{}{} trials {used} gap {gap}", Amounts(plan), Cost(totals))?;
-        }
-    }
-    println!(rt; "{}", Kept(outcome.kept))
+    outcome.print(rt, |(totals, trials)| {
+        let Trials { used, gap } = trials;
+        let plan = memory.plan(day.periods());
+        print!(rt; "{}{} trials {used} gap {gap}", Amounts(plan), Cost(totals))
+    })
 }

@@ -141,6 +141,7 @@ fn call(
     let slots = memory.slots.as_slice();
     counts.count_if(Seen::Holds, holds(day, slots, totals));
     let turn = Turn {
+        // `as`: from usize std has no From for u64.
         allowed: allowed as u64,
         earlier,
     };
@@ -166,10 +167,10 @@ fn calls(
     trials: usize,
     counts: &mut Counts,
 ) -> Result<(), AllocError> {
-    let starts = [0; 4];
+    let starts = vec![in alloc; 0; day.periods()]?;
     let found = Found {
         plan: plain::search(day),
-        free: plain::search(day.with_setup(&starts[..day.periods().min(4)])),
+        free: plain::search(day.with_setup(starts.as_slice())),
     };
     counts.count_if(Seen::Plans, found.plan.is_some());
     let mut earlier = None;

@@ -7,7 +7,6 @@ use trial_paths::paths;
 use trial_paths::paths::Path;
 use trial_text::cells::Memory;
 use trial_text::line::{Line, numbers};
-use trial_text::show::{Kept, Refused};
 
 // The lowest needs are in field 6, how many cost cells and choice cells are lent in fields 7 and 8. After a refusal every cell holds the mark.
 // Otherwise the cells that the full path needs for the highest needs hold zero, later ones the mark.
@@ -27,9 +26,8 @@ pub fn bounds<R: Print + AllocGlobal>(rt: &R, line: Line<'_>, day: Day<'_>) -> i
     );
     let outcome = memory.outcome(answer, paths::needed(Path::Full, day));
     print!(rt; "{} bounds", line.name)?;
-    match outcome.answer {
-        Err(refusal) => print!(rt; "{}", Refused(refusal))?,
-        Ok(Bounds { lowest, highest }) => print!(rt; " lowest {lowest} highest {highest}")?,
-    }
-    println!(rt; "{}", Kept(outcome.kept))
+    outcome.print(rt, |bounds| {
+        let Bounds { lowest, highest } = bounds;
+        print!(rt; " lowest {lowest} highest {highest}")
+    })
 }

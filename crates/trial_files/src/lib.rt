@@ -46,6 +46,7 @@ const OWN: Stamp = Stamp {
 };
 
 // The stamp that the reader is to expect: the two numbers of field 3, or its own where the field is left out. Fewer or more are no stamp.
+// Not by `codes::expected`, which takes a C program's numbers: there no number at all is no stamp either.
 fn expected(alloc: Global, line: Line<'_>) -> Result<Option<Stamp>, AllocError> {
     match numbers(alloc, line.field(3))?.as_slice() {
         [] => Ok(Some(OWN)),
@@ -86,6 +87,7 @@ enum Fare {
 }
 
 // The number of the refusal, 0 where there is none, and 15, which is no file's refusal, for anything else.
+// Not by `as u8`, as beside the other enums that are counted: a refusal's number is no variant's here.
 impl From<Fare> for u8 {
     fn from(fare: Fare) -> u8 {
         match fare {
@@ -96,12 +98,12 @@ impl From<Fare> for u8 {
     }
 }
 
-// Whether a day is written to the very bytes of a file.
-fn same(file: &[u8], day: Day<'_>) -> bool {
-    let mut out = [0u8; 1837];
-    match dayfile_writer::write(day, &mut out, OWN) {
-        Ok(n) => out.get(..n) == Some(file),
-        Err(_) => false,
+// How a file fares that is read as such a day.
+fn rewritten(alloc: Global, file: &[u8], day: Day<'_>) -> Result<Fare, AllocError> {
+    let mut out = vec![in alloc; MARK; ROOM]?;
+    match dayfile_writer::write(day, out.as_mut_slice(), OWN) {
+        Ok(n) if out.as_slice().get(..n) == Some(file) => Ok(Fare::Same),
+        _ => Ok(Fare::Wrong),
     }
 }
 
@@ -110,8 +112,8 @@ fn fare_of(alloc: Global, file: &[u8]) -> Result<Fare, AllocError> {
     let mut tables = Tables::marked(alloc, 2)?;
     match read_into(file, &mut tables, Some(OWN)) {
         Err(refusal) if marked(tables.demand.as_slice()) => Ok(Fare::Refused(refusal)),
-        Ok((_, ends)) if same(file, tables.day(ends)) => Ok(Fare::Same),
-        _ => Ok(Fare::Wrong),
+        Ok((_, ends)) => rewritten(alloc, file, tables.day(ends)),
+        Err(_) => Ok(Fare::Wrong),
     }
 }
 
@@ -168,20 +170,21 @@ fn read<R: Print + AllocGlobal>(
     }
 }
 
-// How long the part is that a lookup hands out, none where it is refused, with the demand and the store limit in it; and what the test of a lookup says.
+// How long the part is that a lookup hands out, with the demand and the store limit in it; no byte where it is refused, and why.
 fn look(rt: &impl Print, file: &[u8], period: usize) -> io::Result<()> {
-    let body = dayfile::lookup::body(file, period);
-    print!(rt; " bytes {}", body.len())?;
-    if let Some(need) = body.get(1) {
-        print!(rt; " need {need}")?;
+    match dayfile::lookup::find(file, period) {
+        Err(refusal) => print!(rt; " bytes 0{}", Refused(refusal)),
+        Ok(body) => {
+            print!(rt; " bytes {}", body.len())?;
+            if let Some(need) = body.get(1) {
+                print!(rt; " need {need}")?;
+            }
+            if let Some([high, low]) = body.get(16..18) {
+                print!(rt; " store {}", u16::from_be_bytes([*high, *low]))?;
+            }
+            Ok(())
+        }
     }
-    if let Some([high, low]) = body.get(16..18) {
-        print!(rt; " store {}", u16::from_be_bytes([*high, *low]))?;
-    }
-    if let Err(refusal) = dayfile::lookup::check(file, period) {
-        print!(rt; "{}", Refused(refusal))?;
-    }
-    Ok(())
 }
 
 // A trial of the file in field 1, by the first word of the name.

@@ -6,9 +6,10 @@ use std::{fmt, io};
 use trial_text::cells::{Memory, Outcome};
 use trial_text::days::total;
 use trial_text::line::Line;
-use trial_text::show::{Amounts, Cost, Kept, LoadCounts, Refused};
+use trial_text::show::{Amounts, Cost, LoadCounts};
 
 // `day::PathKind` has a fifth, which takes a number of trials too: crates/trial_big tries it.
+// By match here, and in tiny.rt: each match is a table with a row for a path, and a type for each path would leave `ALL` nothing to hold.
 #[derive(Clone, Copy)]
 pub enum Path {
     Full,
@@ -97,17 +98,13 @@ fn within<R: Print + AllocGlobal>(
     let mut memory = Memory::new(rt.alloc(), lent)?;
     let outcome = run(path, day, &mut memory);
     print!(rt; "{} {path}", line.name)?;
-    match outcome.answer {
-        Err(refusal) => print!(rt; "{}", Refused(refusal))?,
-        Ok((totals, loads)) => {
-            let plan = memory.plan(day.periods());
-            print!(rt; "{}{}", Amounts(plan), Cost(totals))?;
-            if let Some(loads) = loads {
-                print!(rt; "{}", LoadCounts(loads))?;
-            }
+    outcome.print(rt, |(totals, loads)| {
+        print!(rt; "{}{}", Amounts(memory.plan(day.periods())), Cost(totals))?;
+        match loads {
+            Some(loads) => print!(rt; "{}", LoadCounts(loads)),
+            None => Ok(()),
         }
-    }
-    println!(rt; "{}", Kept(outcome.kept))
+    })
 }
 
 // Each path in two cells and a slot more than it needs.

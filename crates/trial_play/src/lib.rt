@@ -53,6 +53,7 @@ impl From<Seen> for u8 {
 // Whether both sums come out: opening + made = delivered + spilled + left, and delivered + missed = needed.
 fn balanced(flows: Flows, needs: &[u16], ends: Ends) -> bool {
     let gone = flows.delivered.wrapping_add(flows.disposed);
+    // `as`: from usize std has no From for u64.
     u64::from(ends.opening).wrapping_add(flows.produced) == gone.wrapping_add(flows.left)
         && flows.delivered.wrapping_add(flows.lost) == summed(needs) as u64
 }

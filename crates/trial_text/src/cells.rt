@@ -1,6 +1,8 @@
 //! Lent cells, every one of which holds the mark before a call.
+use crate::show::{Kept, Refused};
 use day::{Refusal, Sizes};
 use std::alloc::{AllocError, Global};
+use std::io;
 
 // The mark.
 pub const MARK: u8 = 119;
@@ -21,6 +23,23 @@ fn cleared<T: Copy + Into<u64>>(cells: &[T], n: usize) -> bool {
 pub struct Outcome<T> {
     pub answer: Result<T, Refusal>,
     pub kept: bool,
+}
+
+impl<T: Copy> Outcome<T> {
+    // Ends a line: with the refusal, or with what `answered` prints of the answer; and then whether the cells were kept.
+    pub fn print<R: Print, F: FnOnce(T) -> io::Result<()>>(
+        self,
+        rt: &R,
+        answered: F,
+    ) -> io::Result<()>
+        requires { F.IsAlwaysCallable answered }
+    {
+        match self.answer {
+            Err(refusal) => print!(rt; "{}", Refused(refusal))?,
+            Ok(answer) => answered(answer)?,
+        }
+        println!(rt; "{}", Kept(self.kept))
+    }
 }
 
 // Memory that is lent to a call.

@@ -19,7 +19,7 @@ pub struct Tables {
 
 impl Tables {
     // Those of a line: five in its fields 1 to 5, of the last three of which one number stands for all periods; and its store limits, none of
-    // which limits where they are left out.
+    // which limits where they are left out: 65,535, for the reason beside `NO_LIMIT` in crates/dayfile.
     pub fn of(alloc: Global, line: Line<'_>) -> Result<Tables, AllocError> {
         let demand = numbers(alloc, line.field(1))?;
         let n = demand.len();

@@ -1,4 +1,4 @@
-//! What the trials print, each with a space before it. A type for each, since Rust takes a `Display` of another crate's type only here.
+//! What the trials print, each with a space before it. A type for each, since Rust takes no `Display` of another crate's type here.
 use day::{Ends, Loads, Refusal, Totals};
 use std::fmt;
 
@@ -67,7 +67,7 @@ impl fmt::Display for Charge {
     }
 }
 
-// The store limits of a day, where one of them limits anything.
+// The store limits of a day, where one of them limits anything. 65,535 does not: it is no Option, for the reason beside `NO_LIMIT` in crates/dayfile.
 #[derive(Clone, Copy)]
 pub struct Stores<'a>(pub &'a [u16]);
 

@@ -10,6 +10,8 @@ use trial_text::line::Line;
 
 // The trials of a line that begins with five of a day's tables: demands; capacities; setup, unit and holding costs. After a '|' it has the day's
 // ends and, after a '/' there, the sixth: store limits.
+// From here on `rt`, `line` and `day` go side by side: where to print, what is asked, and of which day. A struct of the three would hold two borrows
+// and a type parameter, and most trials would take it apart.
 fn day<R: Print + AllocGlobal>(rt: &R, line: Line<'_>) -> io::Result<()> {
     let tables = Tables::of(rt.alloc(), line)?;
     let day = tables.day(ends_of(line));

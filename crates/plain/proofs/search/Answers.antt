@@ -1,20 +1,20 @@
--- A plan more is weighed, and the better kept; on a tiny day what is kept of all is the plan of the day.
-use Rattle.std.proofs.Common.{◌≡◌, add-one, arith}
+-- The plans that hold come in turn, and the first of the cheapest is kept; on a tiny day it is the plan of the day.
+use Rattle.std.proofs.Common.{refl, sym, subst, rules, tests, arith}
+use Rattle.std.proofs.lemmas.Iterator.{YieldsList-from_range}
+use Rattle.std.proofs.lemmas.Iterator.Consumers.{YieldsList-from_filter_map, YieldsList-at}
 use Rattle.day.specs.Lent.{lent_day}
-use Rattle.weigher.specs.Answers.{weighs_is}
-use Rattle.plain.specs.Search.{chosen_more}
+use Rattle.plain.specs.Search.{found_at, Chosen}
 use Rattle.plain.specs.Optimal.{chosen_optimal}
+use Rattle.plain.proofs.Choosing.{held_from, picked, chosen}
 use Rattle.plain.proofs.search.Goals as goal
-
-pub loop-m-preserved : goal.loop-m-preserved
-loop-m-preserved c =
-    let d = lent_day c.args.day in
-    let more = chosen_more d c.loop-m.m c.loop-m.best c.loop-m.invariant in
-    let weighed = weighs_is d c.plan_of-plan.result c.weigh-weighed.result c.weigh-weighed.ensures in
-    rw (add-one, c.better-best.ensures, weighed, c.plan_of-plan.ensures) more
 
 pub returns : goal.returns
 returns c =
-    let e : c.loop-m.m ≡ c.plans-m-end.result = omega arith in
-    let chosen = rw (e, c.plans-m-end.ensures, c.periods.ensures) at c.loop-m.invariant in
-    record { chosen = chosen; tiny = λ t. chosen_optimal (lent_day c.args.day) t c.loop-m.best chosen }
+    let d = lent_day c.args.day in
+    let n = c.plans.result in
+    let in_turn = YieldsList-at c.filter_map.ensures.source (YieldsList-from_range 0 n n refl (omega arith)) in
+    let is =
+    picked _ _ (λ k v q h. search (rules, tests)) (held_from d 0 n) c.min_by_key.result c.min_by_key.ensures.ran
+    (YieldsList-from_filter_map _ (found_at d) in_turn c.filter_map.ensures.closure (λ m r q h. search (rules, tests))) in
+    let best = rw (c.plans.ensures, c.periods.ensures) at (subst (Chosen d n) (sym is) (chosen d n)) in
+    record { chosen = best; tiny = λ t. chosen_optimal d t c.min_by_key.result best }
