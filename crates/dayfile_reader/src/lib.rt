@@ -88,7 +88,7 @@ fn fill(
         ≡ with_day file.entry.bytes.now (tables_lent demand capacity setup unit holding store) }
 {
     let mut at = layout::head_end(file.bytes);
-    // By index: `tables::put` takes one.
+    // By index: of cells that `iter_mut` lends to a `zip` nothing is known afterwards.
     for k in 0..file.periods {
         let p = period(file.bytes, at);
         tables::put(k, p, demand, capacity, setup, unit, holding, store);

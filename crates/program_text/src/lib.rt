@@ -53,7 +53,8 @@ fn read(file: &[u8], tables: &mut Tables, expected: Option<Stamp>) -> Result<(us
     )
 }
 
-// What the program says of a day.
+// What the program says of a day. By `match`, as the files are read in `running`: in specs/ too a program is a case of `SaysDay`, and a trait would state
+// each case once more.
 fn day_text(program: Program, day: Day, needs: &[u8]) -> Text
     requires { Limits (lent_day day) }
     ensures { SaysDay program needs.now (lent_day day.entry) result.bytes }
