@@ -109,7 +109,8 @@ pub fn head_end(file: &[u8]) -> usize
     }
 }
 
-// How many period records follow the head. A walk with no index: only a record tells where the next one begins.
+// How many period records follow the head. By `while`: `iter::successors` asks for the place after each before it gives that one, also where no record
+// stands, so `is_period` would stand twice, in the closure too; and that the closure may be called at each place, and the walk ends, was not found.
 pub fn periods(file: &[u8]) -> usize
     ensures { result ≡ periods_in file.now }
 {

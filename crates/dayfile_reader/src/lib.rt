@@ -12,10 +12,11 @@ ghost use Rattle.dayfile.specs.Layout.{WholePeriod};
 ghost use Rattle.dayfile.specs.Answers.{with_day, bad_read, Reading};
 ghost use Rattle.dayfile_reader.specs.Numbers.{numbers_in};
 
-use day::{Day, Ends, Entries, Refusal, Stamp};
+use day::{Ends, Entries, Refusal, Stamp};
 use dayfile::file::DayFile;
 use dayfile::kind::Kind;
 use dayfile::layout;
+use tables::Tables;
 
 // The store limit of a period record: only kind 4 holds one.
 fn store_limit(kind: Kind, body: &[u8]) -> u16
@@ -87,7 +88,7 @@ fn fill(
         ≡ with_day file.entry.bytes.now (tables_lent demand capacity setup unit holding store) }
 {
     let mut at = layout::head_end(file.bytes);
-    // By index: `tables::put` takes one.
+    // By index: of cells that `iter_mut` lends to a `zip` nothing is known afterwards.
     for k in 0..file.periods {
         let p = period(file.bytes, at);
         tables::put(k, p, demand, capacity, setup, unit, holding, store);
@@ -100,32 +101,17 @@ fn values(file: DayFile) -> Result<(), Refusal>
     requires { file.periods ≤ max_periods }
     ensures { result ≡ checked (bad_value (day_in file.entry.bytes.now)) }
 {
-    let n = file.periods;
-    // There is no heap: of tables for the longest day the fronts.
-    let mut demand = [0u16; 96];
-    let mut capacity = [0u16; 96];
-    let mut setup = [0u32; 96];
-    let mut unit = [0u32; 96];
-    let mut holding = [0u32; 96];
-    let mut store = [0u16; 96];
+    let mut tables = Tables::new();
     fill(
         file,
-        &mut demand,
-        &mut capacity,
-        &mut setup,
-        &mut unit,
-        &mut holding,
-        &mut store,
+        &mut tables.demand,
+        &mut tables.capacity,
+        &mut tables.setup,
+        &mut tables.unit,
+        &mut tables.holding,
+        &mut tables.store,
     );
-    checks::values(Day::new(
-        &demand[..n],
-        &capacity[..n],
-        &setup[..n],
-        &unit[..n],
-        &holding[..n],
-        &store[..n],
-        ends(file.bytes),
-    ))
+    checks::values(tables.day(file.periods, ends(file.bytes)))
 }
 
 // The reader's tests in order, for tables of at least `cells` cells.

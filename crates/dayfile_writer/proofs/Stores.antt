@@ -2,7 +2,8 @@
 use Rattle.std.specs.Prelude.{◌≡◌, refl, List, [], ◌∷◌, ◌++◌, ℕ, zero, suc, ◌+◌, ◌-◌, ◌≤◌, length, take, drop, set}
 use borrow.Rule.Slice.PartMut.{put_mid}
 use Rattle.std.specs.List.{sum_by}
-use Rattle.std.proofs.Common.{◌∙◌, append_assoc, arith, add-one, drop-drop, take_all, sum, map}
+use Rattle.std.proofs.Common.{◌∙◌, append_assoc, arith, add-one, drop-drop, length-drop, append-nil, take_all, sum, map}
+use Rattle.std.proofs.lemmas.List.{drop_all}
 use Rattle.std.proofs.lemmas.List.Sums.{sum-map, sum_by_more}
 use Rattle.std.proofs.lemmas.List.Edits.{sets, sets-eq}
 use Rattle.day.specs.Sums.{at}
@@ -19,12 +20,18 @@ pub sets_then : (a b l : List ℕ) (i j : ℕ) → j ≡ i + length a → sets (
 sets_then [] b l i j e = let z : j ≡ i = omega arith in rw z refl
 sets_then (x ∷ a) b l i j e = sets_then a b (set l i x) (suc i) j (omega arith)
 
--- bytes that are copied to a part of a slice are stored there
-pub copied : (out bytes part : List ℕ) (i : ℕ) → i + length bytes ≤ length out → part ≡ bytes
-    → put_mid i (i + length bytes - i) out part ≡ sets out i bytes
-copied out bytes part i h e =
-    let k : i + length bytes - i ≡ length bytes = omega arith in
-    rw (k, e, sets-eq bytes out i h, append_assoc, drop-drop) refl
+-- a run from the front
+pub sets_front : (vs l : List ℕ) → length vs ≤ length l → sets l 0 vs ≡ vs ++ drop (length vs) l
+sets_front vs l h = let e : 0 + length vs ≡ length vs = omega arith in rw e at (sets-eq vs l 0 (omega arith))
+
+-- a run that is stored at the front of what stands behind i others is stored at i
+pub stored_behind : (out vs part : List ℕ) (i : ℕ) → i + length vs ≤ length out → part ≡ sets (take (length out - i) (drop i out)) 0 vs
+    → put_mid i (length out - i) out part ≡ sets out i vs
+stored_behind out vs part i h e =
+    let room : length vs ≤ length (drop i out) = rw (length-drop i out) (omega arith) in
+    let whole : take (length out - i) (drop i out) ≡ drop i out = take_all (length out - i) (drop i out) (rw (length-drop i out) (omega arith)) in
+    let none : drop (length out - i) (drop i out) ≡ [] = drop_all (length out - i) (drop i out) (rw (length-drop i out) (omega arith)) in
+    rw (e, whole, sets_front vs (drop i out) room, sets-eq vs out i h, none, append-nil, append_assoc, drop-drop) refl
 
 -- the sum of the records' sizes, of the first k and of all
 abbrev size : ℕ → ℕ
@@ -40,10 +47,6 @@ sizes_summed store =
     let all : take (length store) store ≡ store = take_all (length store) store (omega arith) in
     let summed = rw all at (sizes_to store (length store) (omega arith)) in
     sum-map size store ∙ summed
-
--- a run from the front
-sets_front : (vs l : List ℕ) → length vs ≤ length l → sets l 0 vs ≡ vs ++ drop (length vs) l
-sets_front vs l h = let e : 0 + length vs ≡ length vs = omega arith in rw e at (sets-eq vs l 0 (omega arith))
 
 -- the part of a long record that is the record
 pub record_part : (d : Day) (k : ℕ) {p : Entries} {size : ℕ} {bytes : List ℕ}

@@ -85,22 +85,22 @@ fn end_record(n: u16) -> [u8; 3]
     record
 }
 
-// Copies bytes to where `at` says. A place in lent bytes, here and below: there is no heap to build the file in.
-fn copy(bytes: &[u8], out: &mut [u8], at: usize)
-    requires { at + length bytes.now ≤ length out.old }
-    ensures { out.new ≡ sets out.old at bytes.now }
+// Copies bytes to the slice's front.
+fn copy(bytes: &[u8], out: &mut [u8])
+    requires { length bytes.now ≤ length out.old }
+    ensures { out.new ≡ sets out.old 0 bytes.now }
 {
-    out[at..at + bytes.len()].copy_from_slice(bytes);
+    out[..bytes.len()].copy_from_slice(bytes);
 }
 
-// The charges, from byte `at` on.
-fn put_charges(out: &mut [u8], at: usize, ends: Ends)
-    requires { at + length (charges_of ends.opening ends.closing) ≤ length out.old }
-    ensures { out.new ≡ sets out.old at (charges_of ends.opening ends.closing) }
+// The charges, at the slice's front.
+fn put_charges(out: &mut [u8], ends: Ends)
+    requires { length (charges_of ends.opening ends.closing) ≤ length out.old }
+    ensures { out.new ≡ sets out.old 0 (charges_of ends.opening ends.closing) }
 {
     if has_charges(ends) {
         let record = head_record(Kind::Charges, ends.opening, ends.closing);
-        copy(&record, out, at);
+        copy(&record, out);
     }
 }
 
@@ -110,8 +110,8 @@ fn put_head(out: &mut [u8], ends: Ends, stamp: Stamp)
     ensures { out.new ≡ sets out.old 0 (head_of stamp ends.opening ends.closing) }
 {
     let record = head_record(Kind::Stamp, stamp.station, stamp.date);
-    copy(&record, out, 0);
-    put_charges(out, 5, ends);
+    copy(&record, out);
+    put_charges(&mut out[5..], ends);
 }
 
 // How long the records of all periods are.
@@ -122,20 +122,20 @@ fn records_size(store: &[u16]) -> usize
     store.iter().map(|s| record_size(*s)).sum()
 }
 
-// The records of all periods, from byte `first` on; where they end.
-fn put_periods(day: Day, out: &mut [u8], first: usize) -> usize
+// The records of all periods, at the slice's front; where they end.
+fn put_periods(day: Day, out: &mut [u8]) -> usize
     requires same_lengths { SameLengths (lent_day day) }
-    requires room { first + record_bytes (at day.store.now) (periods (lent_day day)) ≤ length out.old }
-    ensures end { result ≡ first + record_bytes (at day.entry.store.now) (periods (lent_day day.entry)) }
-    ensures written { out.new ≡ sets out.old first (records_of (lent_day day.entry) (periods (lent_day day.entry))) }
+    requires room { record_bytes (at day.store.now) (periods (lent_day day)) ≤ length out.old }
+    ensures end { result ≡ record_bytes (at day.entry.store.now) (periods (lent_day day.entry)) }
+    ensures written { out.new ≡ sets out.old 0 (records_of (lent_day day.entry) (periods (lent_day day.entry))) }
 {
-    let mut at = first;
+    let mut at = 0;
     // By index: a period's entries stand in six tables, whose length is one fact.
     for k in 0..day.periods() {
         let p = day.entries(k);
         let record = period_record(p);
         let size = record_size(p.store);
-        copy(&record[..size], out, at);
+        copy(&record[..size], &mut out[at..]);
         at += size;
     }
     at
@@ -148,9 +148,10 @@ fn put_file(day: Day, out: &mut [u8], stamp: Stamp)
     ensures { out.new ≡ with_file stamp (lent_day day.entry) out.old }
 {
     put_head(out, day.ends, stamp);
-    let end = put_periods(day, out, head_size(day.ends));
+    let first = head_size(day.ends);
+    let end = first + put_periods(day, &mut out[first..]);
     let record = end_record(day.periods() as u16);
-    copy(&record, out, end);
+    copy(&record, &mut out[end..]);
 }
 
 // Writes the file of a stamp and a day: 1, 2, 3, then 6. Accepted, the file stands at the slice's front, and its length is given.

@@ -39,7 +39,7 @@ fn read_file<R: Files>(rt: &R, name: &str, room: &mut [u8]) -> io::Result<usize>
 }
 
 // The bytes of a file, in the room lent for them. One that can't be read counts as one that is not there, and standard error says so: also one whose
-// name is no text, which std opens no file by: a name is bytes here, as the system has it.
+// name is no text, which std opens no file by. A name is bytes, since `&str` would ask more of those who call this.
 pub fn read_named<'a, R: Files + Eprint>(rt: &R, name: &[u8], room: &'a mut [u8]) -> &'a [u8]
     ensures { length result.now ≤ length room.old }
 {

@@ -21,7 +21,8 @@ pub type MarginLine = ArrayString<123>;
 /// A text, with room for 97 lines of a plan.
 pub type Text = ArrayString<9312>;
 
-// Puts a word and a number in decimal behind a text.
+// Puts a word and a number in decimal behind a text. By `push_str`, which can't fail where there is room: `write!` gives a Result, and that it is
+// Ok would be one more fact to state.
 fn put<const CAP: usize>(text: &mut ArrayString<CAP>, word: &str, n: u64)
     requires { length text.old.bytes + (length word.now + 20) ≤ CAP }
     ensures said { text.new.bytes ≡ text.old.bytes ++ labelled word.now n }
@@ -53,7 +54,8 @@ pub fn plan_line(n: u64, cost: u64, setups: u64) -> Line
     line(&[("periods ", n), (" cost ", cost), (" starts ", setups)])
 }
 
-// The inventory left after the first i periods.
+// The inventory left after the first i periods. Day and plan come one by one, here, in `amount_line` and in plan_text: how many periods both must have
+// is another number in each, and so no fact about the two alone.
 fn inventory(day: Day, plan: &[u16], i: usize) -> u64
     requires { HavePeriods day.demand.now plan.now i }
     ensures { result ≡ left (lent_day day.entry) (at plan.now) i }
@@ -69,6 +71,7 @@ pub fn amount_line(day: Day, plan: &[u16], i: usize) -> Line
 {
     let left = inventory(day, plan, i + 1);
     let made = u64::from(plan[i]);
+    // `as`: from usize std has no From for u64.
     line(&[("", (i + 1) as u64), (" made ", made), (" left ", left)])
 }
 

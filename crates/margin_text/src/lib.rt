@@ -20,7 +20,8 @@ type Needs = ArrayVec<u16, 96>;
 
 const MARGINS: u16 = 16;
 
-// A need with a margin.
+// A need with a margin. A margin is a number that is counted up and printed, and no type of its own: that it is low is asked once more in `raise` and in
+// `margin_line`, which hand it on.
 fn raised(margin: u16, need: u16) -> u16
     requires { (margin < margins) × (need ≤ max_demand) }
     ensures { result ≡ raised margin need }
@@ -55,11 +56,13 @@ fn decode(file: &[u8]) -> Needs
     needs
 }
 
-// The line of a day whose needs have the margin.
+// The line of a day whose needs have the margin. Day and actual needs come one by one, here and below: this day has other needs than the one that was
+// tried, and of the two only the length is known, so a struct that holds `Tried` would serve two functions alone.
 fn day_line(margin: u64, day: Day, actual: &[u16]) -> MarginLine
     requires { length actual.now ≡ periods (lent_day day) }
     ensures { SaysDayLine (lent_day day.entry) (at actual.now) margin result.bytes }
 {
+    // An array, for the reason in program_plan.
     let mut slots = [0u16; 96];
     match program_plan::plan(day, &mut slots) {
         Ok(totals) => {
@@ -92,7 +95,8 @@ fn margin_lines(day: Day, actual: &[u16]) -> Text
     text
 }
 
-// The actual needs of a day: 2 and 3 on them decide whether they are taken.
+// The actual needs of a day: 2 and 3 on them decide whether they are taken. `Limits` is asked of the day, here, in `day_text` and in program_text: a type
+// of tested days would be made for one call, and opened by the next.
 fn actual_needs(day: Day, file: &[u8]) -> Result<Needs, Refusal>
     requires { Limits (lent_day day) }
     ensures taken { IfOk result (λ needs. needs.items ≡ needs_in file.now (periods (lent_day day.entry))) }

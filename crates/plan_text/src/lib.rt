@@ -18,6 +18,7 @@ fn plan_lines(day: Day, plan: &[u16], totals: Totals) -> Text
         ++ amount_lines (lent_day day.entry) (at plan.now) (periods (lent_day day.entry)) }
 {
     let mut text = Text::new();
+    // `as`: from usize std has no From for u64.
     text.push_str(&lines::plan_line(day.periods() as u64, totals.cost, totals.setups));
     for i in 0..day.periods() {
         text.push_str(&lines::amount_line(day, plan, i));
@@ -29,6 +30,7 @@ fn plan_lines(day: Day, plan: &[u16], totals: Totals) -> Text
 pub fn day_text(day: Day) -> Text
     ensures { SaysPlanOf (lent_day day.entry) result.bytes }
 {
+    // An array, as the areas in program_plan, and for their reason.
     let mut slots = [0u16; 96];
     match program_plan::plan(day, &mut slots) {
         Ok(totals) => plan_lines(day, &slots, totals),

@@ -1,19 +1,20 @@
 -- What the reading's answer tells, and the text that it leads to. Main statements: `reading_few`; `input_taken`, `taken_limits`; `file_taken`. Assumes
 -- nothing.
-use Rattle.std.specs.Prelude.{◌≡◌, refl, List, [], ◌∷◌, ◌++◌, ℕ, ◌≤◌, replicate, Option, None, Result, Ok, Err, IfOk}
+use Rattle.std.specs.Prelude.{◌≡◌, refl, List, [], ◌∷◌, ◌++◌, ℕ, ◌≤◌, Option, None, Result, Ok, Err, IfOk}
 use Rattle.std.proofs.Common.{sym, ap, subst, ◌∙◌, arith}
 use Rattle.std.proofs.lemmas.List.{length-replicate}
 use Rattle.day.specs.declared.Refusal.{Refusal}
 use Rattle.day.specs.declared.Ends.{Ends}
 use Rattle.day.specs.declared.Stamp.{Stamp}
 use Rattle.day.specs.Sums.{length-list_of}
-use Rattle.day.specs.Day.{Day, tables_of, periods, max_periods}
+use Rattle.day.specs.Day.{Day, periods, max_periods}
 use Rattle.day.specs.Refusals.{first, bad_count, bad_slots, bad_value, table_tests}
 use Rattle.day.specs.File.{periods_in, number2, field, day_in}
 use Rattle.day.specs.Tests.{first_two}
 use Rattle.day.specs.Figures.{first_value}
 use Rattle.checks.specs.Passed.{Limits, tables_passed, lengths_pass}
 use Rattle.tables.specs.Filled.{shortest, first_of}
+use Rattle.tables.specs.Longest.{blank, held}
 use Rattle.dayfile.specs.Answers.{file_tests, bad_read, Reading}
 use Rattle.dayfile.specs.Passed.{each_passed, read_given}
 use Rattle.dayfile.specs.Layout.{day_lengths, day_in_front}
@@ -28,11 +29,7 @@ pub reading_few : (expected : Option Stamp) (s : List ℕ) (before after : Day) 
 reading_few expected s before after (Err r) q = tt
 reading_few expected s before after (Ok p) q = omega (arith, (read_passed expected s before q.0).few, first_value q.1)
 
--- the six tables of 96 cells that a program lends, before the call
-abbrev pub blank_day : Day
-blank_day = tables_of (replicate 96 0) (replicate 96 0) (replicate 96 0) (replicate 96 0) (replicate 96 0) (replicate 96 0)
-
-blank_shortest : shortest blank_day ≡ 96
+blank_shortest : shortest (held blank) ≡ 96
 blank_shortest = rw (length-replicate {A = ℕ} 96 0) refl
 
 -- an accepted file: no test refuses, and its day stands at the tables' front
@@ -40,13 +37,13 @@ pub record Taken (expected : Option Stamp) (s : List ℕ) (after : Day) (n : ℕ
   pub passed : bad_input expected s 96 ≡ None
   pub day : first_of n after ends ≡ day_in s
 
-pub input_taken : (expected : Option Stamp) (s : List ℕ) (after : Day) (p : ℕ × Ends) → Inputs expected s blank_day (Ok p) after
+pub input_taken : (expected : Option Stamp) (s : List ℕ) (after : Day) (p : ℕ × Ends) → Inputs expected s (held blank) (Ok p) after
     → Taken expected s after p.0 p.1
 input_taken expected s after p q =
     let given = read_given s p.0 p.1 q.1 in
     record {
       passed = subst (λ (k : ℕ). bad_input expected s k ≡ None) blank_shortest q.0;
-      day = day_in_front s p.0 p.1 blank_day after given.0 given.1 q.2;
+      day = day_in_front s p.0 p.1 (held blank) after given.0 given.1 q.2;
     }
 
 -- such a day has passed 1, 2 and 3

@@ -36,6 +36,7 @@ fn write_text<R: Files + Eprint, I: Read, O: Write>(
 ) -> Result<(), Stopped>
     ensures { OnOk result (Writes program (I.remaining input.old) (I.remaining input.new) (O.contents output.old) (O.contents output.new)) }
 {
+    // Arrays: a heap's memory could run out, and a run would stop for one reason more.
     let mut file = [0u8; 1838];
     let n = input::read(input, &mut file).map_err(Stopped::Input)?;
     let mut needs = [0u8; 193];

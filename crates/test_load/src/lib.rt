@@ -73,7 +73,7 @@ fn draw_periods(
         ≡ with_load seed n (tables_lent demand capacity setup unit holding store) }
 {
     let mut at = seed;
-    // By index: `tables::put` takes one.
+    // By index: of cells that `iter_mut` lends to a `zip` nothing is known afterwards.
     for k in 0..n {
         let Drawn {
             entries,

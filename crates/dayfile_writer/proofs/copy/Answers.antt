@@ -1,6 +1,7 @@
--- The bytes stand in the part that they were copied to.
-use Rattle.dayfile_writer.proofs.Stores.{copied}
+-- The bytes stand at the front, and what stood behind them stays.
+use Rattle.std.proofs.Common.{refl}
+use Rattle.dayfile_writer.proofs.Stores.{sets_front}
 use Rattle.dayfile_writer.proofs.copy.Goals as goal
 
 pub returns : goal.returns
-returns c = copied _ _ _ _ c.requires c.copy_from_slice.ensures.after
+returns c = rw (c.copy_from_slice.ensures.after, sets_front _ _ c.requires) refl

@@ -1,5 +1,5 @@
--- The first k records stand from byte `first` on.
-use Rattle.std.proofs.Common.{◌≡◌, ◌+◌}
+-- The first k records stand at the front.
+use Rattle.std.proofs.Common.{◌≡◌}
 use Rattle.std.proofs.lemmas.List.Edits.{sets}
 use Rattle.day.specs.Sums.{at}
 use Rattle.day.specs.Lent.{lent_day}
@@ -9,4 +9,4 @@ use Rattle.dayfile_writer.proofs.put_periods.Given as goal
 
 abbrev pub invariant-loop-k : goal.invariant-loop-k
 invariant-loop-k l =
-    (l.at ≡ l.first + record_bytes (at l.day.store.now) l.k) × (l.out ≡ sets l.fn.out l.first (records_of (lent_day l.day) l.k))
+    (l.at ≡ record_bytes (at l.day.store.now) l.k) × (l.out ≡ sets l.fn.out 0 (records_of (lent_day l.day) l.k))
