@@ -1,6 +1,6 @@
 -- Laws of the call: what passed tests leave for the trials, and what the trials leave is what an accepted call leaves.
--- Main statements: `trials_ask`, `trials_give`; `answerable`, `best_so_far`; `path_refused`. Assumes nothing.
-use Rattle.std.proofs.Common.{◌≡◌, refl, ap, ap₂, ◌∙◌, subst, Some, None, List, [], ◌++◌, ℕ, ◌+◌, ◌*◌, arith, length, drop, replicate}
+-- Main statements: `keys_ask`, `made_ready`; `trials_ask`, `trials_give`; `answerable`, `best_so_far`; `path_refused`. Assumes nothing.
+use Rattle.std.proofs.Common.{◌≡◌, refl, ap, ap₂, ◌∙◌, subst, Some, None, List, [], ◌++◌, ℕ, ◌+◌, ◌*◌, ◌≤◌, arith, length, drop, replicate}
 use Rattle.std.proofs.Common.{append_assoc, length-append, drop-drop}
 use Rattle.std.proofs.lemmas.Slice.{drop-append-drop}
 use Rattle.std.proofs.lemmas.List.{length-replicate}
@@ -8,18 +8,22 @@ use Rattle.day.specs.declared.Refusal.{Refusal}
 use Rattle.day.specs.declared.Sizes.{Sizes}
 use Rattle.day.specs.declared.Totals.{Totals}
 use Rattle.day.specs.declared.Trials.{Trials}
-use Rattle.day.specs.Sums.{at}
-use Rattle.day.specs.Day.{Day, periods}
+use Rattle.day.specs.Sums.{at, length-list_of}
+use Rattle.day.specs.Day.{Day, periods, max_periods}
 use Rattle.day.specs.Plan.{Optimal, cost}
 use Rattle.day.specs.Outcome.{Memory, memory_of, sizes_of, refusal, Cleared}
 use Rattle.day.specs.Paths.{big}
 use Rattle.day.specs.Drops.{starts_free, big_refusal, BestSoFar}
 use Rattle.checks.specs.Passed.{Admitted}
+use Rattle.theory.specs.Problem.{Problem}
+use Rattle.theory.specs.Net.{rate_of, problem_of}
 use Rattle.theory.specs.Store.{Loose}
 use Rattle.theory.proofs.Demands.{feasible_iff}
 use Rattle.theory.specs.Drops.{Stands}
 use Rattle.theory.proofs.Drops.{tried_stands, first_optimal, free_least}
+use Rattle.greedy.specs.Keys.{Keyed}
 use Rattle.rounds.specs.Turns.{state_in}
+use Rattle.drops.specs.Ready.{IsReady}
 use Rattle.drops.specs.Standing.{Begun, Finished}
 use Rattle.big.specs.Passed.{big_admitted, big_loose, big_trials}
 use Rattle.big.specs.Work.{TrialsAsk, TrialsGive, Answerable, answer_of}
@@ -37,6 +41,30 @@ area_cleared n m costs front keys marks others e zeros k l is =
 module _ (trials : ℕ) (d : Day) (s : Sizes) where
   pub path_refused : (r : Refusal) → refusal big d s ≡ Some r → big_refusal trials d s ≡ Some r
   path_refused r e = rw e refl
+
+-- The problem that a day is made into has what the keys ask, and once they are written the day is ready.
+module _ {trials : ℕ} {d : Day} {keys marks first best : List ℕ} (ask : TrialsAsk trials d keys marks first best) {p : Problem} (made : p ≡ problem_of d) where
+  units : length d.unit ≡ periods d
+  units = ask.limits.limits.lengths.unit
+
+  pub keys_ask : (length p.unit ≤ max_periods) × (length p.unit ≤ length p.holding) × (length p.unit ≤ length keys)
+  keys_ask =
+      let rates = length-list_of (rate_of d.holding) (length d.holding) in
+      rw made
+      (omega (arith, units, ask.limits.limits.few), omega (arith, units, rates, ask.limits.limits.lengths.holding), omega (arith, units, ask.keyed))
+
+  pub made_ready : {cells : List ℕ} → Keyed p.unit p.holding keys cells → IsReady d p.demand cells
+  made_ready keyed =
+      let w = rw made at keyed in
+      let e = units in
+      rw made
+      (record {
+        limits = ask.limits;
+        loose = ask.loose;
+        needs = refl;
+        long = omega (arith, w.each, ask.keyed);
+        keys = λ k l. rw e at (w.keys k (omega (arith, e)));
+      })
 
 -- What trial 1 and the others leave.
 module _ {trials : ℕ} {d : Day} {keys marks₀ first₀ best₀ : List ℕ} (ask : TrialsAsk trials d keys marks₀ first₀ best₀) where

@@ -11,25 +11,8 @@ use Rattle.day.specs.Drops.{starts_free}
 use Rattle.checks.specs.Passed.{DayLimits}
 use Rattle.weigher.specs.Verdict.{totals_of}
 use Rattle.weigher.specs.Walk.{FeasiblePlan}
-use Rattle.theory.specs.Net.{net_needs, rates_of, NetFits, HalfRates}
 use Rattle.theory.specs.Store.{Loose}
-use Rattle.theory.specs.Greedy.{key_of}
 use Rattle.drops.specs.Standing.{Finished}
-
--- needs whose sum has 16 bits, rates within their limit, a unit cost for each period, a cell for each net need and for each key
-pub record Preparable (d : Day) (net cells : List ℕ) : Type 0 where
-  pub fits : NetFits d
-  pub rates : HalfRates d.holding
-  pub holdings : length d.holding ≡ periods d
-  pub units : length d.unit ≡ periods d
-  pub size : length net ≡ periods d
-  pub room : length cells ≡ periods d
-
--- the net needs, and the keys
-pub record Prepared (d : Day) (net cells : List ℕ) : Type 0 where
-  pub needs : net ≡ net_needs d
-  pub size : length cells ≡ periods d
-  pub keys : (k : ℕ) → k < periods d → at cells k ≡ key_of (at d.unit) (at (rates_of d.holding)) (periods d) k
 
 -- a trial or more of a day within the limits of big days whose stores can't bind and of which no period is short; for each period a cell for its key and
 -- one for its mark, and a slot for either plan

@@ -1,28 +1,17 @@
 //! Big days, best so far: trials by the greedy rule with starts taken as free, each of which forbids one period more.
-//! It tests, takes the net needs, writes the keys of the periods into its cost area, where their marks follow, makes the trials, whose best plan stands
-//! in the slots, and clears the area. The last of its 3 × n cells take part in the clearing alone.
+//! It tests, takes the net needs and the rates, writes the keys of the periods into its cost area, where their marks follow, makes the trials, whose best
+//! plan stands in the slots, and clears the area. The last of its 3 × n cells take part in the clearing alone.
 #![tactic(auto)]
 
 ghost use Rattle.std.specs.Prelude.{◌≡◌, [], None};
 ghost use Rattle.day.specs.Lent.{lent_day, cells_before, cells_after};
 ghost use Rattle.day.specs.Outcome.{memory_of, sizes_of};
 ghost use Rattle.day.specs.Drops.{big_refusal, BestSoFar, Dropping};
-ghost use Rattle.big.specs.Work.{Preparable, Prepared, TrialsAsk, TrialsGive, Answerable, answer_of};
+ghost use Rattle.big.specs.Work.{TrialsAsk, TrialsGive, Answerable, answer_of};
 
 use day::{Day, PathKind, Refusal, Sizes, Totals, Trials};
 use drops::Ready;
-
-// The net needs, and the keys of the periods.
-fn prepare(day: Day, net: &mut [u16], keys: &mut [u64])
-    requires { Preparable (lent_day day) net.old keys.old }
-    ensures { Prepared (lent_day day.entry) net.new keys.new }
-{
-    // There is no heap: of tables for the longest day the fronts, here and below.
-    let mut rate_table = [0u32; 96];
-    let rates = &mut rate_table[..day.periods()];
-    net::fill(day, net, rates);
-    greedy::keys(day.unit, rates, keys);
-}
+use net::Tables;
 
 // What the call gives beside the best plan: its totals, and how far it is from what trial 1's plan costs with all starts free.
 fn answer(day: Day, first: &[u16], best: &[u16], used: usize) -> (Totals, Trials)
@@ -55,14 +44,19 @@ fn make_trials(
     ensures { TrialsGive trials (lent_day day.entry) result first.new marks.new best.new }
 {
     let n = day.periods();
-    let mut need_table = [0u16; 96];
+    let mut tables = Tables::new();
+    let p = tables.problem(day);
+    greedy::keys(p.unit, p.holding, keys);
+    // There is no heap: of tables for the longest day the fronts, here and below.
     let mut allowed_table = [0u16; 96];
     let mut plan_table = [0u16; 96];
-    let net = &mut need_table[..n];
     let allowed = &mut allowed_table[..n];
     let plan = &mut plan_table[..n];
-    prepare(day, net, keys);
-    let ready = Ready { day, net, keys };
+    let ready = Ready {
+        day,
+        net: p.demand,
+        keys,
+    };
     let cost = drops::begin(ready, allowed, marks, best, first);
     drops::run(ready, allowed, marks, best, plan, cost, trials)
 }
@@ -81,7 +75,8 @@ fn work(day: Day, costs: &mut [u64], slots: &mut [u16], trials: usize) -> (Total
     let marks = &mut others[..n];
     let used = make_trials(day, keys, marks, first, best, trials);
     let given = answer(day, first, best, used);
-    costs[..3 * n].fill(0);
+    let needed = path_checks::cells(PathKind::Big, n, 0);
+    costs[..needed.costs].fill(0);
     given
 }
 

@@ -1,4 +1,4 @@
--- A row of states that is written from its end, over the row before it. Assumes unreached.
+-- A row of states that is written from its end, over the row before it. Assumes nothing.
 use Rattle.std.specs.Prelude.{◌≡◌, refl, List, ℕ, suc, ◌+◌, ◌≤◌, ◌<◌, length, set}
 use Rattle.std.proofs.Common.{ap, ◌∙◌, ⊎_elim, eq-or-lt_of_le, arith, length-set, get_or-set_same, get_or-set_other}
 use Rattle.day.specs.Sums.{at}

@@ -1,5 +1,5 @@
 -- What is kept of the intervals from l on: a row of costs for the states after k periods, and for each period what it makes in each state.
--- Main statements: `ran_none` and `ran_more`, what a loop over the periods keeps; `back_plan`, the interval read back. Assumes unreached.
+-- Main statements: `ran_none` and `ran_more`, what a loop over the periods keeps; `back_plan`, the interval read back. Assumes nothing.
 use Rattle.std.specs.Prelude.{◌≡◌, refl, List, [], ◌∷◌, ◌++◌, length, replicate, None, Some}
 use Rattle.std.proofs.Math.Path.{sym, ap}
 use Rattle.std.proofs.Common.{◌∙◌, ⊎_elim, eq-or-lt_of_le, le_of_suc-le-suc, mul-le-mul_right, arith}

@@ -1,5 +1,5 @@
 -- What the numbers of a state mean: the cost of the first of the intervals to a state, or a mark that there is none, and what the last period makes.
--- Main statement: `state_told`. Assumes unreached.
+-- Main statement: `state_told`. Assumes nothing.
 use Rattle.std.specs.Prelude.{◌≡◌, refl, ℕ, zero, suc, ◌+◌, ◌-◌, ◌*◌, ◌^◌, ◌≤◌, ◌<◌, Option, None, Some}
 use Rattle.std.proofs.Common.{sym, ap, arith}
 use Rattle.std.proofs.Math.Decide.{dec_le, dec_lt}

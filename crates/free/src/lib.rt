@@ -36,11 +36,11 @@ fn work(day: Day, costs: &mut [u64], slots: &mut [u16]) -> Totals
     requires { Admitted free (lent_day day) (sizes_of (memory_of costs.old [] slots.old)) }
     ensures { Accepted free (lent_day day.entry) result (cells_before costs slots) (cells_after costs slots) }
 {
-    let n = day.periods();
     let mut tables = Tables::new();
     let p = tables.problem(day);
     solve(p, costs, slots);
-    costs[..n].fill(0);
+    let needed = path_checks::cells(PathKind::Free, day.periods(), 0);
+    costs[..needed.costs].fill(0);
     weigher::totals(day, slots)
 }
 

@@ -9,34 +9,23 @@ ghost use Rattle.theory.specs.Problem.{lent_problem};
 ghost use Rattle.full.specs.Work.{Workable, PlanLeft};
 
 use day::{Day, PathKind, Refusal, Sizes, Totals};
+use full_table::CeiledProblem;
 use net::Tables;
-use path_checks::Needed;
-use theory::Problem;
 
-// The plan into the slots, by the needed cells of both areas.
+// The plan into the slots. What is left in the areas is free.
 // The areas come one by one, here and below, for the reason beside `tables::put`.
 fn fill_and_read(
-    p: Problem,
-    ceilings: &[u16],
+    p: CeiledProblem,
     costs: &mut [u64],
     choices: &mut [u16],
     slots: &mut [u16],
     total: usize,
-    needed: Needed,
 )
-    requires { Workable (lent_problem p) ceilings.now total needed (memory_of costs.old choices.old slots.old) }
-    ensures { PlanLeft (lent_problem p.entry) ceilings.now needed
-        (memory_before costs choices slots)
-        (memory_after costs choices slots) }
+    requires { Workable (lent_problem p.problem) p.ceilings.now total costs.old choices.old slots.old }
+    ensures { PlanLeft (lent_problem p.entry.problem) p.entry.ceilings.now slots.new }
 {
-    full_table::fill(
-        p,
-        ceilings,
-        &mut costs[..needed.costs],
-        &mut choices[..needed.choices],
-        total,
-    );
-    full_table::read_back(choices, slots, p.demand.len(), total);
+    full_table::fill(p, costs, choices, total);
+    full_table::read_back(choices, slots, total);
 }
 
 // The work, once the tests have passed: the loops run on the net needs and the rates under the ceilings, the plan is weighed on the day itself.
@@ -48,21 +37,31 @@ pub fn work(day: Day, costs: &mut [u64], choices: &mut [u16], slots: &mut [u16])
 {
     let n = day.periods();
     let total = checks::total(day) as usize;
-    let needed = path_checks::cells(PathKind::Full, n, total);
     let mut tables = Tables::new();
-    let p = tables.problem(day);
+    let problem = tables.problem(day);
     // There is no heap: of a table for the longest day the front.
     let mut ceiling_table = [0u16; 96];
     let ceilings = &mut ceiling_table[..n];
     net::fill_ceilings(day, ceilings);
-    fill_and_read(p, ceilings, costs, choices, slots, total, needed);
-    costs[..needed.costs].fill(0);
-    choices[..needed.choices].fill(0);
+    let p = CeiledProblem { problem, ceilings };
+    let needed = path_checks::cells(PathKind::Full, n, total);
+    let cost_cells = needed.costs;
+    let choice_cells = needed.choices;
+    fill_and_read(
+        p,
+        &mut costs[..cost_cells],
+        &mut choices[..choice_cells],
+        &mut slots[..n],
+        total,
+    );
+    costs[..cost_cells].fill(0);
+    choices[..choice_cells].fill(0);
     weigher::totals(day, slots)
 }
 
 // The plan of a day into the first n slots, with its cost and its setups.
-// Not one `plan` for all paths: they share the call of the tests alone, and each has areas, work and a promise of its own.
+// Each path has its own: full and uncapped differ in kind and `work` alone, the others in areas or answer too. One over the kind and a closure would ask of
+// the closure, as a bound over three lent areas, all that `Accepted` says, and take as many arguments.
 pub fn plan(
     day: Day,
     costs: &mut [u64],

@@ -1,5 +1,5 @@
 -- What the calls on the queue, and the row's loop by it, keep, in plain variables.
--- Main statements: `outdone_found`, `entered`, `best_of_lem`, `found`, `filling_more`.
+-- Main statements: `outdone_found`, `entered`, `best_of_lem`.
 -- Assumes nothing.
 use Rattle.std.proofs.Common.{◌≡◌, sym, ◌∙◌, List, ⊎_elim, ℕ, ◌+◌, ◌-◌, ◌≤◌, ◌<◌, eq-or-lt_of_le, lt_trans, arith, length, set, length-set, get_or-set_other}
 use Rattle.std.proofs.Common.{add-zero, drop, slice_range, length-take, length-drop, get_or-take, get_or-drop}

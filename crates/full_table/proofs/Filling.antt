@@ -9,7 +9,7 @@ use borrow.Rule.Slice.PartMut.{put_mid}
 use Rattle.day.specs.Sums.{at, below}
 use Rattle.theory.specs.Reachable.{high}
 use Rattle.theory.specs.Full.{stage_of, cost_row, cost_row-zero, cost_row_next, amount}
-use Rattle.theory.specs.Problem.{Problem, periods, demand_to, total, model_within}
+use Rattle.theory.specs.Problem.{Problem, periods, demand_to, total, model_within, Bounded}
 use Rattle.full_rows.specs.declared.Stage.{Stage}
 use Rattle.full_rows.specs.Row.{max_making, max_product, RowReady, Stepped}
 use Rattle.full_rows.specs.Laws.{Limited, amount_ext, cost_ext, cost_small}
@@ -47,10 +47,9 @@ put_length : (a : ℕ) (l part : List ℕ) → a ≤ length l → length part �
 put_length a l part inside size =
     simp (length-append, length-drop) (omega (arith, length-take-le a l inside))
 
-module _ {p : Problem} {U costs choices : List ℕ} {T : ℕ} (f : Fillable p U costs choices T) where
+module _ {p : Problem} {U costs choices : List ℕ} {T : ℕ} (b : Bounded p) (f : Fillable p U costs choices T) where
   limited : (i X : ℕ) → i < periods p → Reachable p U (suc i) X → Limited (stage_of (model_within p U) i) X
   limited i X l h =
-      let b = f.bounded in
       let x = under f (suc i) X l h in
       record { setup = b.setup i l; unit = b.unit i l; holding = b.holding i l; total = omega (arith, f.is, b.small) }
 
@@ -62,7 +61,7 @@ module _ {p : Problem} {U costs choices : List ℕ} {T : ℕ} (f : Fillable p U 
         arith,
         cost_row_next (model_within p U) i X,
         cost_small (stage_of (model_within p U) i) X (reached f i X l h) (cost_row (model_within p U) i) (i * (max_making + max_product))
-            (λ Y b. row_small i Y (omega arith) (record { low = b.0; high = b.1 })) (limited i X l h),
+            (λ Y h. row_small i Y (omega arith) (record { low = h.0; high = h.1 })) (limited i X l h),
       )
 
   pub filling_none : (before after : List ℕ) → T + 1 ≤ length before → T + 1 ≤ length after
@@ -88,14 +87,12 @@ module _ {p : Problem} {U costs choices : List ℕ} {T : ℕ} (f : Fillable p U 
         let u = under f i (high (model_within p U) i) (omega arith) (record { low = m; high = omega arith }) in
         (omega (arith, c.is_low), omega (arith, c.is_high))
 
-    pub filling_staged : Staged p U i low most
+    pub filling_staged : Staged p i low most
     filling_staged =
         record {
-          bounded = f.bounded;
-          ceiling_cells = f.ceiling_cells;
           inside = l;
-          low_small = omega (arith, small.0, f.is, f.bounded.small);
-          high_small = omega (arith, small.1, f.is, f.bounded.small);
+          low_small = omega (arith, small.0, f.is, b.small);
+          high_small = omega (arith, small.1, f.is, b.small);
         }
 
     -- the period's row of choices, and where it begins
@@ -119,7 +116,7 @@ module _ {p : Problem} {U costs choices : List ℕ} {T : ℕ} (f : Fillable p U 
 
       pub filling_ready : (part : List ℕ) → length part ≡ length choices' - i * (T + 1) → RowReady s before after part
       filling_ready part q =
-          let w = f.bounded in
+          let w = b in
           let rows = mul-le-mul_right (max_making + max_product) w.few in
           let rows' = mul-le-mul_right (max_making + max_product) c.inside in
           rw stage_is

@@ -5,7 +5,7 @@ use Rattle.day.specs.Sums.{at}
 use Rattle.day.specs.Day.{max_total}
 use Rattle.theory.specs.Reachable.{high, Covered}
 use Rattle.theory.specs.Full.{amount, back}
-use Rattle.theory.specs.Problem.{Problem, periods, demand_to, total, model_within, Bounded}
+use Rattle.theory.specs.Problem.{Problem, periods, demand_to, total, model_within}
 use Rattle.full_rows.specs.declared.Stage.{Stage}
 
 -- period i + 1 as a stage, where the totals from `low` to `most` can be reached before it, and no more than its ceiling may be after it
@@ -22,9 +22,7 @@ stage_at p U i low most = record {
 }
 
 -- i is one of the periods, and no total that can be reached before it is above the limit
-pub record Staged (p : Problem) (U : List ℕ) (i low most : ℕ) : Type 0 where
-  pub bounded : Bounded p
-  pub ceiling_cells : length U ≡ periods p
+pub record Staged (p : Problem) (i low most : ℕ) : Type 0 where
   pub inside : i < periods p
   pub low_small : low ≤ max_total
   pub high_small : most ≤ max_total
@@ -40,8 +38,6 @@ cell_at cells T k X = at cells (k * (T + 1) + X)
 
 -- N can be reached under the ceilings in every period, T is N over all periods, no ceiling is above it, and both areas are long enough
 pub record Fillable (p : Problem) (U costs choices : List ℕ) (T : ℕ) : Type 0 where
-  pub bounded : Bounded p
-  pub ceiling_cells : length U ≡ periods p
   pub covered : Covered (model_within p U) (periods p)
   pub is : T ≡ total p
   pub under : (k : ℕ) → k < periods p → at U k ≤ T
@@ -57,11 +53,10 @@ abbrev pub Traced : (ℕ → ℕ → ℕ) → ℕ → ℕ → Type 0
 Traced ch zero X = Unit {0}
 Traced ch (suc k) X = (ch k X ≤ X) × Traced ch k (X - ch k X)
 
--- choices and slots are there for n periods, and the way back from T can be walked
-pub record Traceable (choices slots : List ℕ) (n T : ℕ) : Type 0 where
+-- choices are there for n periods, and the way back from T can be walked
+pub record Traceable (choices : List ℕ) (n T : ℕ) : Type 0 where
   pub small : T ≤ max_total
   pub choice_cells : n * (T + 1) ≤ length choices
-  pub slot_cells : n ≤ length slots
   pub traced : Traced (cell_at choices T) n T
 
 -- the plan of n periods that the choices say

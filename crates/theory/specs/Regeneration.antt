@@ -1,5 +1,5 @@
 -- The plan of (m, N m) as the first of: the plan of (l, N l), and after it the first of the regeneration intervals of some kind from l to m.
--- Main statements: `cover`, `row-right`. Assumes nothing.
+-- Main statements: `candidate_answers`, `cover`. Assumes nothing.
 use Rattle.std.specs.Prelude.{◌≡◌, refl, List, ◌++◌, ℕ, zero, suc, ◌+◌, ◌-◌, ◌*◌, ◌≤◌, ◌<◌, Option, None, Some}
 use Rattle.std.proofs.Common.{sym, ap, ◌∙◌, subst, add-zero, add-suc, arith, length-append, get_or-append-add}
 use Rattle.std.proofs.Math.Path.{fun_ext}

@@ -40,12 +40,12 @@ fn work(day: Day, costs: &mut [u64], choices: &mut [u16], slots: &mut [u16]) -> 
         (memory_before costs choices slots)
         (memory_after costs choices slots) }
 {
-    let n = day.periods();
     let mut tables = Tables::new();
     let p = tables.problem(day);
     solve(p, costs, choices, slots);
-    costs[..n + 1].fill(0);
-    choices[..n + 1].fill(0);
+    let needed = path_checks::cells(PathKind::Uncapped, day.periods(), 0);
+    costs[..needed.costs].fill(0);
+    choices[..needed.choices].fill(0);
     weigher::totals(day, slots)
 }
 

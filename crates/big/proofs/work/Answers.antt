@@ -20,10 +20,12 @@ answer-given-requires c =
 pub returns : goal.returns
 returns c =
     let a = c.args in
+    let needed : c.cells-needed.result.costs ≡ 3 * c.periods-n.result = c.cells-needed.ensures.costs in
     let zeros : c.fill.new.self ≡ replicate (3 * c.periods-n.result) 0 = grind (arith, common_steps) in
     let keyed : length c.make_trials-used.new.keys ≡ c.periods-n.result = grind (arith, common_steps) in
     let marked : length c.make_trials-used.new.marks ≡ c.periods-n.result = grind (arith, common_steps) in
-    best_so_far a.trials (lent_day a.day) (memory_of a.costs.now [] a.slots.now) c.requires _ _ _ _ c.make_trials-used.ensures c.answer-given.result _ _
+    rw needed
+    (best_so_far a.trials (lent_day a.day) (memory_of a.costs.now [] a.slots.now) c.requires _ _ _ _ c.make_trials-used.ensures c.answer-given.result _ _
     c.answer-given.ensures (ap (λ (n : ℕ). c.make_trials-used.new.best ++ drop n a.slots.now) c.periods-n.ensures)
     (area_cleared (length a.day.demand.now) c.periods-n.result a.costs.now c.fill.new.self _ _ _ c.periods-n.ensures zeros keyed marked
-    c.split_at_mut-keys.ensures.back)
+    c.split_at_mut-keys.ensures.back))

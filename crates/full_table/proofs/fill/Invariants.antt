@@ -5,4 +5,4 @@ use Rattle.full_table.proofs.fill.Given as goal
 
 abbrev pub invariant-loop-i : goal.invariant-loop-i
 invariant-loop-i l =
-    TableFilling (lent_problem l.p) l.ceilings l.total l.before l.after l.choices l.low l.high l.i
+    TableFilling (lent_problem l.p.problem) l.p.ceilings.now l.total l.before l.after l.choices l.low l.high l.i
