@@ -1,7 +1,8 @@
 -- The meaning of a day and its plan, in the report's order. A module uses those above it.
--- Tables: entries, sums, the first period that passes a test.
+-- Tables: entries, sums, the first period that passes a test; the first value of least key.
 pub mod Sums
 pub mod Find
+pub mod Least
 -- The problem: a day, its plans, what they cost, which one is wanted (report, section 2); the greedy rule
 -- (report, section 4).
 pub mod Day

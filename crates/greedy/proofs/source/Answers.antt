@@ -3,7 +3,8 @@ use Rattle.std.proofs.Common.{refl, rules, tests, arith, ltb}
 use Rattle.std.proofs.lemmas.Iterator.{YieldsList-from_range}
 use Rattle.std.proofs.lemmas.Iterator.Consumers.{YieldsList-from_filter, YieldsList-at}
 use Rattle.day.specs.Sums.{at}
-use Rattle.greedy.proofs.Choosing.{with_room, picked, chosen}
+use Rattle.day.specs.Least.{picked}
+use Rattle.greedy.proofs.Choosing.{with_room, chosen}
 use Rattle.greedy.proofs.source.Goals as goal
 
 pub returns : goal.returns

@@ -5,7 +5,8 @@ use Rattle.std.proofs.lemmas.Iterator.Consumers.{YieldsList-from_filter_map, Yie
 use Rattle.day.specs.Lent.{lent_day}
 use Rattle.plain.specs.Search.{found_at, Chosen}
 use Rattle.plain.specs.Optimal.{chosen_optimal}
-use Rattle.plain.proofs.Choosing.{cost_of, held_from, picked, chosen}
+use Rattle.day.specs.Least.{picked}
+use Rattle.plain.proofs.Choosing.{cost_of, held_from, chosen}
 use Rattle.plain.proofs.search.Goals as goal
 
 pub returns : goal.returns
