@@ -139,7 +139,7 @@ impl Given<u64, 3> for (usize, Ends) {
 
     fn numbers(self) -> [u64; 3] {
         let (n, ends) = self;
-        // `as`: from usize std has no From for u64.
+        // `as`, here and below: from usize std has no From for u64.
         [n as u64, u64::from(ends.opening), u64::from(ends.closing)]
     }
 }

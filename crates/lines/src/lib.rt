@@ -21,8 +21,8 @@ pub type MarginLine = ArrayString<123>;
 /// A text, with room for 97 lines of a plan.
 pub type Text = ArrayString<9312>;
 
-// Puts a word and a number in decimal behind a text. By `push_str`, which can't fail where there is room: `write!` gives a Result, and that it is
-// Ok would be one more fact to state.
+// Puts a word and a number in decimal behind a text. By `push_str`: of `write!` it is known what it wrote where it gives Ok, and not that it does where
+// there is room.
 fn put<const CAP: usize>(text: &mut ArrayString<CAP>, word: &str, n: u64)
     requires { length text.old.bytes + (length word.now + 20) ≤ CAP }
     ensures said { text.new.bytes ≡ text.old.bytes ++ labelled word.now n }
