@@ -56,6 +56,7 @@ pub fn begin(
     requires { Startable (lent_day ready.day) allowed.old marks.old best.old plan.old }
     ensures { Begun (lent_day ready.entry.day) result allowed.new marks.new best.new plan.new }
 {
+    // marks of 0, and below of 1: numbers, for the reason in `rounds`
     marks.fill(0);
     allowed.copy_from_slice(ready.day.capacity);
     let cost = trial(ready, allowed, plan).unwrap();

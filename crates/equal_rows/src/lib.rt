@@ -17,7 +17,6 @@ mod constant;
 
 pub use constant::ConstantProblem;
 use equal_runs::{LoadSizes, NONE, read_back, run};
-use std::cmp::Ordering;
 
 // Whether x has the smaller amount in the last period in which the two differ.
 fn smaller(x: &[u16], y: &[u16]) -> bool
@@ -32,11 +31,8 @@ fn goes_first(v: u64, x: &[u16], w: u64, y: &[u16]) -> bool
     requires { length y.now ≡ length x.now }
     ensures { Decided (length x.now) v (at x.now) w (at y.now) result }
 {
-    match v.cmp(&w) {
-        Ordering::Less => true,
-        Ordering::Equal => smaller(x, y),
-        Ordering::Greater => false,
-    }
+    // Not by `then_with`: it takes an order of the amounts, and what `cmp` says of two reversed runs of cells did not lead to one, as what `lt` says does.
+    v < w || (v == w && smaller(x, y))
 }
 
 // The fractional load of an interval, and the state that it ends in.
@@ -51,6 +47,7 @@ fn state_of(j: u64, part: u64) -> usize
     requires { j ≤ 96 }
     ensures { result ≡ index_of j (min 1 part) }
 {
+    // `as`: from u64 std has no From for usize.
     (2 * j + part.min(1)) as usize
 }
 
@@ -68,7 +65,8 @@ fn split(left: u64, full: u16) -> Ending
 }
 
 // The intervals of `count` periods from l on, past the rows.
-// The two areas go one by one, here and below: each clause would owe of a struct of `&mut` that both references stay the same.
+// The two areas go one by one, here and below: each clause would owe of a struct of `&mut` that both references stay the same. So do `l` and `left`, since no
+// fact ties them that leaves the problem and the row out, and a cost beside its amounts, which are lent.
 fn lay(
     p: ConstantProblem,
     ending: Ending,

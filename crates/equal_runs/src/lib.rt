@@ -60,13 +60,14 @@ fn offer(p: RunPeriod, before: u64, x: u16, hold: u64) -> RunState
     }
 }
 
-// The second only if it is cheaper.
+// The second only if it is cheaper: std's `min_by_key` for this type and key, told once in the words of specs/.
 fn cheaper(a: RunState, b: RunState) -> RunState
     ensures { result ≡ cheaper_of a b }
 {
     min_by_key(a, b, |state| state.cost)
 }
 
+// The row goes beside the period, here and below: `advance` writes it between one state and the next, so a struct of the two would be made for each state.
 // A load is tried where the state at s has n of it; the state without one stands `step` before s.
 fn with_load(
     p: RunPeriod,
@@ -93,6 +94,7 @@ fn state_after(p: RunPeriod, sizes: LoadSizes, row: &[u64], j: usize, d: usize) 
     requires { RowLow row.now (2 * j + d) × (j ≤ 96) × (d ≤ 1) }
     ensures { result ≡ state_by p sizes (at row.now) j d }
 {
+    // `as`: from usize std has no From for u64.
     let sum = made_by(sizes, j as u64, d as u64);
     if sum < p.due {
         return RunState {
@@ -107,35 +109,28 @@ fn state_after(p: RunPeriod, sizes: LoadSizes, row: &[u64], j: usize, d: usize) 
     with_load(p, row, s, 2, j, sizes.full, hold, best)
 }
 
-// One period more: the row after it, over the row before it, from its end; what the period makes goes to `picks`, from `base` on.
-// The row and the amounts come one by one, here and below, for the reason beside `tables::put`; `top` and `width` say how far each goes.
-fn advance(
-    p: RunPeriod,
-    sizes: LoadSizes,
-    top: usize,
-    row: &mut [u64],
-    base: usize,
-    picks: &mut [u16],
-)
-    requires { RowLow row.old top × (top ≤ 193) × (base + top < length picks.old) }
-    ensures { Advanced p sizes 0 top row.old row.new base picks.old
+// One period more: the row after it, over the row before it, from its end; what the period makes goes to the front of `picks`.
+// The row and the amounts come one by one, here and below, for the reason beside `tables::put`.
+fn advance(p: RunPeriod, sizes: LoadSizes, row: &mut [u64], picks: &mut [u16])
+    requires { RowLow row.old (length row.old - 1) × (length row.old ≤ 194) × (length row.old ≤ length picks.old) }
+    ensures { Advanced p sizes 0 (length row.old - 1) row.old row.new 0 picks.old
         picks.new }
 {
     // By index: a state is found from cells at its own place and below it, and written to that place in two lists.
-    for s in (0..top + 1).rev() {
+    for s in (0..row.len()).rev() {
         let state = state_after(p, sizes, row, s / 2, s % 2);
         row[s] = state.cost;
-        picks[base + s] = state.amount;
+        picks[s] = state.amount;
     }
 }
 
 // The row before the first period.
-fn start(top: usize, row: &mut [u64])
-    requires { top < length row.old }
-    ensures { RowFilled row.old row.new 0 start_of 0 top }
+fn start(row: &mut [u64])
+    requires { 0 < length row.old }
+    ensures { RowFilled row.old row.new 0 start_of 0 (length row.old - 1) }
 {
     row[0] = 0;
-    row[1..=top].fill(NONE);
+    row[1..].fill(NONE);
 }
 
 // Period i, in an interval that must have made `due` by its end.
@@ -169,14 +164,15 @@ pub fn run(
     requires { Runnable (lent_problem problem) l count top width row.old picks.old }
     ensures { Ran (model_of (lent_constant problem.entry sizes.full)) l sizes count top width row.new picks.new }
 {
-    start(top, row);
+    let states = &mut row[..=top];
+    start(states);
     let mut due: u64 = 0;
     // By index: a period has an entry in four tables, and its amounts a place among those of the interval.
     for k in 0..count {
         let i = l + k;
         due += u64::from(problem.demand[i]);
         let p = period_at(problem, i, due);
-        advance(p, sizes, top, row, k * width, picks);
+        advance(p, sizes, states, &mut picks[k * width..]);
     }
 }
 

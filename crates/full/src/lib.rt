@@ -36,6 +36,7 @@ pub fn work(day: Day, costs: &mut [u64], choices: &mut [u16], slots: &mut [u16])
         (memory_after costs choices slots) }
 {
     let n = day.periods();
+    // `as`: from u64 std has no From for usize.
     let total = checks::total(day) as usize;
     let mut tables = Tables::new();
     let problem = tables.problem(day);

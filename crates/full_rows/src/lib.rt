@@ -39,6 +39,7 @@ pub struct Cell {
 }
 
 // A row of more than one total. Each total before the stage enters the queue once and leaves at most once.
+// The two lent rows come one by one, here and below, for the reason beside `tables::put`, and so do their lengths.
 fn fill(row: &Row<'_>, after: &mut [u64], choices: &mut [u16], cells: &mut [u16])
     requires cost_cells { row.now.stage.top < length after.old }
     requires choice_cells { row.now.stage.top < length choices.old }
@@ -47,7 +48,7 @@ fn fill(row: &Row<'_>, after: &mut [u64], choices: &mut [u16], cells: &mut [u16]
 {
     let stage = row.stage;
     let mut queue = Candidates::new(row, cells);
-    // Over totals, which the recursion counts with; each is the place of its two cells too.
+    // Over totals, here and in `Candidates::new`: the recursion counts with them; each is the place of its two cells too.
     for total in stage.floor..=stage.top {
         let cell = queue.cell(row, total);
         queue.enter(row, total);

@@ -9,6 +9,7 @@ use crate::row::{Row, cheaper};
 use crate::{Cell, Choice};
 
 // The entries are the cells from `head` to `tail` of a lent part: there is no heap for a queue of its own.
+// The row goes beside the queue: were it a field, each call that changes the queue would owe that it leaves the row as it was.
 #[derive(Drop)]
 pub struct Candidates<'a> {
     cells: &'a mut [u16],

@@ -23,6 +23,7 @@ impl Row<'_> {
         requires { LeadsTo self.now.stage total amount }
         ensures { result ≡ choice_of self.now.stage (at self.now.costs.now) total amount }
     {
+        // `as`, here and below: from usize std has no From for u64, and for narrower numbers none.
         let making = terms::making_cost(self.stage.setup, self.stage.unit, amount as u64);
         Choice {
             amount,
@@ -37,6 +38,7 @@ impl Row<'_> {
     {
         let lowest = total.saturating_sub(self.stage.high);
         let highest = self.stage.capacity.min(total - self.stage.low);
+        // A loop: std's `min_by_key` answers by an Option, though there is always an amount, and asks that each one that the range gives leads to the total.
         let mut best = self.choice(total, lowest);
         for amount in lowest + 1..=highest {
             best = cheaper(best, self.choice(total, amount));
@@ -65,7 +67,7 @@ impl Row<'_> {
     }
 }
 
-// The second only if it is cheaper.
+// The second only if it is cheaper: std's `min_by_key` for this type and key, told once in the words of specs/.
 pub fn cheaper(a: Choice, b: Choice) -> Choice
     ensures { result ≡ pick (dec_lt b.price a.price) b a }
 {

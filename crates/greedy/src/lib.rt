@@ -15,7 +15,7 @@ pub fn keys(unit: &[u32], holding: &[u32], cells: &mut [u64])
     ensures { Keyed unit.now holding.now cells.old cells.new }
 {
     let mut held: u64 = 0;
-    // By index: of cells that `iter_mut` lends to a `zip` nothing is known afterwards.
+    // By index: of cells that `iter_mut` lends to `rev` nothing is known afterwards.
     for k in (0..unit.len()).rev() {
         held += u64::from(holding[k]);
         cells[k] = u64::from(unit[k]) + held;
@@ -30,12 +30,11 @@ pub struct Offers<'a> {
 }
 
 // The best of the first d periods: it has capacity left and the least key, of equal keys the earliest.
-// `d` goes beside whole tables: what is served is told of all slots, not of a front.
+// `d` goes beside whole tables: what is served is told of all slots, not of a front. So it is no field of `Offers`, and `Covers` stands in each clause.
 fn source(from: Offers, slots: &[u16], d: usize) -> Option<usize>
     requires { Covers d from.keys.now from.capacity.now slots.now }
     ensures { Sources (at from.entry.keys.now) (at from.entry.capacity.now) (at slots.now) d result }
 {
-    // Over the indices: the answer is one, and of three tables only entry k is used.
     (0..d)
         .filter(|&k| slots[k] < from.capacity[k])
         .min_by_key(|&k| from.keys[k])

@@ -28,7 +28,7 @@ pub struct Holding {
     pub held: u64,
 }
 
-// Candidates go down, so one that only equals the best takes its place.
+// Candidates go down, so one that only equals the best takes its place: std's `min_by_key` for this type and key, told once in the words of specs/.
 fn cheaper(best: LastLot, l: usize, price: u64) -> LastLot
     ensures { result ≡ better best l price }
 {
@@ -40,6 +40,7 @@ fn cheaper(best: LastLot, l: usize, price: u64) -> LastLot
 }
 
 // What it costs to come to l and to make the lot of candidate l.
+// The costs go beside the problem, here and below: `fill_rows` writes them between one row and the next, so a struct of both would be made for each row.
 fn lot_cost(p: Problem, costs: &[u64], l: usize, made: u64) -> u64
     requires l_in_bounds { (l < length p.setup.now) × (l < length p.unit.now) }
     requires lot_fits { LotFits costs.now l made }
