@@ -151,8 +151,9 @@ fn candidate(
     before + run
 }
 
-// Cells as others of their length hold them. By hand: of std's copy the compiler makes a call of `memmove`, which a station without an operating
-// system need not supply. And `to` by index: of cells that `iter_mut` lends to a `zip` nothing is known afterwards.
+// Cells as others of their length hold them. By hand: of std's copy between two lent areas the compiler makes a call of `memmove`, which a station without an
+// operating system need not supply; in `drops`, where one side is a table of the call's own, it makes none. And `to` by index: of cells that `iter_mut` lends
+// to a `zip` nothing is known afterwards.
 pub fn copy(from: &[u16], to: &mut [u16])
     requires { length to.old ≡ length from.now }
     ensures { to.new ≡ from.now }
