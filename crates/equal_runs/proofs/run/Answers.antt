@@ -45,7 +45,8 @@ loop-k-preserved c =
       low = omega (arith, inv.low);
       ran = turn a.problem a.l k a.sizes a.top a.width c.loop-k.due
           c.loop-k.states c.loop-k.picks _ _ p (omega arith) c.requires.low c.requires.wide narrow
-          inv.sums e inv.ran (advanced_behind p a.sizes a.top (k * a.width) _ _ _ _ (omega (arith, row_end)) (omega (arith, row_end)) (rw top at c.advance.ensures));
+          inv.sums e inv.ran (advanced_behind p a.sizes a.top (k * a.width) _ _ _ _ (omega (arith, row_end)) (omega (arith, row_end))
+          (rw top at c.advance.ensures));
       size = c.advance.ensures.costs.size ∙ inv.size;
     }
 
