@@ -109,36 +109,28 @@ fn state_after(p: RunPeriod, sizes: LoadSizes, row: &[u64], j: usize, d: usize) 
     with_load(p, row, s, 2, j, sizes.full, hold, best)
 }
 
-// One period more: the row after it, over the row before it, from its end; what the period makes goes to `picks`, from `base` on.
-// The row and the amounts come one by one, here and below, for the reason beside `tables::put`. `top` and `base` come beside them, since with
-// `&mut row[..=top]` and `&mut picks[base..]` at the call the equal path takes up to a tenth more time.
-fn advance(
-    p: RunPeriod,
-    sizes: LoadSizes,
-    top: usize,
-    row: &mut [u64],
-    base: usize,
-    picks: &mut [u16],
-)
-    requires { RowLow row.old top × (top ≤ 193) × (base + top < length picks.old) }
-    ensures { Advanced p sizes 0 top row.old row.new base picks.old
+// One period more: the row after it, over the row before it, from its end; what the period makes goes to the front of `picks`.
+// The row and the amounts come one by one, here and below, for the reason beside `tables::put`.
+fn advance(p: RunPeriod, sizes: LoadSizes, row: &mut [u64], picks: &mut [u16])
+    requires { RowLow row.old (length row.old - 1) × (length row.old ≤ 194) × (length row.old ≤ length picks.old) }
+    ensures { Advanced p sizes 0 (length row.old - 1) row.old row.new 0 picks.old
         picks.new }
 {
     // By index: a state is found from cells at its own place and below it, and written to that place in two lists.
-    for s in (0..top + 1).rev() {
+    for s in (0..row.len()).rev() {
         let state = state_after(p, sizes, row, s / 2, s % 2);
         row[s] = state.cost;
-        picks[base + s] = state.amount;
+        picks[s] = state.amount;
     }
 }
 
 // The row before the first period.
-fn start(top: usize, row: &mut [u64])
-    requires { top < length row.old }
-    ensures { RowFilled row.old row.new 0 start_of 0 top }
+fn start(row: &mut [u64])
+    requires { 0 < length row.old }
+    ensures { RowFilled row.old row.new 0 start_of 0 (length row.old - 1) }
 {
     row[0] = 0;
-    row[1..=top].fill(NONE);
+    row[1..].fill(NONE);
 }
 
 // Period i, in an interval that must have made `due` by its end.
@@ -172,14 +164,15 @@ pub fn run(
     requires { Runnable (lent_problem problem) l count top width row.old picks.old }
     ensures { Ran (model_of (lent_constant problem.entry sizes.full)) l sizes count top width row.new picks.new }
 {
-    start(top, row);
+    let states = &mut row[..=top];
+    start(states);
     let mut due: u64 = 0;
     // By index: a period has an entry in four tables, and its amounts a place among those of the interval.
     for k in 0..count {
         let i = l + k;
         due += u64::from(problem.demand[i]);
         let p = period_at(problem, i, due);
-        advance(p, sizes, top, row, k * width, picks);
+        advance(p, sizes, states, &mut picks[k * width..]);
     }
 }
 

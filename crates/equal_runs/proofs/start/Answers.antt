@@ -1,6 +1,6 @@
 -- The first state costs nothing, and the others are marked.
 use Rattle.std.proofs.Common.{◌≡◌, refl, ◌∙◌, List, [], ◌∷◌, ℕ, zero, suc, ◌≤◌, ◌<◌, zero-add, arith, rules}
-use Rattle.std.proofs.Common.{length, drop, replicate, set, length-append, length-drop}
+use Rattle.std.proofs.Common.{length, drop, replicate, set, length-set, length-append, length-drop}
 use Rattle.std.proofs.lemmas.List.{length-replicate, get_or-replicate}
 use lib.ListN.{get_or-append}
 use borrow.Rule.Slice.PartMut.{put_mid}
@@ -24,4 +24,4 @@ started (x ∷ xs) marks top k e h m = record { size = size; done = λ t a b. rw
         rw m (get_or-append (replicate top marker) _ 0 t (omega (arith, length-replicate top marker)) ∙ get_or-replicate top t marker 0 (omega arith))
 
 pub returns : goal.returns
-returns c = started _ _ _ _ (omega arith) c.requires (search rules)
+returns c = started _ _ _ _ (omega (arith, length-set c.args.row.now 0 0)) (omega (arith, c.requires)) (search rules)
