@@ -69,7 +69,7 @@ pub fn find(file: &[u8], period: usize) -> Result<&[u8], Refusal>
     Ok(layout::body(file, at))
 }
 
-// Likewise; an empty part where `check` refuses. It stays beside `find` for callers that ask for no reason: what it promised still stands.
+// Likewise; an empty part where `check` refuses. It stays beside `find`, since it is public and its promise stands.
 pub fn body(file: &[u8], period: usize) -> &[u8]
     ensures { HandsOut file.entry period result }
 {

@@ -62,7 +62,7 @@ pub fn work(day: Day, costs: &mut [u64], choices: &mut [u16], slots: &mut [u16])
 
 // The plan of a day into the first n slots, with its cost and its setups.
 // Each path has its own: full and uncapped differ in kind and `work` alone, the others in areas or answer too. One over the kind and a closure would ask of
-// the closure, as a bound over three lent areas, all that `Accepted` says, and take as many arguments.
+// the closure, as a bound over three lent areas, all that `Accepted` says.
 pub fn plan(
     day: Day,
     costs: &mut [u64],

@@ -22,7 +22,7 @@ pub fn keys(unit: &[u32], holding: &[u32], cells: &mut [u64])
     }
 }
 
-// What the rule serves from: of each period its key, and its capacity. Two slices: keys stand in lent cells, capacities in the day's table.
+// What the rule serves from: of each period its key, and its capacity. Two slices: keys stand in lent cells, capacities in a table elsewhere.
 #[derive(Clone, Copy)]
 pub struct Offers<'a> {
     pub keys: &'a [u64],

@@ -14,7 +14,7 @@ use checks::MAX_PERIODS;
 use day::Day;
 use theory::Problem;
 
-// What is asked of the day, here and below, is what the tests of any path leave of it: a type for it would be made for one call a path.
+// What is asked of the day, here and below, is what the tests of any path leave of it: a type for it would be made in each path's work, for a call or two.
 // The net need of every period. The day by index, here and below: of cells that iter_mut lends to a zip nothing is known afterwards.
 fn fill_needs(day: Day, net: &mut [u16])
     requires net_len { length net.old ≡ periods (lent_day day) }
@@ -46,7 +46,7 @@ fn fill_rates(holding: &[u32], rates: &mut [u32])
     }
 }
 
-// The net needs and the rates of a day.
+// The net needs and the rates of a day. It stays public, as its promise stands.
 pub fn fill(day: Day, net: &mut [u16], rates: &mut [u32])
     requires net_len { length net.old ≡ periods (lent_day day) }
     requires rates_len { length rates.old ≡ length day.holding.now }

@@ -15,7 +15,7 @@ use day::{Day, PathKind, Refusal, Sizes};
 // the most that R + Z may be on a big day
 const MAX_BIG_TOTAL: u64 = 60_000;
 
-// How many cells of each area a path needs.
+// How many cells of each area a path needs. Not `Sizes`: no slots are among them, and every path needs n.
 #[derive(Clone, Copy)]
 pub struct Needed {
     pub costs: usize,
@@ -52,7 +52,7 @@ pub fn shortage(day: Day) -> Result<(), Refusal>
 {
     let n = day.periods();
     let opening = u64::from(day.ends.opening);
-    // By index, here and in `binding`: a zip of the tables with its count would give items such as `(i, ((need, capacity), store))`.
+    // By index, here and in `binding`: of the items that `enumerate` gives over a `zip` it was not found that they are the tables' entries.
     let mut demanded: u64 = 0;
     let mut most: u64 = 0;
     for i in 0..n {
@@ -143,7 +143,7 @@ fn own(kind: PathKind, day: Day) -> Result<(), Refusal>
     }
 }
 
-// The cells that a path needs for n periods in which so much is made.
+// The cells that a path needs for n periods in which so much is made; how much counts for the full path alone.
 pub fn cells(kind: PathKind, n: usize, total: usize) -> Needed
     requires { (n ≤ max_periods) × (total ≤ max_sum) }
     ensures { NeededBy (path_of kind) n total result }

@@ -50,6 +50,7 @@ fn draw(seed: u32) -> Drawn
             setup: u32::from(upper(c) % 30001),
             unit: u32::from(upper(d) % 1201),
             holding: u32::from(upper(e) % 21),
+            // no limit: a number, for the reason beside `dayfile::layout::NO_LIMIT`
             store: u16::MAX,
         },
         seed: e,

@@ -81,7 +81,8 @@ struct Sums {
     demanded: u64,
 }
 
-// One period: its rules in their order, then its terms of sum (1) in the report's, which stands beside them at `walk`.
+// One period: its rules in their order, then its terms of sum (1) in the report's, which stands beside them at `walk`. `last` comes beside Z, for the reason
+// beside `checks::due`.
 fn judge(p: Entries, amount: u16, last: bool, s: Sums, closing: u16) -> Result<Sums, Rule>
     requires { Room s }
     ensures { result ≡ ruling_of p amount last s closing }
