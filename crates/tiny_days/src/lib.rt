@@ -126,6 +126,7 @@ fn draw_stores(draws: &mut Draws, stores: Stores) -> [u16; 4]
 // A made-up day: the first n cells of its tables, and its ends; and the seed for the next one. The ends are drawn after the periods, then
 // the store limits, and the next day's seed is the one before these draws: so the same seed gives the same days but for ends and stores.
 // Six arrays with n beside: a day is lent as six slices of one length, and the lengths of six vectors would be six facts.
+// Not `tables::Tables` with a length as parameter: those are lent to be filled, and hold no day of their own.
 #[derive(Clone, Copy)]
 pub struct Tiny {
     pub seed: u32,
