@@ -15,6 +15,14 @@ abbrev pub unless_found : Option ℕ → Result Unit ℕ
 unless_found None = Ok tt
 unless_found (Some k) = Err (suc k)
 
+-- and refuses by it
+pub first_refused : (r : ℕ → Refusal) (found : Option ℕ) {searched : Result Unit ℕ} {answer : Result Unit Refusal} → searched ≡ unless_found found
+    → (searched ≡ Ok tt → answer ≡ Ok tt)
+    → ((i : ℕ) → searched ≡ Err i → answer ≡ Err (r i))
+    → answer ≡ checked (refuse_at r found)
+first_refused r None is none some = none is
+first_refused r (Some k) is none some = some (suc k) is
+
 -- of n periods the first i have been passed, and the test holds in none of these
 pub record Searched (P : ℕ → Bool) (n i : ℕ) : Type 0 where
   pub inside : i ≤ n

@@ -1,7 +1,7 @@
 -- What the loop of `run` keeps after k periods, and one period more. Main statements: `turn`, `advanced_behind`, `ran_longer`. Assumes nothing.
-use Rattle.std.proofs.Common.{◌≡◌, ◌∙◌, List, ◌++◌, ℕ, ◌+◌, ◌-◌, ◌*◌, ◌≤◌, ◌<◌, ap, add-one, arith, length, take}
-use Rattle.std.proofs.Common.{length-take, length-take-le, length-append, length-drop, get_or-take}
-use Rattle.std.proofs.lemmas.List.{get_or_append_left, get_or-append_right}
+use Rattle.std.proofs.Common.{◌≡◌, ◌∙◌, List, ◌++◌, ℕ, ◌+◌, ◌-◌, ◌*◌, ◌≤◌, ◌<◌, ap, add-one, arith, length}
+use Rattle.std.proofs.Common.{length-take-le, length-append, length-drop}
+use Rattle.std.proofs.lemmas.List.{get_or_append_left}
 use borrow.Rule.Slice.PartMut.{mid_of, put_mid}
 use Rattle.day.specs.Sums.{at}
 use Rattle.theory.specs.Model.{Model}
@@ -11,29 +11,14 @@ use Rattle.equal_runs.specs.declared.LoadSizes.{LoadSizes}
 use Rattle.equal_runs.specs.declared.RunPeriod.{RunPeriod}
 use Rattle.equal_runs.specs.States.{index_of, period_of}
 use Rattle.equal_runs.specs.Told.{Narrow}
+use Rattle.theory.specs.Parts.{front_at, part_at, part_size}
 use Rattle.equal_runs.specs.Fill.{RowFilled, Advanced}
 use Rattle.equal_runs.specs.Run.{Ran, lent_constant, start_of, ran_none, ran_more}
-
--- The amounts of one period, written to the front of what is lent of them from a on.
-module _ (a k : ℕ) (l part : List ℕ) (inside : a ≤ length l) where
-  front_at : (j : ℕ) → j < a → at (put_mid a k l part) j ≡ at l j
-  front_at j h =
-      get_or_append_left (take a l) _ 0 j (omega (arith, length-take-le a l inside)) ∙ get_or-take a l j 0 h
-
-  part_at : (j : ℕ) → j < length part → at (put_mid a k l part) (a + j) ≡ at part j
-  part_at j h =
-      let e : a + j - a ≡ j = omega arith in
-      get_or-append_right (take a l) _ a (a + j) 0 (length-take-le a l inside) (omega arith)
-      ∙ rw e (get_or_append_left part _ 0 j h)
-
--- what is lent of them
-pub lent_size : (a : ℕ) (l : List ℕ) → length (mid_of a (length l - a) l) ≡ length l - a
-lent_size a l = simp (length-take, length-drop) (omega arith)
 
 filled_behind : (f : ℕ → ℕ) (top a : ℕ) (l part : List ℕ) → a ≤ length l → top < length l - a
     → RowFilled (mid_of a (length l - a) l) part 0 f 0 top → RowFilled l (put_mid a (length l - a) l part) a f 0 top
 filled_behind f top a l part inside room r =
-    let size : length part ≡ length l - a = r.size ∙ lent_size a l in
+    let size : length part ≡ length l - a = r.size ∙ part_size l a in
     record {
       size = simp (length-append, length-drop) (omega (arith, length-take-le a l inside, size));
       done = λ t b h. let z : 0 + t ≡ t = omega arith in part_at a (length l - a) l part inside t (omega (arith, size)) ∙ (rw z at (r.done t b h));

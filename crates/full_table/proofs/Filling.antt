@@ -2,14 +2,14 @@
 -- Assumes nothing.
 use Rattle.std.proofs.Common.{◌≡◌, refl, sym, ap, ◌∙◌, List, ⊎_elim, ℕ, zero, suc, ◌+◌, ◌*◌, ◌≤◌, ◌<◌, eq-or-lt_of_le, suc-mul, mul-le-mul_right}
 use Rattle.std.proofs.Common.{◌-◌, add-one, arith, length}
-use Rattle.std.proofs.Common.{take, drop, set, length-set, length-take}
-use Rattle.std.proofs.Common.{length-take-le, length-append, length-drop, get_or-set_same, get_or-take}
-use Rattle.std.proofs.lemmas.List.{get_or_append_left, get_or-append_right}
+use Rattle.std.proofs.Common.{set, length-set}
+use Rattle.std.proofs.Common.{length-take-le, length-append, length-drop, get_or-set_same}
 use borrow.Rule.Slice.PartMut.{put_mid}
 use Rattle.day.specs.Sums.{at, below}
 use Rattle.theory.specs.Reachable.{high}
 use Rattle.theory.specs.Full.{stage_of, cost_row, cost_row-zero, cost_row_next, amount}
 use Rattle.theory.specs.Problem.{Problem, periods, demand_to, total, model_within, Bounded}
+use Rattle.theory.specs.Parts.{front_at, part_at}
 use Rattle.full_rows.specs.declared.Stage.{Stage}
 use Rattle.full_rows.specs.Row.{max_making, max_product, RowReady, Stepped}
 use Rattle.full_rows.specs.Laws.{Limited, amount_ext, cost_ext, cost_small}
@@ -26,22 +26,6 @@ pub record TableFilling (p : Problem) (U : List ℕ) (T : ℕ) (before after cho
   pub before_cells : T + 1 ≤ length before
   pub after_cells : T + 1 ≤ length after
   pub choice_cells : periods p * (T + 1) ≤ length choices
-
--- after a part from a on has been written
-module _ (a k : ℕ) (l part : List ℕ) (inside : a ≤ length l) where
-  front_at : (j : ℕ) → j < a → at (put_mid a k l part) j ≡ at l j
-  front_at j h =
-      get_or_append_left (take a l) _ 0 j (omega (arith, length-take-le a l inside)) ∙ get_or-take a l j 0 h
-
-  part_at : (j : ℕ) → j < length part → at (put_mid a k l part) (a + j) ≡ at part j
-  part_at j h =
-      let e : a + j - a ≡ j = omega arith in
-      get_or-append_right (take a l) _ a (a + j) 0 (length-take-le a l inside) (omega arith)
-      ∙ rw e (get_or_append_left part _ 0 j h)
-
--- the part from a on
-pub part_size : (l : List ℕ) (a : ℕ) → length (take (length l - a) (drop a l)) ≡ length l - a
-part_size l a = simp (length-take, length-drop) (omega arith)
 
 put_length : (a : ℕ) (l part : List ℕ) → a ≤ length l → length part ≡ length l - a → length (put_mid a (length l - a) l part) ≡ length l
 put_length a l part inside size =

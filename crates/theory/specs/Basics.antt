@@ -1,8 +1,11 @@
 -- Choices by a decision, facts about every index up to one, and the last entry of a list.
 -- Assumes nothing.
-use Rattle.std.specs.Prelude.{◌≡◌, refl, List, [], ◌∷◌, ◌++◌, ℕ, zero, suc, ◌-◌, ◌≤◌, ◌<◌, length}
+use Rattle.std.specs.Ordering.{is_lt, nat_cmp}
+use Rattle.std.specs.Prelude.{◌≡◌, refl, cond, List, [], ◌∷◌, ◌++◌, ℕ, zero, suc, ◌-◌, ◌≤◌, ◌<◌, length}
 use Rattle.std.proofs.Common.{⊎_elim, eq-or-lt_of_le, le_of_suc-le-suc, arith, length-append}
 use Rattle.std.proofs.Math.Arith.{le-zero}
+use Rattle.std.proofs.Math.Decide.{dec_lt, dec_le}
+use Rattle.std.proofs.lemmas.Bool.Decides.{nat_tests}
 use Rattle.std.proofs.lemmas.List.{get_or_at}
 use Rattle.day.specs.Sums.{at}
 
@@ -18,6 +21,22 @@ pick_yes (no n) a b h = absurd (n h)
 pub pick_no : {A B : Type 0} (d : Dec A) (a b : B) → ¬ A → pick d a b ≡ b
 pick_no (yes y) a b h = absurd (h y)
 pick_no (no _) a b h = refl
+
+-- std's choice of two by their numbers, the first of equals, in these words; and by the other test
+module _ {A : Type 0} (m k : ℕ) (a b : A) where
+  pub picked : cond (is_lt (nat_cmp m k)) b a ≡ pick (dec_lt m k) b a
+  picked = go (dec_lt m k)
+    where
+      go : (d : Dec (m < k)) → cond (is_lt (nat_cmp m k)) b a ≡ pick d b a
+      go (yes h) = grind (arith, nat_tests)
+      go (no n) = grind (arith, nat_tests)
+
+  pub picked_le : cond (is_lt (nat_cmp m k)) b a ≡ pick (dec_le k m) a b
+  picked_le = go (dec_le k m)
+    where
+      go : (d : Dec (k ≤ m)) → cond (is_lt (nat_cmp m k)) b a ≡ pick d a b
+      go (yes h) = grind (arith, nat_tests)
+      go (no n) = grind (arith, nat_tests)
 
 -- what holds up to i and at i + 1 holds up to i + 1
 pub up_to-zero : (P : ℕ → Type 0) → P 0 → (k : ℕ) → k ≤ 0 → P k

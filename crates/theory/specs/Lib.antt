@@ -1,7 +1,8 @@
 -- The theory of the planner, over one model. A module uses those above it.
--- The model; choices, the first least index, the order of plans.
+-- The model; choices, parts of lists, the first least index, the order of plans.
 pub mod Model
 pub mod Basics
+pub mod Parts
 pub mod Cheapest
 pub mod Order
 -- Recursion (5): over stages of any kind, over totals, for a model.

@@ -4,7 +4,8 @@ use Rattle.std.proofs.Math.Nat.{mul-le-mul_right}
 use Rattle.day.specs.Sums.{at, sum_to}
 use Rattle.equal_runs.specs.Told.{Narrow}
 use Rattle.equal_runs.specs.Run.{row_low}
-use Rattle.equal_runs.proofs.Running.{lent_size, advanced_behind, ran_started, ran_longer, turn}
+use Rattle.theory.specs.Parts.{part_size}
+use Rattle.equal_runs.proofs.Running.{advanced_behind, ran_started, ran_longer, turn}
 use Rattle.equal_runs.proofs.run.Goals as goal
 
 pub loop-k-init : goal.loop-k-init
@@ -26,7 +27,7 @@ advance-requires c =
     let top : length c.loop-k.states - 1 ≡ c.args.top = omega (arith, inv.size) in (
       rw top (row_low _ _ _ c.loop-k.k _ _ _ _ inv.ran (omega arith) (omega arith)),
       omega (arith, inv.size),
-      omega (arith, inv.size, lent_size (c.loop-k.k * c.args.width) c.loop-k.picks),
+      omega (arith, inv.size, part_size c.loop-k.picks (c.loop-k.k * c.args.width)),
     )
 
 pub loop-k-preserved : goal.loop-k-preserved

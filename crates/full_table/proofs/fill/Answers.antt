@@ -1,7 +1,8 @@
 -- No row is filled at first; a turn's stage is one of the periods, its rows have the cells that it asks for, and one more is filled.
 use Rattle.std.proofs.Common.{◌≡◌, ◌∙◌, ◌*◌, ◌+◌, List, ℕ, arith, length, ap, append-nil, MutBor}
 use Rattle.std.proofs.lemmas.List.{take_all, drop_all}
-use Rattle.full_table.proofs.Filling.{part_size, filling_none, filling_staged, filling_ready, filling_more}
+use Rattle.theory.specs.Parts.{part_size}
+use Rattle.full_table.proofs.Filling.{filling_none, filling_staged, filling_ready, filling_more}
 use Rattle.full_table.proofs.fill.Goals as goal
 
 pub loop-i-init : goal.loop-i-init

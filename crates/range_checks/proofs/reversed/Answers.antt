@@ -1,15 +1,16 @@
 -- What the search over both tables finds is the first lowest need above its highest.
-use Rattle.std.proofs.Common.{◌≡◌, ℕ, Option, None, Some, Bool, sym, ap, ◌∙◌, length, ltb, rules, arith}
+use Rattle.std.proofs.Common.{◌≡◌, ℕ, Bool, sym, ap, ◌∙◌, length, ltb, rules, arith}
 use Rattle.std.specs.List.{zip}
 use Rattle.std.proofs.lemmas.Iterator.{YieldsList-from_slice, YieldsList-from_zip}
 use Rattle.std.proofs.lemmas.Iterator.Search.{position_from_yields_List}
 use Rattle.std.proofs.lemmas.Slice.Zip.{length-zip, get_or-zip}
 use borrow.Author.Tests.{tests}
+use Rattle.day.specs.declared.Refusal.TheVariants.{ReversedRange}
 use Rattle.day.specs.Day.{periods}
 use Rattle.day.specs.Find.{find}
 use Rattle.day.specs.Lent.{lent_day}
-use Rattle.day.specs.Refusals.{checked, reverses, reversed}
-use Rattle.checks.specs.Search.{unless_found, find_position}
+use Rattle.day.specs.Refusals.{reverses}
+use Rattle.checks.specs.Search.{first_refused, find_position}
 use Rattle.range_checks.proofs.reversed.Goals as goal
 use Rattle.range_checks.proofs.reversed.Goals.{After-position-found}
 
@@ -29,9 +30,6 @@ found c =
     ∙ sym first
 
 pub returns : goal.returns
-returns c = go c.position-found.result (found (goal.at.returns c).After-position-found) c.unless_found.ensures
-  where
-    go : (o : Option ℕ) → find (reverses c.args.lowest.now (lent_day c.args.day)) (periods (lent_day c.args.day)) ≡ o → c.unless_found.result ≡ unless_found o
-        → c.map_err.result ≡ checked (reversed c.args.lowest.now (lent_day c.args.day))
-    go None e is = rw e (search rules)
-    go (Some k) e is = rw e (search rules)
+returns c =
+    let e = found (goal.at.returns c).After-position-found in
+    rw e (first_refused ReversedRange c.position-found.result c.unless_found.ensures (λ h. search rules) (λ i h. search rules))

@@ -1,19 +1,9 @@
 -- std's order of numbers is the theory's.
-use Rattle.std.proofs.Common.{◌≡◌, ◌∙◌, ℕ, ◌<◌, cond, rules, arith}
-use Rattle.std.proofs.Math.Decide.{dec_lt}
-use Rattle.std.proofs.lemmas.Bool.Decides.{nat_tests}
+use Rattle.std.proofs.Common.{◌∙◌, rules}
 use Rattle.std.proofs.lemmas.List.Sorted.{answers_always}
-use Rattle.std.specs.Ordering.{is_lt, nat_cmp}
-use Rattle.theory.specs.Basics.{pick}
+use Rattle.theory.specs.Basics.{picked}
 use Rattle.full_rows.specs.declared.Choice.{Choice}
 use Rattle.full_rows.proofs.row.cheaper.Goals as goal
-
-picked : (m k : ℕ) (a b : Choice) → cond (is_lt (nat_cmp m k)) b a ≡ pick (dec_lt m k) b a
-picked m k a b = go (dec_lt m k)
-  where
-    go : (d : Dec (m < k)) → cond (is_lt (nat_cmp m k)) b a ≡ pick d b a
-    go (yes h) = grind (arith, nat_tests)
-    go (no n) = grind (arith, nat_tests)
 
 pub returns : goal.returns
 returns c =
