@@ -70,7 +70,7 @@ module _ (d : Day) (m : Memory) (ok : Admitted equal d (sizes_of m)) (n : ℕ) (
     pub solvable : Solvable p (areas (front r.costs m.costs) (front r.choices m.choices)) (front n m.slots)
     solvable =
         let size = periods_is d in
-        rw (made)
+        rw made
         (record {
           constant = record {
             bounded = bounded d ok.day;
@@ -92,7 +92,7 @@ module _ (d : Day) (m : Memory) (ok : Admitted equal d (sizes_of m)) (n : ℕ) (
       same k h = sym (get_or-append slots _ 0 k (omega (arith, size, front_length n m.slots slots_inside, periods_is d)))
 
       found_net : PlanFound (problem_of d) slots
-      found_net = subst (λ (q : Problem). PlanFound q slots) (made) found
+      found_net = subst (λ (q : Problem). PlanFound q slots) made found
 
       slots_optimal : Optimal d (at slots')
       slots_optimal =

@@ -49,7 +49,7 @@ module _ (d : Day) (m : Memory) (ok : Admitted free d (sizes_of m)) where
     pub solvable : Solvable p m
     solvable =
         let b = bounded d ok.day in
-        rw (made)
+        rw made
         (record {
           few = b.few;
           capacities = b.capacities;
@@ -64,7 +64,7 @@ module _ (d : Day) (m : Memory) (ok : Admitted free d (sizes_of m)) where
     -- The memory once the plan is found.
     module _ (after : Memory) (found : Solved p m after) where
       left : Solved (problem_of d) m after
-      left = rw (made) at found
+      left = rw made at found
 
       plan : Filled M n (cleared n m.slots) after.slots
       plan =
