@@ -29,18 +29,18 @@ fn put(rt: &(impl Files + Print + Eprint), name: &str, bytes: &[u8]) -> io::Resu
     println!(rt; "{name} {n}")
 }
 
-// The file of a day.
-fn save(rt: &(impl Files + Print + Eprint + AllocGlobal), name: &str, day: Day) -> io::Result<()> {
-    let mut file = vec![in rt.alloc(); 0; 1837]?;
-    match dayfile_writer::write(day, file.as_mut_slice(), STAMP) {
+// The file of a day. Arrays, here and below: with a heap's memory a run could fail for one reason more.
+fn save(rt: &(impl Files + Print + Eprint), name: &str, day: Day) -> io::Result<()> {
+    let mut file = [0; 1837];
+    match dayfile_writer::write(day, &mut file, STAMP) {
         Ok(n) => put(rt, name, &file[..n]),
         Err(_) => println!(rt; "refused {name}"),
     }
 }
 
-// A day with one start cost, unit cost and upkeep throughout, whose store limits nothing.
+// A day of one to three periods, with one start cost, unit cost and upkeep throughout, whose store limits nothing.
 fn save_row(
-    rt: &(impl Files + Print + Eprint + AllocGlobal),
+    rt: &(impl Files + Print + Eprint),
     name: &str,
     demand: &[u16],
     capacity: &[u16],
@@ -49,16 +49,27 @@ fn save_row(
 ) -> io::Result<()> {
     let [setup, unit, holding] = costs;
     let n = demand.len();
-    let setup = vec![in rt.alloc(); setup; n]?;
-    let unit = vec![in rt.alloc(); unit; n]?;
-    let holding = vec![in rt.alloc(); holding; n]?;
-    let store = vec![in rt.alloc(); NO_LIMIT; n]?;
-    let day = Day::new(demand, capacity, &setup, &unit, &holding, &store, ends);
+    if 3 < n {
+        return Ok(());
+    }
+    let setup = [setup; 3];
+    let unit = [unit; 3];
+    let holding = [holding; 3];
+    let store = [NO_LIMIT; 3];
+    let day = Day::new(
+        demand,
+        capacity,
+        &setup[..n],
+        &unit[..n],
+        &holding[..n],
+        &store[..n],
+        ends,
+    );
     save(rt, name, day)
 }
 
 // Needs and capacities of each; start cost, unit cost and upkeep.
-fn save_marked(rt: &(impl Files + Print + Eprint + AllocGlobal)) -> io::Result<()> {
+fn save_marked(rt: &(impl Files + Print + Eprint)) -> io::Result<()> {
     let rows: [(&str, &[u16], &[u16], [u32; 3]); 13] = [
         ("m1.day", &[0], &[0], [5, 1, 1]),
         ("m2.day", &[1], &[1], [5, 2, 9]),
@@ -81,7 +92,7 @@ fn save_marked(rt: &(impl Files + Print + Eprint + AllocGlobal)) -> io::Result<(
 }
 
 // M11's tables, with charge at both ends: the first period makes nothing, and the last one more than it needs.
-fn save_ends(rt: &(impl Files + Print + Eprint + AllocGlobal)) -> io::Result<()> {
+fn save_ends(rt: &(impl Files + Print + Eprint)) -> io::Result<()> {
     let ends = Ends {
         opening: 3,
         closing: 2,
@@ -90,7 +101,7 @@ fn save_ends(rt: &(impl Files + Print + Eprint + AllocGlobal)) -> io::Result<()>
 }
 
 // M11's tables, with a store that takes little before the last period: what the second needs, the first can't make.
-fn save_store(rt: &(impl Files + Print + Eprint + AllocGlobal)) -> io::Result<()> {
+fn save_store(rt: &(impl Files + Print + Eprint)) -> io::Result<()> {
     let day = Day::new(
         &[2, 2, 3],
         &[4, 4, 4],
@@ -113,7 +124,7 @@ fn fuel() -> [u32; 96] {
     array::from_fn(|i| if i < 28 { 1100 } else { 900 })
 }
 
-fn save_passes(rt: &(impl Files + Print + Eprint + AllocGlobal)) -> io::Result<()> {
+fn save_passes(rt: &(impl Files + Print + Eprint)) -> io::Result<()> {
     let demand = passes();
     let unit = fuel();
     let day = Day::new(

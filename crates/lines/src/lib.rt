@@ -76,13 +76,21 @@ pub fn amount_line(day: Day, plan: &[u16], i: usize) -> Line
 }
 
 // A refusal, which is the whole text where it stands.
-pub fn refusal_line(refusal: Refusal) -> Text
+pub fn refusal_line(refusal: Refusal) -> Line
     ensures said { result.bytes ≡ refusal_line refusal }
     ensures few { length result.bytes ≤ line_bytes }
 {
     let number = u64::from(refusal.number());
     let period = u64::from(refusal.period());
     line(&[("refused ", number), (" period ", period)])
+}
+
+// A refusal's line as a whole text.
+pub fn say_refusal(refusal: Refusal, text: &mut Text)
+    ensures { text.new.bytes ≡ refusal_line refusal }
+{
+    text.clear();
+    text.push_str(&refusal_line(refusal));
 }
 
 // A margin with the cost of its plan, and what that missed and spilled when it was played.

@@ -84,15 +84,14 @@ fn margin_line(margin: u16, day: Day, actual: &[u16]) -> MarginLine
 }
 
 // A line for each margin.
-fn margin_lines(day: Day, actual: &[u16]) -> Text
+fn margin_lines(day: Day, actual: &[u16], text: &mut Text)
     requires { Tried (lent_day day) actual.now }
-    ensures { SaysMargins (lent_day day.entry) (at actual.now) margins result.bytes }
+    ensures { SaysMargins (lent_day day.entry) (at actual.now) margins text.new.bytes }
 {
-    let mut text = Text::new();
+    text.clear();
     for margin in 0..MARGINS {
         text.push_str(&margin_line(margin, day, actual));
     }
-    text
 }
 
 // The actual needs of a day: 2 and 3 on them decide whether they are taken. `Limits` is asked of the day, here, in `day_text` and in program_text: a type
@@ -112,13 +111,13 @@ fn actual_needs(day: Day, file: &[u8]) -> Result<Needs, Refusal>
     Ok(actual)
 }
 
-// The text of a day that has passed 1, 2 and 3: that of a refusal of the actual needs, or the lines.
-pub fn day_text(day: Day, file: &[u8]) -> Text
+// The text of a day that has passed 1, 2 and 3: that of a refusal of the actual needs, or the lines. It is lent, as in plan_text.
+pub fn day_text(day: Day, file: &[u8], text: &mut Text)
     requires { Limits (lent_day day) }
-    ensures { SaysMarginsOf file.now (lent_day day.entry) result.bytes }
+    ensures { SaysMarginsOf file.now (lent_day day.entry) text.new.bytes }
 {
     match actual_needs(day, file) {
-        Ok(actual) => margin_lines(day, &actual),
-        Err(refusal) => lines::refusal_line(refusal),
+        Ok(actual) => margin_lines(day, &actual, text),
+        Err(refusal) => lines::say_refusal(refusal, text),
     }
 }

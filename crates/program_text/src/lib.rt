@@ -3,11 +3,12 @@
 
 mod running;
 
-ghost use Rattle.std.specs.Prelude.{◌≡◌, ◌≤◌, IfOk};
+ghost use Rattle.std.specs.Prelude.{◌≡◌, ◌≤◌, IfOk, IfErr};
 ghost use Rattle.day.specs.Day.{max_periods};
 ghost use Rattle.day.specs.Lent.{lent_day};
 ghost use Rattle.checks.specs.Passed.{Limits};
 ghost use Rattle.tables.specs.Longest.{held};
+ghost use Rattle.lines.specs.Text.{refusal_line};
 ghost use Rattle.program_text.specs.Text.{expected_in, Inputs, SaysDay, PrintedText};
 
 use day::{Day, Ends, Refusal, Stamp};
@@ -55,23 +56,33 @@ fn read(file: &[u8], tables: &mut Tables, expected: Option<Stamp>) -> Result<(us
 
 // What the program says of a day. By `match`, as the files are read in `running`: in specs/ too a program is a case of `SaysDay`, and a trait would state
 // each case once more.
-fn day_text(program: Program, day: Day, needs: &[u8]) -> Text
+fn day_text(program: Program, day: Day, needs: &[u8], text: &mut Text)
     requires { Limits (lent_day day) }
-    ensures { SaysDay program needs.now (lent_day day.entry) result.bytes }
+    ensures { SaysDay program needs.now (lent_day day.entry) text.new.bytes }
 {
     match program {
-        Program::Dayplan => plan_text::day_text(day),
-        Program::Margins => margin_text::day_text(day, needs),
+        Program::Dayplan => plan_text::day_text(day, text),
+        Program::Margins => margin_text::day_text(day, needs, text),
+    }
+}
+
+// The line of a file that is refused.
+fn refused_text(answer: Result<(usize, Ends), Refusal>, text: &mut Text)
+    ensures { IfErr answer (λ r. text.new.bytes ≡ refusal_line r) }
+{
+    if let Err(refusal) = answer {
+        lines::say_refusal(refusal, text);
     }
 }
 
 // The text of a file; goes on only with an accepted one. `dayplan` needs no actual needs.
-pub fn text_of(program: Program, file: &[u8], needs: &[u8], id: &[u8]) -> Text
-    ensures { PrintedText program file.now needs.now id.now result.bytes }
+pub fn text_of(program: Program, file: &[u8], needs: &[u8], id: &[u8], text: &mut Text)
+    ensures { PrintedText program file.now needs.now id.now text.new.bytes }
 {
     let mut tables = Tables::new();
-    match read(file, &mut tables, expected(id)) {
-        Ok((n, ends)) => day_text(program, tables.day(n, ends), needs),
-        Err(refusal) => lines::refusal_line(refusal),
-    }
+    let answer = read(file, &mut tables, expected(id));
+    let Ok((n, ends)) = answer else {
+        return refused_text(answer, text);
+    };
+    day_text(program, tables.day(n, ends), needs, text)
 }

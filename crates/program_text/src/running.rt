@@ -1,9 +1,11 @@
 //! A program's run: its files read, their text written.
-ghost use Rattle.std.specs.Prelude.{OnOk, length};
+ghost use Rattle.std.specs.Prelude.{◌≡◌, OnOk, length};
+ghost use Rattle.std.specs.Process.{exit_status};
 ghost use Rattle.std.specs.Io.KnownBytes.{Appends};
 ghost use Rattle.program_text.specs.Run.{Writes};
 
 use crate::{Program, text_of};
+use lines::Text;
 use std::io;
 use std::io::{Read, Write};
 use std::process::ExitCode;
@@ -43,18 +45,22 @@ fn write_text<R: Files + Eprint, I: Read, O: Write>(
     let needs = actual_needs(rt, program, &mut needs);
     let mut id = [0u8; 5];
     let id = input::read_named(rt, b"station.id", &mut id);
-    let text = text_of(program, &file[..n], needs, id);
+    let mut text = Text::new();
+    text_of(program, &file[..n], needs, id, &mut text);
     output.write_all(text.as_bytes()).map_err(Stopped::Output)?;
     Ok(())
 }
 
-// Runs a program. What could not be read or written is said on standard error.
-pub fn run<R: Files + Eprint>(
+// Runs a program. What could not be read or written is said on standard error, and the status is not 0.
+pub fn run<R: Files + Eprint, I: Read, O: Write>(
     rt: &R,
     program: Program,
-    input: &mut impl Read,
-    output: &mut impl Write,
-) -> ExitCode {
+    input: &mut I,
+    output: &mut O,
+) -> ExitCode
+    ensures { exit_status result ≡ 0
+        → Writes program (I.remaining input.old) (I.remaining input.new) (O.contents output.old) (O.contents output.new) }
+{
     match write_text(rt, program, input, output) {
         Ok(()) => ExitCode::SUCCESS,
         Err(e) => {
