@@ -1,10 +1,8 @@
--- What an answer is where a refusal or a broken rule became its fault, and what it then keeps. Assumes nothing.
+-- What an answer is where a refusal or a broken rule became its fault. Assumes nothing.
 use Rattle.std.specs.Prelude.{None, Result, Ok, Err, IsErrAnd}
-use Rattle.std.proofs.Common.{◌≡◌, List, [], ◌∷◌, ℕ, ◌^◌, ◌<◌, ltb, length, sym, ap, ◌∙◌, ltb-false}
+use Rattle.std.proofs.Common.{◌≡◌, List, [], ◌∷◌, ℕ, ltb, length, sym, ap, ◌∙◌, ltb-false}
 use Rattle.day.specs.declared.Refusal.{Refusal}
 use Rattle.day.specs.declared.Refusal.TheVariants.{FewSlots}
-use Rattle.day.specs.declared.Totals.{Totals}
-use Rattle.day.specs.Sums.{at}
 use Rattle.day.specs.Day.{Day, periods, max_total}
 use Rattle.day.specs.Refusals.{day_tests, bad_slots}
 use Rattle.day.specs.Tests.{first_split, first_one, not_refused}
@@ -16,7 +14,6 @@ use Rattle.weigher.specs.Verdict.{Verdict, verdict_of}
 use Rattle.weigher.specs.Answers.{weigh_refusal}
 use Rattle.weigher.specs.Walk.{Weighable}
 use Rattle.weigher.specs.Running.{walk_of, walk_verdict}
-use Rattle.weigher.proofs.Bounds.{Wide, weighed_signed}
 
 pub from_refused : {A : Type 0} (a : Result A Fault) (r : Refusal) → IsErrAnd a (λ f. f ≡ Refused r) → a ≡ Err (Refused r)
 from_refused (Ok a) r e = absurd e
@@ -41,7 +38,3 @@ weighable d plan e =
       lengths = l.lengths;
       amounts = ltb-false _ _ (not_refused (ltb (length plan) (periods d)) FewSlots (sym (first_one last) ∙ t.1));
     }
-
--- and its cost, where it holds, fits a signed 64-bit number
-pub signed : (d : Day) (plan : List ℕ) {t : Totals} → Wide d (at plan) → weigh_refusal d plan ≡ None → verdict_of d (at plan) ≡ Ok t → t.cost < 2 ^ 63
-signed d plan {t} wide e v = rw (e, v) at (weighed_signed d plan wide)

@@ -8,8 +8,8 @@ ghost use Rattle.day.specs.Lent.{lent_day};
 ghost use Rattle.day.specs.Refusals.{checked};
 ghost use Rattle.weigher.specs.declared.Fault.TheVariants.{Refused as refused, Broken as broken};
 ghost use Rattle.weigher.specs.Verdict.{totals_of};
-ghost use Rattle.weigher.specs.Answers.{Weighs, Compares, weigh_refusal, rule_number};
-ghost use Rattle.weigher.specs.Walk.{ruling_of, ruling_at, Room, Weighable, FeasiblePlan, NextPeriod};
+ghost use Rattle.weigher.specs.Answers.{Weighs, Compares, compare_of, weigh_refusal, rule_number};
+ghost use Rattle.weigher.specs.Walk.{ruling_of, ruling_at, Room, Weighable, FeasiblePlan, NextPeriod, Signed};
 ghost use Rattle.weigher.specs.Running.{walk_of};
 
 use day::{Day, Entries, Refusal, Totals};
@@ -205,13 +205,25 @@ fn difference(a: u64, b: u64) -> i64
     (a as i64) - (b as i64)
 }
 
+// Two answers compared: a plan that is refused goes before both verdicts, and the first plan's answer before the second's.
+fn comparison(first: Result<Totals, Fault>, second: Result<Totals, Fault>) -> Result<i64, Fault>
+    requires { Signed first × Signed second }
+    ensures { result ≡ compare_of first second }
+{
+    match (first, second) {
+        (Err(Fault::Refused(refusal)), _) => Err(Fault::Refused(refusal)),
+        (_, Err(Fault::Refused(refusal))) => Err(Fault::Refused(refusal)),
+        (Err(fault), _) => Err(fault),
+        (_, Err(fault)) => Err(fault),
+        (Ok(a), Ok(b)) => Ok(difference(a.cost, b.cost)),
+    }
+}
+
 // Weighs two plans of one day: the first plan's cost less the second's, below zero where the first is cheaper.
 pub fn compare(day: Day, plan: &[u16], other: &[u16]) -> Result<i64, Fault>
     ensures { Compares (lent_day day.entry) plan.now other.now result }
 {
-    tests(day, plan)?;
-    tests(day, other)?;
-    let first = walk(day, plan)?;
-    let second = walk(day, other)?;
-    Ok(difference(first.cost, second.cost))
+    let first = weigh(day, plan);
+    let second = weigh(day, other);
+    comparison(first, second)
 }
