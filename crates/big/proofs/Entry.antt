@@ -1,8 +1,6 @@
 -- Laws of the call: what passed tests leave for the trials, and what the trials leave is what an accepted call leaves.
--- Main statements: `keys_ask`, `made_ready`; `trials_ask`, `trials_give`; `answerable`, `best_so_far`; `path_refused`. Assumes nothing.
-use Rattle.std.proofs.Common.{◌≡◌, refl, ap, ap₂, ◌∙◌, subst, Some, None, List, [], ◌++◌, ℕ, ◌+◌, ◌*◌, ◌≤◌, arith, length, drop, replicate}
-use Rattle.std.proofs.Common.{append_assoc, length-append, drop-drop}
-use Rattle.std.proofs.lemmas.Slice.{drop-append-drop}
+-- Main statements: `keys_ask`, `made_ready`; `has_area`, `trials_ask`, `trials_give`; `narrow`, `answerable`, `best_so_far`; `path_refused`. Assumes nothing.
+use Rattle.std.proofs.Common.{◌≡◌, refl, subst, Some, None, List, [], ◌++◌, ℕ, ◌*◌, ◌^◌, ◌≤◌, ◌<◌, arith, length, drop}
 use Rattle.std.proofs.lemmas.List.{length-replicate}
 use Rattle.day.specs.declared.Refusal.{Refusal}
 use Rattle.day.specs.declared.Sizes.{Sizes}
@@ -27,15 +25,6 @@ use Rattle.drops.specs.Ready.{IsReady}
 use Rattle.drops.specs.Standing.{Begun, Finished}
 use Rattle.big.specs.Passed.{big_admitted, big_loose, big_trials}
 use Rattle.big.specs.Work.{TrialsAsk, TrialsGive, Answerable, answer_of}
-
--- Past keys and marks the cost area is as it was, once its needed cells are cleared.
-pub area_cleared : (n m : ℕ) (costs front keys marks others : List ℕ) → m ≡ n → front ≡ replicate (3 * m) 0 → length keys ≡ m
-    → length marks ≡ m → others ≡ drop m costs → Cleared (3 * n) costs (front ++ drop (3 * m) (keys ++ (marks ++ drop m others)))
-area_cleared n m costs front keys marks others e zeros k l is =
-    let both : length (keys ++ marks) ≡ m + m = omega (arith, length-append keys marks) in
-    let past : keys ++ (marks ++ drop m (drop m costs)) ≡ (keys ++ marks) ++ drop (m + m) costs =
-    rw append_assoc (ap (λ (r : List ℕ). keys ++ (marks ++ r)) (drop-drop m m costs)) in
-    rw (← e, is) (ap₂ ◌++◌ zeros (ap (drop (3 * m)) past ∙ drop-append-drop (m + m) costs (keys ++ marks) (3 * m) (omega arith) both))
 
 -- The tests of a path, then 19.
 module _ (trials : ℕ) (d : Day) (s : Sizes) where
@@ -85,6 +74,9 @@ module _ (trials : ℕ) (d : Day) (m : Memory) (ok : big_refusal trials d (sizes
   loose : Loose d
   loose = big_loose trials d (sizes_of m) ok
 
+  pub has_area : 3 * periods d ≤ length m.costs
+  has_area = passed.room.costs
+
   pub trials_ask : (keys marks first best : List ℕ) → length keys ≡ periods d → length marks ≡ periods d → length first ≡ periods d
       → length best ≡ periods d → TrialsAsk trials d keys marks first best
   trials_ask keys marks first best k l f b = record {
@@ -102,6 +94,12 @@ module _ (trials : ℕ) (d : Day) (m : Memory) (ok : big_refusal trials d (sizes
   module _ (used : ℕ) (first marks best : List ℕ) (t : TrialsGive trials d used first marks best) where
     stands : Stands d loose (state_in marks best t.finished.ahead t.finished.dropped)
     stands = tried_stands d loose used _ t.finished.ended.tried
+
+    -- the amounts are of 16 bits
+    pub narrow : (k : ℕ) → k < length best → at best k < 2 ^ 16
+    narrow k l =
+        let inside : k < periods d = omega (arith, stands.size) in
+        omega (arith, stands.feasible.within k inside, (passed.day.limits.within k inside).capacity)
 
     pub answerable : Answerable d first best
     answerable =

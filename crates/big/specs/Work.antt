@@ -14,8 +14,8 @@ use Rattle.weigher.specs.Walk.{FeasiblePlan}
 use Rattle.theory.specs.Store.{Loose}
 use Rattle.drops.specs.Standing.{Finished}
 
--- a trial or more of a day within the limits of big days whose stores can't bind and of which no period is short; for each period a cell for its key and
--- one for its mark, and a slot for either plan
+-- a trial or more of a day within the limits of big days whose stores can't bind and of which no period is short; for each period a cell for its key, one
+-- for its mark and one for its amount in the best plan, and a slot for trial 1's
 pub record TrialsAsk (trials : ℕ) (d : Day) (keys marks first best : List ℕ) : Type 0 where
   pub trial : 0 < trials
   pub limits : DayLimits max_big_total d

@@ -1,6 +1,6 @@
 //! Big days, best so far: trials by the greedy rule with starts taken as free, each of which forbids one period more.
-//! It tests, takes the net needs and the rates, writes the keys of the periods into its cost area, where their marks follow, makes the trials, whose best
-//! plan stands in the slots, and clears the area. The last of its 3 × n cells take part in the clearing alone.
+//! It tests, takes the net needs and the rates, writes the keys of the periods into its cost area, where marks and the best plan follow them, makes the
+//! trials, hands out the best plan, and clears the area.
 #![tactic(auto)]
 
 ghost use Rattle.std.specs.Prelude.{◌≡◌, [], None};
@@ -37,7 +37,7 @@ fn make_trials(
     keys: &mut [u64],
     marks: &mut [u64],
     first: &mut [u16],
-    best: &mut [u16],
+    best: &mut [u64],
     trials: usize,
 ) -> usize
     requires { TrialsAsk trials (lent_day day) keys.old marks.old first.old best.old }
@@ -70,13 +70,16 @@ fn work(day: Day, costs: &mut [u64], slots: &mut [u16], trials: usize) -> (Total
     // Trial 1's plan stays here, for the gap.
     let mut first_table = [0u16; 96];
     let first = &mut first_table[..n];
-    let best = &mut slots[..n];
-    let (keys, others) = costs.split_at_mut(n);
-    let marks = &mut others[..n];
-    let used = make_trials(day, keys, marks, first, best, trials);
-    let given = answer(day, first, best, used);
     let needed = path_checks::cells(PathKind::Big, n, 0);
-    costs[..needed.costs].fill(0);
+    let area = &mut costs[..needed.costs];
+    let (keys, later) = area.split_at_mut(n);
+    let (marks, best) = later.split_at_mut(n);
+    let used = make_trials(day, keys, marks, first, best, trials);
+    // Only now, so that the slots are written once.
+    let front = &mut slots[..n];
+    rounds::hand_out(best, front);
+    let given = answer(day, first, front, used);
+    area.fill(0);
     given
 }
 

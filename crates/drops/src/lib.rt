@@ -50,7 +50,7 @@ pub fn begin(
     ready: Ready,
     allowed: &mut [u16],
     marks: &mut [u64],
-    best: &mut [u16],
+    best: &mut [u64],
     plan: &mut [u16],
 ) -> u64
     requires { Startable (lent_day ready.day) allowed.old marks.old best.old plan.old }
@@ -60,7 +60,7 @@ pub fn begin(
     marks.fill(0);
     allowed.copy_from_slice(ready.day.capacity);
     let cost = trial(ready, allowed, plan).unwrap();
-    best.copy_from_slice(plan);
+    rounds::keep(plan, best);
     cost
 }
 
@@ -78,7 +78,7 @@ fn step(
     ready: Ready,
     allowed: &mut [u16],
     marks: &mut [u64],
-    best: &mut [u16],
+    best: &mut [u64],
     plan: &mut [u16],
     s: Standing,
     turn: Turn,
@@ -94,7 +94,7 @@ fn step(
     let outcome = trial(ready, allowed, plan);
     if let Some(cost) = outcome.filter(|cost| *cost < s.cost) {
         marks[k] = 1;
-        best.copy_from_slice(plan);
+        rounds::keep(plan, best);
         return Standing {
             cost,
             ahead: k,
@@ -114,7 +114,7 @@ pub fn run(
     ready: Ready,
     allowed: &mut [u16],
     marks: &mut [u64],
-    best: &mut [u16],
+    best: &mut [u64],
     plan: &mut [u16],
     first: u64,
     trials: usize,

@@ -1,8 +1,8 @@
-//! Which period the next trial of a big day forbids. A mark says of each period whether it is forbidden: 0 where it is allowed,
-//! a number, since it stands in a lent cell of 64 bits.
+//! The trials of a big day in lent cells of 64 bits: which period is forbidden next, and the best plan so far. A mark says of each period whether it is
+//! forbidden: 0 where it is allowed, a number, for those cells.
 #![tactic(auto)]
 
-ghost use Rattle.std.specs.Prelude.{◌≡◌, List, ℕ, ◌≤◌, length};
+ghost use Rattle.std.specs.Prelude.{◌≡◌, List, ℕ, ◌^◌, ◌≤◌, ◌<◌, length};
 ghost use Rattle.day.specs.Sums.{at};
 ghost use Rattle.day.specs.Drops.{last_open, another_round, next};
 ghost use Rattle.rounds.specs.Turns.{turn_of, state_in};
@@ -43,4 +43,26 @@ pub fn next(marks: &[u64], ahead: usize, dropped: bool) -> Option<Turn>
     last_open(&marks[..ahead])
         .map(|period| Turn { period, dropped })
         .or_else(|| another(marks, dropped))
+}
+
+// The plan is the best so far. By hand, here and below: std copies no amounts into cells of another width; and by index, for the reason beside
+// `equal_rows::copy`.
+pub fn keep(plan: &[u16], best: &mut [u64])
+    requires { length best.old ≡ length plan.now }
+    ensures { best.new ≡ plan.now }
+{
+    for (k, &amount) in plan.iter().enumerate() {
+        best[k] = u64::from(amount);
+    }
+}
+
+// The best plan into as many slots.
+pub fn hand_out(best: &[u64], slots: &mut [u16])
+    requires same_length { length slots.old ≡ length best.now }
+    requires narrow { (k : ℕ) → k < length best.now → at best.now k < 2 ^ 16 }
+    ensures { slots.new ≡ best.now }
+{
+    for (k, &amount) in best.iter().enumerate() {
+        slots[k] = amount as u16;
+    }
 }

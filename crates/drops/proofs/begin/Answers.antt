@@ -12,4 +12,4 @@ pub returns : goal.returns
 returns c =
     let r = c.args.ready in
     begun (lent_day r.day) _ _ _ _ _ _ r.ready c.requires _ _ c.copy_from_slice.ensures.after _ _ _ (c.fill.ensures.after (λ y e. e))
-    c.copy_from_slice-2.ensures.after (rw c.unwrap-cost.ensures at c.trial.ensures) c.trial.auto.plan
+    c.keep.ensures (rw c.unwrap-cost.ensures at c.trial.ensures) c.trial.auto.plan

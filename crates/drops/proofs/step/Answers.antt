@@ -11,7 +11,7 @@ returns-in-Some c =
     let came : c.trial-outcome.result ≡ Some c.in-Some.cost = search (rules, tests) in
     let less : c.in-Some.cost < a.s.cost = search (rules, tests) in
     step_cheaper (lent_day a.ready.day) _ _ _ _ a.s a.turn c.requires.held c.requires.next_is _ c.trial-outcome.auto.plan _ c.trial-outcome.ensures _ _
-    came less c.copy_from_slice.ensures.after
+    came less c.keep.ensures
 
 pub returns : goal.returns
 returns c =
