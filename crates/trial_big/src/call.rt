@@ -16,7 +16,9 @@ pub fn sizes(costs: usize, slots: usize) -> Sizes {
 
 // The call, with so many trials allowed: a plan's totals, and the trials that it took. It needs 3 × n cost cells.
 pub fn run(day: Day<'_>, memory: &mut Memory<'_>, allowed: usize) -> Outcome<(Totals, Trials)> {
-    let answer = big::plan(day, memory.costs, memory.slots, allowed);
+    let costs = &mut *memory.costs;
+    let slots = &mut *memory.slots;
+    let answer = big::plan(day, costs, slots, allowed);
     let n = day.periods();
     memory.outcome(answer, sizes(n.saturating_mul(3), n))
 }

@@ -5,12 +5,19 @@ use day::{Bounds, Day, Sizes};
 use std::io;
 use trial_paths::paths;
 use trial_paths::paths::{CHOICES, COSTS, Path};
-use trial_text::cells::{MARK, Memory};
+use trial_text::cells::{MARK, Memory, Outcome};
 use trial_text::line::{Line, numbers};
 use trial_text::show::text;
 
-// The lowest needs are in field 6, how many cost cells and choice cells are lent in fields 7 and 8. After a refusal every cell holds the mark.
-// Otherwise the cells that the full path needs for the highest needs hold zero, later ones the mark.
+// The call. After a refusal every cell holds the mark. Otherwise the cells that the full path needs for the highest needs hold zero, later ones the mark.
+fn run(lowest: &[u16], day: Day<'_>, memory: &mut Memory<'_>) -> Outcome<Bounds> {
+    let costs = &mut *memory.costs;
+    let choices = &mut *memory.choices;
+    let answer = bounds::least_costs(lowest, day, costs, choices);
+    memory.outcome(answer, paths::needed(Path::Full, day))
+}
+
+// The lowest needs are in field 6, how many cost cells and choice cells are lent in fields 7 and 8.
 pub fn bounds(rt: &impl Print, line: Line<'_>, day: Day<'_>) -> io::Result<()> {
     let lowest = numbers(line.field(6));
     let lent = Sizes {
@@ -20,9 +27,8 @@ pub fn bounds(rt: &impl Print, line: Line<'_>, day: Day<'_>) -> io::Result<()> {
     };
     let mut costs = [MARK.into(); COSTS];
     let mut choices = [MARK.into(); CHOICES];
-    let memory = Memory::new(lent, &mut costs, &mut choices, &mut []);
-    let answer = bounds::least_costs(lowest.as_slice(), day, memory.costs, memory.choices);
-    let outcome = memory.outcome(answer, paths::needed(Path::Full, day));
+    let mut memory = Memory::new(lent, &mut costs, &mut choices, &mut []);
+    let outcome = run(lowest.as_slice(), day, &mut memory);
     text(rt, line.name)?;
     print!(rt; " bounds")?;
     outcome.print(rt, |bounds| {

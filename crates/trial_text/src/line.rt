@@ -65,10 +65,7 @@ impl<'a> Line<'a> {
 
     // The first number of field k; 0 where it has none.
     pub fn number<N: Amount>(self, k: usize) -> N {
-        self.field(k)
-            .split(|byte| *byte == b' ')
-            .find(|word| !word.is_empty())
-            .map_or(N::low(0), |word| number(repeated(word).0))
+        first(self.field(k))
     }
 }
 
@@ -112,6 +109,13 @@ fn number<N: Amount>(word: &[u8]) -> N {
     N::low(word.iter().fold(0, |n: u32, byte| {
         n.wrapping_mul(10).wrapping_add(u32::from(digit(*byte)))
     }))
+}
+
+// The value of a text's first word; 0 where it has none.
+pub fn first<N: Amount>(text: &[u8]) -> N {
+    text.split(|byte| *byte == b' ')
+        .find(|word| !word.is_empty())
+        .map_or(N::low(0), |word| number(repeated(word).0))
 }
 
 // A word `VxN` stands for N times V, one without an 'x' for itself.
