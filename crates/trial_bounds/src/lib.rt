@@ -6,7 +6,7 @@ use std::io;
 use trial_paths::paths;
 use trial_paths::paths::{CHOICES, COSTS, Path};
 use trial_text::cells::{MARK, Memory, Outcome};
-use trial_text::line::{Line, numbers};
+use trial_text::line::{Line, Numbers, numbers};
 use trial_text::show::text;
 
 // The call. After a refusal every cell holds the mark. Otherwise the cells that the full path needs for the highest needs hold zero, later ones the mark.
@@ -19,7 +19,7 @@ fn run(lowest: &[u16], day: Day<'_>, memory: &mut Memory<'_>) -> Outcome<Bounds>
 
 // The lowest needs are in field 6, how many cost cells and choice cells are lent in fields 7 and 8.
 pub fn bounds(rt: &impl Print, line: Line<'_>, day: Day<'_>) -> io::Result<()> {
-    let lowest = numbers(line.field(6));
+    let lowest: Numbers<u16> = numbers(line.field(6));
     let lent = Sizes {
         costs: line.number(7),
         choices: line.number(8),

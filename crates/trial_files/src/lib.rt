@@ -47,7 +47,8 @@ const OWN: Stamp = Stamp {
 // The stamp that the reader is to expect: the two numbers of field 3, or its own where the field is left out. Fewer or more are no stamp.
 // Not by `codes::expected`, which takes a C program's numbers: there no number at all is no stamp either.
 fn expected(line: Line<'_>) -> Option<Stamp> {
-    match numbers(line.field(3)).as_slice() {
+    let numbers: ArrayVec<u16, 3> = numbers(line.field(3));
+    match numbers.as_slice() {
         [] => Some(OWN),
         [station, date] => Some(Stamp {
             station: *station,
@@ -58,9 +59,9 @@ fn expected(line: Line<'_>) -> Option<Stamp> {
 }
 
 // The reader, on tables of its own.
-fn read_into(
+fn read_into<const CELLS: usize>(
     file: &[u8],
-    tables: &mut Tables,
+    tables: &mut Tables<CELLS>,
     expected: Option<Stamp>,
 ) -> Result<(usize, Ends), Refusal> {
     dayfile_reader::read(
@@ -108,7 +109,7 @@ fn rewritten(file: &[u8], day: Day<'_>) -> Fare {
 
 // How a file of two periods fares. Where it is refused the needs' cells are left as they were.
 fn fare_of(file: &[u8]) -> Fare {
-    let mut tables = Tables::marked(2);
+    let mut tables = Tables::<2>::marked(2);
     match read_into(file, &mut tables, Some(OWN)) {
         Err(refusal) if marked(tables.demand.as_slice()) => Fare::Refused(refusal),
         Ok((_, ends)) => rewritten(file, tables.day(ends)),
@@ -149,14 +150,14 @@ fn change(file: &mut [u8]) -> Counts
     counts
 }
 
-// The reader, with so many cells in each table, and the stamp that it expects.
+// The reader, with so many cells in each table, at most two more than the longest day needs, and the stamp that it expects.
 fn read(
     rt: &impl Print,
     file: &[u8],
     cells: usize,
     expected: Option<Stamp>,
 ) -> io::Result<()> {
-    let mut tables = Tables::marked(cells);
+    let mut tables = Tables::<98>::marked(cells);
     match read_into(file, &mut tables, expected) {
         Err(refusal) => print!(rt; "{}", Refused(refusal)),
         Ok((n, ends)) => {

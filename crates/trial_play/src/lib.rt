@@ -8,13 +8,13 @@ use trial_paths::tiny::days_of;
 use trial_plans::Failed;
 use trial_text::counts::Counts;
 use trial_text::days::summed;
-use trial_text::line::{Line, numbers};
+use trial_text::line::{Line, Numbers, numbers};
 use trial_text::show::text;
 
 // The plan of field 6 against the needs of field 7.
 pub fn play(rt: &impl Print, line: Line<'_>, day: Day<'_>) -> io::Result<()> {
-    let plan = numbers(line.field(6));
-    let actual = numbers(line.field(7));
+    let plan: Numbers<u16> = numbers(line.field(6));
+    let actual: Numbers<u16> = numbers(line.field(7));
     text(rt, line.name)?;
     print!(rt; " play")?;
     match play::play(day, plan.as_slice(), actual.as_slice()) {

@@ -2,29 +2,37 @@
 ghost use Rattle.std.specs.Prelude.{◌≤◌};
 
 use crate::cells::MARK;
-use crate::line::{Line, Numbers, filled, for_all, numbers};
+use crate::line::{Amount, Line, fill, for_all, numbers};
+use arrayvec::ArrayVec;
 use day::{Day, Ends};
 
-// A day's tables, of its own. Six vectors side by side, since a day is lent as six slices.
+// A day's tables, of its own, with room for so many cells each. Six vectors side by side, since a day is lent as six slices.
 #[derive(Drop)]
-pub struct Tables {
-    pub demand: Numbers<u16>,
-    pub capacity: Numbers<u16>,
-    pub setup: Numbers<u32>,
-    pub unit: Numbers<u32>,
-    pub holding: Numbers<u32>,
-    pub store: Numbers<u16>,
+pub struct Tables<const CELLS: usize> {
+    pub demand: ArrayVec<u16, CELLS>,
+    pub capacity: ArrayVec<u16, CELLS>,
+    pub setup: ArrayVec<u32, CELLS>,
+    pub unit: ArrayVec<u32, CELLS>,
+    pub holding: ArrayVec<u32, CELLS>,
+    pub store: ArrayVec<u16, CELLS>,
 }
 
-impl Tables {
+// A table of n cells, as far as there is room, every one of which holds the mark.
+fn marked<N: Amount + From<u8>, const CELLS: usize>(n: usize) -> ArrayVec<N, CELLS> {
+    let mut cells = ArrayVec::new();
+    fill(&mut cells, N::from(MARK), n);
+    cells
+}
+
+impl<const CELLS: usize> Tables<CELLS> {
     // Those of a line: five in its fields 1 to 5, of the last three of which one number stands for all periods; and its store limits, none of
     // which limits where they are left out: 65,535, for the reason beside `NO_LIMIT` in crates/dayfile.
-    pub fn of(line: Line<'_>) -> Tables {
-        let demand = numbers(line.field(1));
+    pub fn of(line: Line<'_>) -> Tables<CELLS> {
+        let demand: ArrayVec<u16, CELLS> = numbers(line.field(1));
         let n = demand.len();
         let mut store = for_all(line.stores, n);
         if store.is_empty() {
-            store = filled(u16::MAX, n);
+            fill(&mut store, u16::MAX, n);
         }
         Tables {
             demand,
@@ -36,15 +44,15 @@ impl Tables {
         }
     }
 
-    // Tables of n cells each, as far as there is room, every one of which holds the mark.
-    pub fn marked(n: usize) -> Tables {
+    // Tables of n cells each.
+    pub fn marked(n: usize) -> Tables<CELLS> {
         Tables {
-            demand: filled(MARK.into(), n),
-            capacity: filled(MARK.into(), n),
-            setup: filled(MARK.into(), n),
-            unit: filled(MARK.into(), n),
-            holding: filled(MARK.into(), n),
-            store: filled(MARK.into(), n),
+            demand: marked(n),
+            capacity: marked(n),
+            setup: marked(n),
+            unit: marked(n),
+            holding: marked(n),
+            store: marked(n),
         }
     }
 
@@ -64,7 +72,7 @@ impl Tables {
 
 // The ends of a line's day: two numbers, both 0 where they are left out.
 pub fn ends_of(line: Line<'_>) -> Ends {
-    let numbers = numbers(line.ends);
+    let numbers: ArrayVec<u16, 2> = numbers(line.ends);
     let mut ends = numbers.as_slice().iter();
     Ends {
         opening: ends.next().map_or(0, |end| *end),

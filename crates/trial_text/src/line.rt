@@ -130,17 +130,11 @@ pub fn repeated(word: &[u8]) -> (&[u8], usize) {
 
 // A table that is read from a line has room for more than the longest day, which has 96 periods. What comes after 128 numbers is passed over: a trial
 // takes no heap, as the calls that it tries take none.
-pub type Numbers<N> = ArrayVec<N, 128>;
+pub const ROOM: usize = 128;
+pub type Numbers<N> = ArrayVec<N, ROOM>;
 
-// So many times the same number, as far as there is room.
-pub fn filled<N: Amount>(value: N, n: usize) -> Numbers<N> {
-    let mut numbers = Numbers::new();
-    fill(&mut numbers, value, n);
-    numbers
-}
-
-// Likewise, behind those that are there.
-fn fill<N: Amount>(numbers: &mut Numbers<N>, value: N, n: usize) {
+// So many times the same number behind those that are there, as far as there is room.
+pub fn fill<N: Amount, const CAP: usize>(numbers: &mut ArrayVec<N, CAP>, value: N, n: usize) {
     for _ in 0..n {
         if numbers.try_push(value).is_err() {
             return;
@@ -148,9 +142,9 @@ fn fill<N: Amount>(numbers: &mut Numbers<N>, value: N, n: usize) {
     }
 }
 
-// The numbers of a text; here a word that says 0 times stands for itself.
-pub fn numbers<N: Amount>(text: &[u8]) -> Numbers<N> {
-    let mut numbers = Numbers::new();
+// The numbers of a text, as far as there is room; here a word that says 0 times stands for itself.
+pub fn numbers<N: Amount, const CAP: usize>(text: &[u8]) -> ArrayVec<N, CAP> {
+    let mut numbers = ArrayVec::new();
     for word in text.split(|byte| *byte == b' ') {
         if !word.is_empty() {
             let (value, times) = repeated(word);
@@ -161,10 +155,11 @@ pub fn numbers<N: Amount>(text: &[u8]) -> Numbers<N> {
 }
 
 // Likewise; one that stands alone stands for all n periods.
-pub fn for_all<N: Amount>(text: &[u8], n: usize) -> Numbers<N> {
-    let numbers = numbers(text);
-    match numbers.as_slice() {
-        [alone] => filled(*alone, n),
-        _ => numbers,
+pub fn for_all<N: Amount, const CAP: usize>(text: &[u8], n: usize) -> ArrayVec<N, CAP> {
+    let mut numbers = numbers(text);
+    if let [alone] = *numbers.as_slice() {
+        numbers.clear();
+        fill(&mut numbers, alone, n);
     }
+    numbers
 }

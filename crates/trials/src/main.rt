@@ -5,14 +5,14 @@
 use std::io;
 use trial_paths::paths;
 use trial_text::days::{Tables, ends_of};
-use trial_text::line::Line;
+use trial_text::line::{Line, ROOM};
 
 // The trials of a line that begins with five of a day's tables: demands; capacities; setup, unit and holding costs. After a '|' it has the day's
 // ends and, after a '/' there, the sixth: store limits.
 // From here on `rt`, `line` and `day` go side by side: where to print, what is asked, and of which day. A struct of the three would hold two borrows
 // and a type parameter, and most trials would take it apart.
 fn day(rt: &impl Print, line: Line<'_>) -> io::Result<()> {
-    let tables = Tables::of(line);
+    let tables = Tables::<ROOM>::of(line);
     let day = tables.day(ends_of(line));
     match line.kind {
         b"day" => {
