@@ -151,12 +151,7 @@ fn change(file: &mut [u8]) -> Counts
 }
 
 // The reader, with so many cells in each table, at most two more than the longest day needs, and the stamp that it expects.
-fn read(
-    rt: &impl Print,
-    file: &[u8],
-    cells: usize,
-    expected: Option<Stamp>,
-) -> io::Result<()> {
+fn read(rt: &impl Print, file: &[u8], cells: usize, expected: Option<Stamp>) -> io::Result<()> {
     let mut tables = Tables::<98>::marked(cells);
     match read_into(file, &mut tables, expected) {
         Err(refusal) => print!(rt; "{}", Refused(refusal)),

@@ -87,13 +87,16 @@ pub fn run(path: Path, day: Day<'_>, memory: &mut Memory<'_>) -> Outcome<Planned
     memory.outcome(answer, needed(path, day))
 }
 
-// The most that is lent to a path: two cost cells and two choice cells more than the full path needs for the largest day, and two slots more than a
-// table has room.
+// The most cost cells that are lent to a path: two more than the full path needs for the largest day. On the stack, since a path takes no heap.
 pub const COSTS: usize = 8196;
+
+// Likewise of choice cells.
 pub const CHOICES: usize = 393_314;
+
+// And of slots: two more than a table has room.
 const SLOTS: usize = 130;
 
-// One path in so many cells and slots. A line that has nothing before its '|' asks for no path, and says nothing.
+// One path in so many cells and slots.
 fn within(
     rt: &impl Print,
     line: Line<'_>,
@@ -101,9 +104,6 @@ fn within(
     day: Day<'_>,
     lent: Sizes,
 ) -> io::Result<()> {
-    if line.is_empty() {
-        return Ok(());
-    }
     let mut costs = [MARK.into(); COSTS];
     let mut choices = [MARK.into(); CHOICES];
     let mut slots = [MARK.into(); SLOTS];

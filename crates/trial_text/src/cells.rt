@@ -72,9 +72,7 @@ impl<'a> Memory<'a> {
 
     // Whether it is as a refused call must leave it: every cell and slot holds the mark.
     fn is_marked(&self) -> bool {
-        marked(self.costs)
-            && marked(self.choices)
-            && marked(self.slots)
+        marked(self.costs) && marked(self.choices) && marked(self.slots)
     }
 
     // Whether it is as a call must leave it that needs so much for its answer: the needed cells hold zero; the later ones, and the slots after the

@@ -1,5 +1,5 @@
 //! Lines: their kind, their name and their fields; numbers. All of it is bytes, as standard input is: each byte means something in each place.
-ghost use Rattle.std.specs.Prelude.{◌<◌};
+ghost use Rattle.std.specs.Prelude.{◌≡◌, ◌%◌, ◌<◌, []};
 
 use arrayvec::ArrayVec;
 
@@ -16,10 +16,7 @@ pub struct Line<'a> {
 // What stands before and after the first such byte; all, and nothing, where there is none.
 fn parted(text: &[u8], at: u8) -> (&[u8], &[u8]) {
     let mut parts = text.splitn(2, |byte| *byte == at);
-    (
-        parts.next().unwrap_or(&[]),
-        parts.next().unwrap_or(&[]),
-    )
+    (parts.next().unwrap_or(&[]), parts.next().unwrap_or(&[]))
 }
 
 impl<'a> Line<'a> {
@@ -34,7 +31,9 @@ impl<'a> Line<'a> {
     }
 
     // A line of a kind that has no day: a '|' is a byte like others there.
-    pub fn whole(text: &'a [u8]) -> Line<'a> {
+    pub fn whole(text: &'a [u8]) -> Line<'a>
+        ensures { (result.ends.now ≡ []) × (result.stores.now ≡ []) }
+    {
         let (head, _) = parted(text, b';');
         Line {
             kind: parted(text, b' ').0,
@@ -45,11 +44,6 @@ impl<'a> Line<'a> {
         }
     }
 
-    // Whether nothing stands before its '|'.
-    pub fn is_empty(self) -> bool {
-        self.row.is_empty()
-    }
-
     // The first word of the name.
     pub fn first_word(self) -> &'a [u8] {
         parted(self.name, b' ').0
@@ -57,10 +51,7 @@ impl<'a> Line<'a> {
 
     // Field k, counted from 1: what stands after the k-th ';'.
     pub fn field(self, k: usize) -> &'a [u8] {
-        self.row
-            .split(|byte| *byte == b';')
-            .nth(k)
-            .unwrap_or(&[])
+        self.row.split(|byte| *byte == b';').nth(k).unwrap_or(&[])
     }
 
     // The first number of field k; 0 where it has none.
@@ -76,7 +67,9 @@ pub trait Amount: Copy + Default {
 }
 
 impl Amount for u16 {
-    fn low(n: u32) -> u16 {
+    fn low(n: u32) -> u16
+        ensures { result ≡ n % 65536 }
+    {
         (n % 65536) as u16
     }
 }
@@ -106,9 +99,11 @@ pub fn digit(byte: u8) -> u8
 
 // A decimal number, modulo 2^32. Not by `parse`: no word is refused, and each byte counts.
 fn number<N: Amount>(word: &[u8]) -> N {
-    N::low(word.iter().fold(0, |n: u32, byte| {
-        n.wrapping_mul(10).wrapping_add(u32::from(digit(*byte)))
-    }))
+    N::low(
+        word.iter().fold(0, |n: u32, byte| {
+            n.wrapping_mul(10).wrapping_add(u32::from(digit(*byte)))
+        }),
+    )
 }
 
 // The value of a text's first word; 0 where it has none.
@@ -131,10 +126,15 @@ pub fn repeated(word: &[u8]) -> (&[u8], usize) {
 // A table that is read from a line has room for more than the longest day, which has 96 periods. What comes after 128 numbers is passed over: a trial
 // takes no heap, as the calls that it tries take none.
 pub const ROOM: usize = 128;
+
 pub type Numbers<N> = ArrayVec<N, ROOM>;
 
 // So many times the same number behind those that are there, as far as there is room.
-pub fn fill<N: Amount, const CAP: usize>(numbers: &mut ArrayVec<N, CAP>, value: N, n: usize) {
+pub(crate) fn fill<N: Amount, const CAP: usize>(
+    numbers: &mut ArrayVec<N, CAP>,
+    value: N,
+    n: usize,
+) {
     for _ in 0..n {
         if numbers.try_push(value).is_err() {
             return;

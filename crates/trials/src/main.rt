@@ -29,9 +29,9 @@ fn day(rt: &impl Print, line: Line<'_>) -> io::Result<()> {
     }
 }
 
-// A line: the kind of trial, its name, and fields. A line that begins with '#', and an empty one, says nothing.
+// A line: the kind of trial, its name, and fields. An empty line, and one that begins with '#' or '|', says nothing.
 fn trial(rt: &impl Print, text: &[u8]) -> io::Result<()> {
-    if text.is_empty() || text.starts_with(b"#") {
+    if let None | Some(b'#' | b'|') = text.first() {
         return Ok(());
     }
     let line = Line::whole(text);
