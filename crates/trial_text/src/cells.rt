@@ -49,14 +49,14 @@ pub struct Memory<'a> {
     pub slots: &'a mut [u16],
 }
 
-// As much of the front of an area as is asked for, all where that is more.
+// The first n cells of an area, all where it has fewer.
 fn front<T>(area: &mut [T], n: usize) -> &mut [T] {
     let n = n.min(area.len());
     &mut area[..n]
 }
 
 impl<'a> Memory<'a> {
-    // So much of each of these areas, every cell and slot of which holds the mark.
+    // So much of each of these areas, all of it where that is more; every cell and slot of them is to hold the mark.
     pub fn new(
         sizes: Sizes,
         costs: &'a mut [u64],
