@@ -2,12 +2,12 @@
 use crate::call;
 use day::{Day, Refusal, Totals, Trials};
 use plain::Best;
-use std::alloc::{AllocError, Global};
 use std::io;
 use trial_paths::tiny::days_of;
-use trial_text::cells::Memory;
+use trial_text::cells::{MARK, Memory};
 use trial_text::counts::Counts;
 use trial_text::line::Line;
+use trial_text::show::text;
 
 // What is counted, of days and of the calls on them.
 #[derive(Clone, Copy)]
@@ -121,24 +121,27 @@ fn count_planned(totals: Totals, trials: Trials, found: Found, turn: Turn, count
 
 // One call; it gives what the next one is compared with.
 fn call(
-    alloc: Global,
     day: Day<'_>,
     found: Found,
     earlier: Option<Given>,
     allowed: usize,
     counts: &mut Counts,
-) -> Result<Option<Given>, AllocError> {
-    let mut memory = Memory::new(alloc, call::sizes(14, 5))?;
+) -> Option<Given> {
+    let mut memory = Memory {
+        costs: &mut [MARK.into(); 14],
+        choices: &mut [],
+        slots: &mut [MARK.into(); 5],
+    };
     let outcome = call::run(day, &mut memory, allowed);
     counts.count_if(Seen::Kept, outcome.kept);
     let (totals, trials) = match outcome.answer {
         Ok(planned) => planned,
         Err(refusal) => {
             count_refused(refusal, found.plan, counts);
-            return Ok(earlier);
+            return earlier;
         }
     };
-    let slots = memory.slots.as_slice();
+    let slots = &*memory.slots;
     counts.count_if(Seen::Holds, holds(day, slots, totals));
     let turn = Turn {
         // `as`: from usize std has no From for u64.
@@ -154,38 +157,34 @@ fn call(
         let agrees = plain::agrees(found.free, day, Ok(bound), slots);
         counts.count_if(Seen::First, agrees);
     }
-    Ok(Some(Given {
+    Some(Given {
         cost: totals.cost,
         used: trials.used,
-    }))
+    })
 }
 
 // The calls on one day, with 1 to so many trials allowed.
-fn calls(
-    alloc: Global,
-    day: Day<'_>,
-    trials: usize,
-    counts: &mut Counts,
-) -> Result<(), AllocError> {
-    let starts = vec![in alloc; 0; day.periods()]?;
+fn calls(day: Day<'_>, trials: usize, counts: &mut Counts) {
+    let starts = [0; 4];
+    let starts = &starts[..day.periods().min(4)];
     let found = Found {
         plan: plain::search(day),
-        free: plain::search(day.with_setup(starts.as_slice())),
+        free: plain::search(day.with_setup(starts)),
     };
     counts.count_if(Seen::Plans, found.plan.is_some());
     let mut earlier = None;
     for allowed in 1..=trials {
-        earlier = call(alloc, day, found, earlier, allowed, counts)?;
+        earlier = call(day, found, earlier, allowed, counts);
     }
-    Ok(())
 }
 
 // Made-up days, laid out as those of the paths; the most trials allowed are in field 5.
-pub fn made_up<R: Print + AllocGlobal>(rt: &R, text: &str) -> io::Result<()> {
-    let line = Line::new(text);
+pub fn made_up(rt: &impl Print, asked: &[u8]) -> io::Result<()> {
+    let line = Line::whole(asked);
     let mut counts = Counts::new();
     for tiny in days_of(line) {
-        calls(rt.alloc(), tiny.day(), line.number(5), &mut counts)?;
+        calls(tiny.day(), line.number(5), &mut counts);
     }
-    println!(rt; "{text}{counts}")
+    text(rt, asked)?;
+    println!(rt; "{counts}")
 }

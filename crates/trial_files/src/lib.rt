@@ -1,42 +1,41 @@
 //! Trials of day files: reader, lookup and writer.
 #![tactic(auto)]
 
-ghost use Rattle.std.specs.Prelude.{◌<◌, length};
+ghost use Rattle.std.specs.Prelude.{◌≡◌, ◌≤◌, ◌<◌, length};
 
+use arrayvec::ArrayVec;
 use day::{Day, Ends, Refusal, Stamp};
-use std::alloc::{AllocError, Global};
 use std::io;
 use trial_text::cells::{MARK, marked};
 use trial_text::counts::Counts;
 use trial_text::days::Tables;
-use trial_text::line::{Line, numbers, repeated};
-use trial_text::show::{Charge, Kept, Refused, Stores};
+use trial_text::line::{Line, digit, numbers, repeated};
+use trial_text::show::{Charge, Kept, Refused, Stores, text};
 
-// The bytes of a field: words of hexadecimal digits, each as often as it says.
-fn bytes(alloc: Global, field: &str) -> Result<Vec<u8>, AllocError> {
-    let mut bytes = Vec::new(alloc);
-    for word in field.split_whitespace() {
+// The longest file has 1,837 bytes; a line's has room for some more, and what comes after that is passed over.
+type File = ArrayVec<u8, 1900>;
+
+// The bytes of a field, in the room lent for them: words of hexadecimal digits, each as often as it says, and at most 98 times: a file has 97 records at
+// most.
+fn bytes<'a>(field: &[u8], file: &'a mut File) -> &'a mut [u8]
+    ensures { length result.now ≤ 1900 }
+{
+    for word in field.split(|byte| *byte == b' ') {
         let (digits, times) = repeated(word);
-        let group = hexadecimal(alloc, digits)?;
-        for _ in 0..times {
-            bytes.extend_from_slice(group.as_slice())?;
+        for _ in 0..times.min(98) {
+            append(file, digits);
         }
     }
-    Ok(bytes)
+    file.as_mut_slice()
 }
 
-// Two digits a byte.
-fn hexadecimal(alloc: Global, digits: &str) -> Result<Vec<u8>, AllocError> {
-    digits
-        .as_bytes()
-        .chunks_exact(2)
-        .map(|pair| value(pair[0]) << 4 | value(pair[1]))
-        .collect(alloc)
-}
-
-// A digit's value, of a large letter or a small one; 0 of anything else.
-fn value(digit: u8) -> u8 {
-    char::from(digit).to_digit(16).unwrap_or(0) as u8
+// Two digits a byte, as far as there is room.
+fn append(file: &mut File, digits: &[u8]) {
+    for pair in digits.chunks_exact(2) {
+        if file.try_push(16 * digit(pair[0]) + digit(pair[1])).is_err() {
+            return;
+        }
+    }
 }
 
 // The stamp of a station's own files: station 17, on 16 November 2026.
@@ -47,21 +46,22 @@ const OWN: Stamp = Stamp {
 
 // The stamp that the reader is to expect: the two numbers of field 3, or its own where the field is left out. Fewer or more are no stamp.
 // Not by `codes::expected`, which takes a C program's numbers: there no number at all is no stamp either.
-fn expected(alloc: Global, line: Line<'_>) -> Result<Option<Stamp>, AllocError> {
-    match numbers(alloc, line.field(3))?.as_slice() {
-        [] => Ok(Some(OWN)),
-        [station, date] => Ok(Some(Stamp {
+fn expected(line: Line<'_>) -> Option<Stamp> {
+    let numbers: ArrayVec<u16, 3> = numbers(line.field(3));
+    match numbers.as_slice() {
+        [] => Some(OWN),
+        [station, date] => Some(Stamp {
             station: *station,
             date: *date,
-        })),
-        _ => Ok(None),
+        }),
+        _ => None,
     }
 }
 
 // The reader, on tables of its own.
-fn read_into(
+fn read_into<const CELLS: usize>(
     file: &[u8],
-    tables: &mut Tables,
+    tables: &mut Tables<CELLS>,
     expected: Option<Stamp>,
 ) -> Result<(usize, Ends), Refusal> {
     dayfile_reader::read(
@@ -99,68 +99,60 @@ impl From<Fare> for u8 {
 }
 
 // How a file fares that is read as such a day.
-fn rewritten(alloc: Global, file: &[u8], day: Day<'_>) -> Result<Fare, AllocError> {
-    let mut out = vec![in alloc; MARK; ROOM]?;
-    match dayfile_writer::write(day, out.as_mut_slice(), OWN) {
-        Ok(n) if out.as_slice().get(..n) == Some(file) => Ok(Fare::Same),
-        _ => Ok(Fare::Wrong),
+fn rewritten(file: &[u8], day: Day<'_>) -> Fare {
+    let mut out = [MARK; ROOM];
+    match dayfile_writer::write(day, &mut out, OWN) {
+        Ok(n) if out.get(..n) == Some(file) => Fare::Same,
+        _ => Fare::Wrong,
     }
 }
 
 // How a file of two periods fares. Where it is refused the needs' cells are left as they were.
-fn fare_of(alloc: Global, file: &[u8]) -> Result<Fare, AllocError> {
-    let mut tables = Tables::marked(alloc, 2)?;
+fn fare_of(file: &[u8]) -> Fare {
+    let mut tables = Tables::<2>::marked(2);
     match read_into(file, &mut tables, Some(OWN)) {
-        Err(refusal) if marked(tables.demand.as_slice()) => Ok(Fare::Refused(refusal)),
-        Ok((_, ends)) => rewritten(alloc, file, tables.day(ends)),
-        Err(_) => Ok(Fare::Wrong),
+        Err(refusal) if marked(tables.demand.as_slice()) => Fare::Refused(refusal),
+        Ok((_, ends)) => rewritten(file, tables.day(ends)),
+        Err(_) => Fare::Wrong,
     }
 }
 
 // The file cut at each length. By number: a turn takes the first n bytes, and no single one.
-fn cut(alloc: Global, file: &[u8]) -> Result<Counts, AllocError> {
+fn cut(file: &[u8]) -> Counts {
     let mut counts = Counts::new();
     for n in 0..file.len() {
-        counts.count(fare_of(alloc, &file[..n])?);
+        counts.count(fare_of(&file[..n]));
     }
-    Ok(counts)
+    counts
 }
 
 // With every value at one place, which is then as it was.
-fn change_at(
-    alloc: Global,
-    file: &mut [u8],
-    at: usize,
-    counts: &mut Counts,
-) -> Result<(), AllocError>
+fn change_at(file: &mut [u8], at: usize, counts: &mut Counts)
     requires { at < length file.old }
+    ensures { length file.new ≡ length file.old }
 {
     let was = file[at];
     for value in 0..=u8::MAX {
         file[at] = value;
-        counts.count(fare_of(alloc, file)?);
+        counts.count(fare_of(file));
     }
     file[at] = was;
-    Ok(())
 }
 
 // With every value at each place. By index: a turn writes at one place, and reads the whole file.
-fn change(alloc: Global, file: &mut [u8]) -> Result<Counts, AllocError> {
+fn change(file: &mut [u8]) -> Counts
+    ensures { length file.new ≡ length file.old }
+{
     let mut counts = Counts::new();
     for at in 0..file.len() {
-        change_at(alloc, file, at, &mut counts)?;
+        change_at(file, at, &mut counts);
     }
-    Ok(counts)
+    counts
 }
 
-// The reader, with so many cells in each table, and the stamp that it expects.
-fn read<R: Print + AllocGlobal>(
-    rt: &R,
-    file: &[u8],
-    cells: usize,
-    expected: Option<Stamp>,
-) -> io::Result<()> {
-    let mut tables = Tables::marked(rt.alloc(), cells)?;
+// The reader, with so many cells in each table, at most two more than the longest day needs, and the stamp that it expects.
+fn read(rt: &impl Print, file: &[u8], cells: usize, expected: Option<Stamp>) -> io::Result<()> {
+    let mut tables = Tables::<98>::marked(cells);
     match read_into(file, &mut tables, expected) {
         Err(refusal) => print!(rt; "{}", Refused(refusal)),
         Ok((n, ends)) => {
@@ -188,34 +180,37 @@ fn look(rt: &impl Print, file: &[u8], period: usize) -> io::Result<()> {
 }
 
 // A trial of the file in field 1, by the first word of the name.
-pub fn file<R: Print + AllocGlobal>(rt: &R, line: Line<'_>) -> io::Result<()> {
-    let alloc = rt.alloc();
-    let mut file = bytes(alloc, line.field(1))?;
-    print!(rt; "{}", line.name)?;
+pub fn file(rt: &impl Print, line: Line<'_>) -> io::Result<()> {
+    let mut file = File::new();
+    let file = bytes(line.field(1), &mut file);
+    text(rt, line.name)?;
     match line.first_word() {
-        "read" => read(rt, file.as_slice(), line.number(2), expected(alloc, line)?)?,
-        "look" => look(rt, file.as_slice(), line.number(2))?,
-        "cut" => print!(rt; "{}", cut(alloc, file.as_slice())?)?,
-        _ => print!(rt; "{}", change(alloc, file.as_mut_slice())?)?,
+        b"read" => read(rt, file, line.number(2), expected(line))?,
+        b"look" => look(rt, file, line.number(2))?,
+        b"cut" => print!(rt; "{}", cut(file))?,
+        _ => print!(rt; "{}", change(file))?,
     }
     println!(rt)
 }
 
-// The longest file has 1,837 bytes; its room, where the line has only a day, is five bytes more.
+// The writer's room: five bytes more than the longest file.
 const ROOM: usize = 1842;
 
-// The writer, and what the reader says of the file that it made. There are as many bytes of room as field 6 says of a line that asks for it.
-pub fn write<R: Print + AllocGlobal>(rt: &R, line: Line<'_>, day: Day<'_>) -> io::Result<()> {
-    let room = if line.kind == "write" {
+// The writer, and what the reader says of the file that it made. There are as many bytes of room as field 6 says of a line that asks for it, all where
+// that is more.
+pub fn write(rt: &impl Print, line: Line<'_>, day: Day<'_>) -> io::Result<()> {
+    let room = if matches!(line.kind, b"write") {
         line.number(6)
     } else {
         ROOM
     };
-    let mut out = vec![in rt.alloc(); MARK; room]?;
-    print!(rt; "{} file", line.name)?;
-    match dayfile_writer::write(day, out.as_mut_slice(), OWN) {
+    let mut out = [MARK; ROOM];
+    let out = &mut out[..room.min(ROOM)];
+    text(rt, line.name)?;
+    print!(rt; " file")?;
+    match dayfile_writer::write(day, out, OWN) {
         Err(refusal) => {
-            print!(rt; "{}{}", Refused(refusal), Kept(marked(out.as_slice())))?;
+            print!(rt; "{}{}", Refused(refusal), Kept(marked(out)))?;
         }
         Ok(n) => {
             let (file, later) = out.split_at(n.min(out.len()));

@@ -3,10 +3,10 @@ ghost use Rattle.std.specs.Prelude.{◌≤◌};
 
 use day::{Day, Loads, Refusal, Sizes, Totals};
 use std::{fmt, io};
-use trial_text::cells::{Memory, Outcome};
+use trial_text::cells::{MARK, Memory, Outcome};
 use trial_text::days::total;
 use trial_text::line::Line;
-use trial_text::show::{Amounts, Cost, LoadCounts};
+use trial_text::show::{Amounts, Cost, LoadCounts, text};
 
 // `day::PathKind` has a fifth, which takes a number of trials too: crates/trial_big tries it.
 // By match here, and in tiny.rt: each match is a table with a row for a path, and a type for each path would leave `ALL` nothing to hold.
@@ -22,11 +22,11 @@ impl Path {
     pub const ALL: [Path; 4] = [Path::Full, Path::Uncapped, Path::Equal, Path::Free];
 
     // The path that a kind names.
-    fn of(kind: &str) -> Path {
+    fn of(kind: &[u8]) -> Path {
         match kind {
-            "uncapped" => Path::Uncapped,
-            "equal" => Path::Equal,
-            "free" => Path::Free,
+            b"uncapped" => Path::Uncapped,
+            b"equal" => Path::Equal,
+            b"free" => Path::Free,
             _ => Path::Full,
         }
     }
@@ -66,10 +66,10 @@ pub fn needed(path: Path, day: Day<'_>) -> Sizes
 pub type Planned = (Totals, Option<Loads>);
 
 // The free path takes no choice area.
-fn plan(path: Path, day: Day<'_>, memory: &mut Memory) -> Result<Planned, Refusal> {
-    let costs = memory.costs.as_mut_slice();
-    let choices = memory.choices.as_mut_slice();
-    let slots = memory.slots.as_mut_slice();
+fn plan(path: Path, day: Day<'_>, memory: &mut Memory<'_>) -> Result<Planned, Refusal> {
+    let costs = &mut *memory.costs;
+    let choices = &mut *memory.choices;
+    let slots = &mut *memory.slots;
     match path {
         Path::Full => full::plan(day, costs, choices, slots).map(|totals| (totals, None)),
         Path::Uncapped => uncapped::plan(day, costs, choices, slots).map(|totals| (totals, None)),
@@ -82,22 +82,35 @@ fn plan(path: Path, day: Day<'_>, memory: &mut Memory) -> Result<Planned, Refusa
 }
 
 // A path in lent memory.
-pub fn run(path: Path, day: Day<'_>, memory: &mut Memory) -> Outcome<Planned> {
+pub fn run(path: Path, day: Day<'_>, memory: &mut Memory<'_>) -> Outcome<Planned> {
     let answer = plan(path, day, memory);
     memory.outcome(answer, needed(path, day))
 }
 
+// The most cost cells that are lent to a path: two more than the full path needs for the largest day. On the stack, since a path takes no heap.
+pub const COSTS: usize = 8196;
+
+// Likewise of choice cells.
+pub const CHOICES: usize = 393_314;
+
+// And of slots: two more than a table has room.
+const SLOTS: usize = 130;
+
 // One path in so many cells and slots.
-fn within<R: Print + AllocGlobal>(
-    rt: &R,
+fn within(
+    rt: &impl Print,
     line: Line<'_>,
     path: Path,
     day: Day<'_>,
     lent: Sizes,
 ) -> io::Result<()> {
-    let mut memory = Memory::new(rt.alloc(), lent)?;
+    let mut costs = [MARK.into(); COSTS];
+    let mut choices = [MARK.into(); CHOICES];
+    let mut slots = [MARK.into(); SLOTS];
+    let mut memory = Memory::new(lent, &mut costs, &mut choices, &mut slots);
     let outcome = run(path, day, &mut memory);
-    print!(rt; "{} {path}", line.name)?;
+    text(rt, line.name)?;
+    print!(rt; " {path}")?;
     outcome.print(rt, |(totals, loads)| {
         print!(rt; "{}{}", Amounts(memory.plan(day.periods())), Cost(totals))?;
         match loads {
@@ -108,7 +121,7 @@ fn within<R: Print + AllocGlobal>(
 }
 
 // Each path in two cells and a slot more than it needs.
-pub fn all<R: Print + AllocGlobal>(rt: &R, line: Line<'_>, day: Day<'_>) -> io::Result<()> {
+pub fn all(rt: &impl Print, line: Line<'_>, day: Day<'_>) -> io::Result<()> {
     for path in Path::ALL {
         let need = needed(path, day);
         let lent = Sizes {
@@ -122,7 +135,7 @@ pub fn all<R: Print + AllocGlobal>(rt: &R, line: Line<'_>, day: Day<'_>) -> io::
 }
 
 // One path in as many cost cells, choice cells and slots as fields 6, 7 and 8 say.
-pub fn lent<R: Print + AllocGlobal>(rt: &R, line: Line<'_>, day: Day<'_>) -> io::Result<()> {
+pub fn lent(rt: &impl Print, line: Line<'_>, day: Day<'_>) -> io::Result<()> {
     let lent = Sizes {
         costs: line.number(6),
         choices: line.number(7),

@@ -1,14 +1,16 @@
 //! Made-up tiny days: the four paths beside the plain search.
+ghost use Rattle.std.specs.Prelude.{◌<◌};
+
 use crate::paths;
 use crate::paths::Path;
-use day::{Day, Refusal, Sizes};
+use day::{Day, Refusal};
 use plain::Best;
-use std::alloc::{AllocError, Global};
 use std::io;
 use tiny_days::{Capacities, Days, Kind, Stores};
-use trial_text::cells::Memory;
+use trial_text::cells::{MARK, Memory};
 use trial_text::counts::Counts;
 use trial_text::line::Line;
+use trial_text::show::text;
 
 // What is counted, of days and of the calls on them.
 #[derive(Clone, Copy)]
@@ -40,14 +42,17 @@ impl From<Seen> for u8 {
     }
 }
 
-// What a path's agreement with the search is counted as.
-fn agreement(path: Path) -> Seen {
-    match path {
+// What a path's agreement with the search is counted as: the number, since of an enum no clause says that it is low.
+fn agreement(path: Path) -> u8
+    ensures { result < 16 }
+{
+    let seen = match path {
         Path::Full => Seen::FullAgrees,
         Path::Uncapped => Seen::UncappedAgrees,
         Path::Equal => Seen::EqualAgrees,
         Path::Free => Seen::FreeAgrees,
-    }
+    };
+    seen as u8
 }
 
 // What a refusal is counted as, if it is.
@@ -62,22 +67,15 @@ fn refused(refusal: Refusal) -> Option<Seen> {
 }
 
 // One path's call, in memory that suffices for every path.
-fn call(
-    alloc: Global,
-    path: Path,
-    best: Option<Best>,
-    day: Day<'_>,
-    counts: &mut Counts,
-) -> Result<(), AllocError> {
-    let lent = Sizes {
-        costs: 32,
-        choices: 102,
-        slots: 5,
+fn call(path: Path, best: Option<Best>, day: Day<'_>, counts: &mut Counts) {
+    let mut memory = Memory {
+        costs: &mut [MARK.into(); 32],
+        choices: &mut [MARK.into(); 102],
+        slots: &mut [MARK.into(); 5],
     };
-    let mut memory = Memory::new(alloc, lent)?;
     let outcome = paths::run(path, day, &mut memory);
     let answer = outcome.answer.map(|(totals, _)| totals);
-    let agrees = plain::agrees(best, day, answer, memory.slots.as_slice());
+    let agrees = plain::agrees(best, day, answer, memory.slots);
     counts.count_if(agreement(path), agrees);
     counts.count_if(Seen::Kept, outcome.kept);
     if let Err(refusal) = outcome.answer {
@@ -85,17 +83,15 @@ fn call(
             counts.count(seen);
         }
     }
-    Ok(())
 }
 
 // The calls on one day.
-fn calls(alloc: Global, day: Day<'_>, counts: &mut Counts) -> Result<(), AllocError> {
+fn calls(day: Day<'_>, counts: &mut Counts) {
     let best = plain::search(day);
     counts.count_if(Seen::Plans, best.is_some());
     for path in Path::ALL {
-        call(alloc, path, best, day, counts)?;
+        call(path, best, day, counts);
     }
-    Ok(())
 }
 
 // The days that a line asks for: with the capacities that the trial is named after, any where that is none, from the seed of field 1, as many as
@@ -104,13 +100,14 @@ pub fn days_of(line: Line<'_>) -> Days {
     Days {
         kind: Kind {
             capacities: match line.name {
-                "equal" => Capacities::Equal,
-                "unbound" => Capacities::Unbound,
+                b"equal" => Capacities::Equal,
+                b"unbound" => Capacities::Unbound,
                 _ => Capacities::Any,
             },
-            stores: match line.field(4).trim() {
-                "low" => Stores::Low,
-                "ample" => Stores::Ample,
+            // A field begins with the space after its ';'.
+            stores: match line.field(4) {
+                b" low" => Stores::Low,
+                b" ample" => Stores::Ample,
                 _ => Stores::Unlimited,
             },
             most: line.number(3),
@@ -121,18 +118,19 @@ pub fn days_of(line: Line<'_>) -> Days {
 }
 
 // Made-up days; those of a trial named free have no setup cost.
-pub fn made_up<R: Print + AllocGlobal>(rt: &R, line: Line<'_>) -> io::Result<()> {
+pub fn made_up(rt: &impl Print, line: Line<'_>) -> io::Result<()> {
     let mut counts = Counts::new();
     for mut tiny in days_of(line) {
-        if line.name == "free" {
+        if matches!(line.name, b"free") {
             tiny.setup = [0; 4];
         }
-        calls(rt.alloc(), tiny.day(), &mut counts)?;
+        calls(tiny.day(), &mut counts);
     }
-    print!(rt; "made-up {}", line.name)?;
+    print!(rt; "made-up ")?;
+    text(rt, line.name)?;
     // By number, as a line gives its fields.
     for k in 1..5 {
-        print!(rt; "{}", line.field(k))?;
+        text(rt, line.field(k))?;
     }
     println!(rt; "{counts}")
 }

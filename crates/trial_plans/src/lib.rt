@@ -4,8 +4,8 @@
 use day::Day;
 use std::{fmt, io};
 use trial_text::days::total;
-use trial_text::line::{Line, numbers};
-use trial_text::show::{Amounts, Cost, Refused};
+use trial_text::line::{Line, Numbers, numbers};
+use trial_text::show::{Amounts, Cost, Refused, text};
 use weigher::{Breach, Fault};
 
 // What every call that judges a plan prints of one that it refuses, or that breaks a rule.
@@ -24,11 +24,11 @@ impl fmt::Display for Failed {
 }
 
 // The plan of field 6, alone or, where the kind is `compare`, beside that of field 7.
-pub fn plans<R: Print + AllocGlobal>(rt: &R, line: Line<'_>, day: Day<'_>) -> io::Result<()> {
-    let plan = numbers(rt.alloc(), line.field(6))?;
-    let other = numbers(rt.alloc(), line.field(7))?;
-    print!(rt; "{}", line.name)?;
-    if line.kind == "compare" {
+pub fn plans(rt: &impl Print, line: Line<'_>, day: Day<'_>) -> io::Result<()> {
+    let plan: Numbers<u16> = numbers(line.field(6));
+    let other: Numbers<u16> = numbers(line.field(7));
+    text(rt, line.name)?;
+    if matches!(line.kind, b"compare") {
         match weigher::compare(day, plan.as_slice(), other.as_slice()) {
             Ok(difference) => println!(rt; " difference {difference}"),
             Err(fault) => println!(rt; "{}", Failed(fault)),
@@ -47,7 +47,8 @@ pub fn searched(rt: &impl Print, line: Line<'_>, day: Day<'_>) -> io::Result<()>
     if 4 < n || 10 < total(day) {
         return Ok(());
     }
-    print!(rt; "{} search", line.name)?;
+    text(rt, line.name)?;
+    print!(rt; " search")?;
     match plain::search(day) {
         Some(best) => println!(rt; "{}{}", Amounts(&best.plan[..n]), Cost(best.totals)),
         None => println!(rt; " no plan"),

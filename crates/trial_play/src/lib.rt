@@ -3,19 +3,20 @@
 
 use day::{Day, Ends};
 use play::Flows;
-use std::alloc::AllocError;
 use std::io;
 use trial_paths::tiny::days_of;
 use trial_plans::Failed;
 use trial_text::counts::Counts;
 use trial_text::days::summed;
-use trial_text::line::{Line, numbers};
+use trial_text::line::{Line, Numbers, numbers};
+use trial_text::show::text;
 
 // The plan of field 6 against the needs of field 7.
-pub fn play<R: Print + AllocGlobal>(rt: &R, line: Line<'_>, day: Day<'_>) -> io::Result<()> {
-    let plan = numbers(rt.alloc(), line.field(6))?;
-    let actual = numbers(rt.alloc(), line.field(7))?;
-    print!(rt; "{} play", line.name)?;
+pub fn play(rt: &impl Print, line: Line<'_>, day: Day<'_>) -> io::Result<()> {
+    let plan: Numbers<u16> = numbers(line.field(6));
+    let actual: Numbers<u16> = numbers(line.field(7));
+    text(rt, line.name)?;
+    print!(rt; " play")?;
     match play::play(day, plan.as_slice(), actual.as_slice()) {
         Err(fault) => println!(rt; "{}", Failed(fault)),
         Ok(flows) => {
@@ -83,8 +84,8 @@ fn compare(day: Day<'_>, other: &[u16], counts: &mut Counts) {
 }
 
 // Made-up days, laid out as those of the paths; each day's plan is played against the needs of the day after it too.
-pub fn made_up<R: Print + AllocGlobal>(rt: &R, text: &str) -> io::Result<()> {
-    let days = days_of(Line::new(text));
+pub fn made_up(rt: &impl Print, asked: &[u8]) -> io::Result<()> {
+    let days = days_of(Line::whole(asked));
     let kind = days.kind;
     let mut counts = Counts::new();
     for tiny in days {
@@ -92,5 +93,6 @@ pub fn made_up<R: Print + AllocGlobal>(rt: &R, text: &str) -> io::Result<()> {
         let other = kind.make_up(tiny.seed).demand;
         compare(day, &other[..day.periods().min(4)], &mut counts);
     }
-    println!(rt; "{text}{counts}")
+    text(rt, asked)?;
+    println!(rt; "{counts}")
 }

@@ -1,7 +1,6 @@
 //! Lent cells, every one of which holds the mark before a call.
 use crate::show::{Kept, Refused};
 use day::{Refusal, Sizes};
-use std::alloc::{AllocError, Global};
 use std::io;
 
 // The mark.
@@ -42,36 +41,45 @@ impl<T: Copy> Outcome<T> {
     }
 }
 
-// Memory that is lent to a call.
+// Memory that is lent to a call: the front of areas that lie where it is called, as those of a caller without a heap do.
 #[derive(Drop)]
-pub struct Memory {
-    pub costs: Vec<u64>,
-    pub choices: Vec<u16>,
-    pub slots: Vec<u16>,
+pub struct Memory<'a> {
+    pub costs: &'a mut [u64],
+    pub choices: &'a mut [u16],
+    pub slots: &'a mut [u16],
 }
 
-impl Memory {
-    // Every cell and slot holds the mark.
-    pub fn new(alloc: Global, sizes: Sizes) -> Result<Memory, AllocError> {
-        Ok(Memory {
-            costs: vec![in alloc; MARK.into(); sizes.costs]?,
-            choices: vec![in alloc; MARK.into(); sizes.choices]?,
-            slots: vec![in alloc; MARK.into(); sizes.slots]?,
-        })
+// The first n cells of an area, all where it has fewer.
+fn front<T>(area: &mut [T], n: usize) -> &mut [T] {
+    let n = n.min(area.len());
+    &mut area[..n]
+}
+
+impl<'a> Memory<'a> {
+    // So much of each of these areas, all of it where that is more; every cell and slot of them is to hold the mark.
+    pub fn new(
+        sizes: Sizes,
+        costs: &'a mut [u64],
+        choices: &'a mut [u16],
+        slots: &'a mut [u16],
+    ) -> Memory<'a> {
+        Memory {
+            costs: front(costs, sizes.costs),
+            choices: front(choices, sizes.choices),
+            slots: front(slots, sizes.slots),
+        }
     }
 
     // Whether it is as a refused call must leave it: every cell and slot holds the mark.
     fn is_marked(&self) -> bool {
-        marked(self.costs.as_slice())
-            && marked(self.choices.as_slice())
-            && marked(self.slots.as_slice())
+        marked(self.costs) && marked(self.choices) && marked(self.slots)
     }
 
     // Whether it is as a call must leave it that needs so much for its answer: the needed cells hold zero; the later ones, and the slots after the
     // plan, hold the mark.
     fn is_cleared(&self, needed: Sizes) -> bool {
-        cleared(self.costs.as_slice(), needed.costs)
-            && cleared(self.choices.as_slice(), needed.choices)
+        cleared(self.costs, needed.costs)
+            && cleared(self.choices, needed.choices)
             && marked(self.slots.get(needed.slots..).unwrap_or(&[]))
     }
 

@@ -3,6 +3,9 @@ use std::fmt;
 
 const KINDS: usize = 21;
 
+// The most that is counted of a kind.
+const MOST: u64 = 1_000_000;
+
 // How many there are of each kind, by the kind's number. It is printed with those numbers; a number past the last is not counted.
 // Each enum of kinds has a `From` of its own, beside it: `as u8` takes one enum at a time, and std has no trait of the enums that it takes.
 #[derive(Drop)]
@@ -18,7 +21,7 @@ impl Counts {
     // One more of a kind.
     pub fn count<K: Into<u8>>(&mut self, kind: K) {
         if let Some(n) = self.of.get_mut(usize::from(kind.into())) {
-            *n = n.saturating_add(1);
+            *n = n.saturating_add(1).min(MOST);
         }
     }
 

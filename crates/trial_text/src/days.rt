@@ -2,51 +2,58 @@
 ghost use Rattle.std.specs.Prelude.{◌≤◌};
 
 use crate::cells::MARK;
-use crate::line::{Line, first, for_all, numbers};
+use crate::line::{Amount, Line, fill, for_all, numbers};
+use arrayvec::ArrayVec;
 use day::{Day, Ends};
-use std::alloc::{AllocError, Global};
 
-// A day's tables, of its own. Six vectors side by side, since a day is lent as six slices.
+// A day's tables, of its own, with room for so many cells each. Six vectors side by side, since a day is lent as six slices.
 #[derive(Drop)]
-pub struct Tables {
-    pub demand: Vec<u16>,
-    pub capacity: Vec<u16>,
-    pub setup: Vec<u32>,
-    pub unit: Vec<u32>,
-    pub holding: Vec<u32>,
-    pub store: Vec<u16>,
+pub struct Tables<const CELLS: usize> {
+    pub demand: ArrayVec<u16, CELLS>,
+    pub capacity: ArrayVec<u16, CELLS>,
+    pub setup: ArrayVec<u32, CELLS>,
+    pub unit: ArrayVec<u32, CELLS>,
+    pub holding: ArrayVec<u32, CELLS>,
+    pub store: ArrayVec<u16, CELLS>,
 }
 
-impl Tables {
+// A table of n cells, as far as there is room, every one of which holds the mark.
+fn marked<N: Amount + From<u8>, const CELLS: usize>(n: usize) -> ArrayVec<N, CELLS> {
+    let mut cells = ArrayVec::new();
+    fill(&mut cells, N::from(MARK), n);
+    cells
+}
+
+impl<const CELLS: usize> Tables<CELLS> {
     // Those of a line: five in its fields 1 to 5, of the last three of which one number stands for all periods; and its store limits, none of
     // which limits where they are left out: 65,535, for the reason beside `NO_LIMIT` in crates/dayfile.
-    pub fn of(alloc: Global, line: Line<'_>) -> Result<Tables, AllocError> {
-        let demand = numbers(alloc, line.field(1))?;
+    pub fn of(line: Line<'_>) -> Tables<CELLS> {
+        let demand: ArrayVec<u16, CELLS> = numbers(line.field(1));
         let n = demand.len();
-        let mut store = for_all(alloc, line.stores, n)?;
+        let mut store = for_all(line.stores, n);
         if store.is_empty() {
-            store.resize(n, u16::MAX)?;
+            fill(&mut store, u16::MAX, n);
         }
-        Ok(Tables {
+        Tables {
             demand,
-            capacity: numbers(alloc, line.field(2))?,
-            setup: for_all(alloc, line.field(3), n)?,
-            unit: for_all(alloc, line.field(4), n)?,
-            holding: for_all(alloc, line.field(5), n)?,
+            capacity: numbers(line.field(2)),
+            setup: for_all(line.field(3), n),
+            unit: for_all(line.field(4), n),
+            holding: for_all(line.field(5), n),
             store,
-        })
+        }
     }
 
-    // Tables of n cells each, every one of which holds the mark.
-    pub fn marked(alloc: Global, n: usize) -> Result<Tables, AllocError> {
-        Ok(Tables {
-            demand: vec![in alloc; MARK.into(); n]?,
-            capacity: vec![in alloc; MARK.into(); n]?,
-            setup: vec![in alloc; MARK.into(); n]?,
-            unit: vec![in alloc; MARK.into(); n]?,
-            holding: vec![in alloc; MARK.into(); n]?,
-            store: vec![in alloc; MARK.into(); n]?,
-        })
+    // Tables of n cells each.
+    pub fn marked(n: usize) -> Tables<CELLS> {
+        Tables {
+            demand: marked(n),
+            capacity: marked(n),
+            setup: marked(n),
+            unit: marked(n),
+            holding: marked(n),
+            store: marked(n),
+        }
     }
 
     // The day of these tables.
@@ -65,10 +72,11 @@ impl Tables {
 
 // The ends of a line's day: two numbers, both 0 where they are left out.
 pub fn ends_of(line: Line<'_>) -> Ends {
-    let mut words = line.ends.split_whitespace();
+    let numbers: ArrayVec<u16, 2> = numbers(line.ends);
+    let mut ends = numbers.as_slice().iter();
     Ends {
-        opening: words.next().map_or(0, first),
-        closing: words.next().map_or(0, first),
+        opening: ends.next().map_or(0, |end| *end),
+        closing: ends.next().map_or(0, |end| *end),
     }
 }
 

@@ -1,6 +1,12 @@
 //! What the trials print, each with a space before it. A type for each, since Rust takes no `Display` of another crate's type here.
 use day::{Ends, Loads, Refusal, Totals};
-use std::fmt;
+use std::io::Write;
+use std::{fmt, io};
+
+// The bytes of a line as they are: they need be no text, which `Display` writes alone.
+pub fn text(rt: &impl Print, bytes: &[u8]) -> io::Result<()> {
+    io::writer(rt).write_all(bytes)
+}
 
 // Amounts, one after the other.
 #[derive(Clone, Copy)]
