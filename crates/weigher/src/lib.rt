@@ -189,12 +189,19 @@ fn tests(day: Day, plan: &[u16]) -> Result<(), Refusal>
     Ok(())
 }
 
+// Weighs a plan of a day by reference: by value `compare` would hold the day twice.
+fn weighed(day: &Day, plan: &[u16]) -> Result<Totals, Fault>
+    ensures { Weighs (lent_day day.now) plan.now result }
+{
+    tests(*day, plan)?;
+    Ok(walk(*day, plan)?)
+}
+
 // Weighs a plan. Cells of it past the last period are not read.
 pub fn weigh(day: Day, plan: &[u16]) -> Result<Totals, Fault>
     ensures { Weighs (lent_day day.entry) plan.now result }
 {
-    tests(day, plan)?;
-    Ok(walk(day, plan)?)
+    weighed(&day, plan)
 }
 
 // One cost less another.
@@ -223,7 +230,7 @@ fn comparison(first: Result<Totals, Fault>, second: Result<Totals, Fault>) -> Re
 pub fn compare(day: Day, plan: &[u16], other: &[u16]) -> Result<i64, Fault>
     ensures { Compares (lent_day day.entry) plan.now other.now result }
 {
-    let first = weigh(day, plan);
-    let second = weigh(day, other);
+    let first = weighed(&day, plan);
+    let second = weighed(&day, other);
     comparison(first, second)
 }

@@ -16,13 +16,13 @@ comparison-requires c =
     let a = c.args in
     let d = lent_day a.day in
     let tables = a.day.widths in (
-      signed d a.plan.now c.weigh-first.result (record { tables = tables; amount = c.type_inv.plan }) c.weigh-first.ensures,
-      signed d a.other.now c.weigh-second.result (record { tables = tables; amount = c.type_inv.other }) c.weigh-second.ensures,
+      signed d a.plan.now c.weighed-first.result (record { tables = tables; amount = c.type_inv.plan }) c.weighed-first.ensures,
+      signed d a.other.now c.weighed-second.result (record { tables = tables; amount = c.type_inv.other }) c.weighed-second.ensures,
     )
 
 pub returns : goal.returns
 returns c =
     let a = c.args in
     compares
-    (lent_day a.day) a.plan.now a.other.now c.weigh-first.result c.weigh-second.result c.comparison.result
-    c.weigh-first.ensures c.weigh-second.ensures c.comparison.ensures
+    (lent_day a.day) a.plan.now a.other.now c.weighed-first.result c.weighed-second.result c.comparison.result
+    c.weighed-first.ensures c.weighed-second.ensures c.comparison.ensures
