@@ -23,6 +23,7 @@ use Rattle.greedy.specs.Keys.{Keyed}
 use Rattle.rounds.specs.Turns.{state_in}
 use Rattle.drops.specs.Ready.{IsReady}
 use Rattle.drops.specs.Standing.{Begun, Finished}
+use Rattle.drops.proofs.Running.{finished_narrow}
 use Rattle.big.specs.Passed.{big_admitted, big_loose, big_trials}
 use Rattle.big.specs.Work.{TrialsAsk, TrialsGive, Answerable, answer_of}
 
@@ -97,9 +98,7 @@ module _ (trials : ℕ) (d : Day) (m : Memory) (ok : big_refusal trials d (sizes
 
     -- the amounts are of 16 bits
     pub narrow : (k : ℕ) → k < length best → at best k < 2 ^ 16
-    narrow k l =
-        let inside : k < periods d = omega (arith, stands.size) in
-        omega (arith, stands.feasible.within k inside, (passed.day.limits.within k inside).capacity)
+    narrow = finished_narrow passed.day loose t.finished
 
     pub answerable : Answerable d first best
     answerable =

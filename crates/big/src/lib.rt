@@ -57,8 +57,8 @@ fn make_trials(
         net: p.demand,
         keys,
     };
-    let cost = drops::begin(ready, allowed, marks, best, first);
-    drops::run(ready, allowed, marks, best, plan, cost, trials)
+    let cost = drops::begin_in_cells(ready, allowed, marks, best, first);
+    drops::run_in_cells(ready, allowed, marks, best, plan, cost, trials)
 }
 
 // The work, once the tests have passed.

@@ -7,5 +7,5 @@ use program_text::Program;
 use std::process::ExitCode;
 
 fn main(rt: HostRuntime) -> ExitCode {
-    program_text::run(&rt, Program::Dayplan, &mut rt.stdin(), &mut rt.stdout())
+    program_text::run_between(&rt, Program::Dayplan, &mut rt.stdin(), &mut rt.stdout())
 }

@@ -1,11 +1,15 @@
 -- What the loop over the trials keeps. Main statements: `running_search`, what the search for the next period asks; `running_comes`, what the next trial
--- finds; `running_stops`, `running_out`, where the trials end. Assumes nothing.
-use Rattle.std.proofs.Common.{◌≡◌, Some, None, sym, List, ℕ, ◌≤◌, arith, length}
-use Rattle.day.specs.Day.{Day, periods}
+-- finds; `running_stops`, `running_out`, where the trials end; `finished_narrow`, how wide the best plan's amounts are. Assumes nothing.
+use Rattle.std.proofs.Common.{◌≡◌, Some, None, sym, List, ℕ, ◌^◌, ◌≤◌, ◌<◌, arith, length}
+use Rattle.day.specs.Sums.{at}
+use Rattle.day.specs.Day.{Day, periods, max_big_total}
 use Rattle.day.specs.Drops.{next, TriedIn}
+use Rattle.checks.specs.Passed.{DayLimits}
+use Rattle.theory.specs.Store.{Loose}
+use Rattle.theory.specs.Drops.{Stands}
 use Rattle.theory.proofs.Drops.{tried_stands, next_allowed}
 use Rattle.rounds.specs.declared.Turn.{Turn}
-use Rattle.rounds.specs.Turns.{turn_of}
+use Rattle.rounds.specs.Turns.{turn_of, state_in}
 use Rattle.drops.specs.declared.Standing.{Standing}
 use Rattle.drops.specs.Ready.{IsReady}
 use Rattle.drops.specs.Standing.{state_of, Held, NextIs, Finished}
@@ -50,3 +54,11 @@ module _ {d : Day} {net keys : List ℕ} (ready : IsReady d net keys) {trials : 
         dropped = s.dropped;
         ended = record { tried = rw e at w.tried; allowed = omega arith; stops = λ l. absurd (omega arith) };
       }
+
+-- what all trials leave: the amounts are of 16 bits
+pub finished_narrow : {d : Day} → DayLimits max_big_total d → Loose d → {trials used : ℕ} → {marks best : List ℕ} → Finished d trials used marks best
+    → (k : ℕ) → k < length best → at best k < 2 ^ 16
+finished_narrow {d} limits loose {used} {marks} {best} f k l =
+    let stands : Stands d loose (state_in marks best f.ahead f.dropped) = tried_stands d loose used _ f.ended.tried in
+    let inside : k < periods d = omega (arith, stands.size) in
+    omega (arith, stands.feasible.within k inside, (limits.limits.within k inside).capacity)

@@ -46,7 +46,7 @@ pub fn free_cost(day: Day, plan: &[u16]) -> u64
 
 // Trial 1: all periods are allowed. There is a plan, since no period is short. Here and below capacities, marks and plans come one by one, for the
 // reason beside `tables::put`.
-pub fn begin(
+pub fn begin_in_cells(
     ready: Ready,
     allowed: &mut [u16],
     marks: &mut [u64],
@@ -61,6 +61,24 @@ pub fn begin(
     allowed.copy_from_slice(ready.day.capacity);
     let cost = trial(ready, allowed, plan).unwrap();
     rounds::keep(plan, best);
+    cost
+}
+
+// Likewise, with the best plan in slots. There is no heap here either.
+pub fn begin(
+    ready: Ready,
+    allowed: &mut [u16],
+    marks: &mut [u64],
+    best: &mut [u16],
+    plan: &mut [u16],
+) -> u64
+    requires { Startable (lent_day ready.day) allowed.old marks.old best.old plan.old }
+    ensures { Begun (lent_day ready.entry.day) result allowed.new marks.new best.new plan.new }
+{
+    let mut table = [0u64; 96];
+    let cells = &mut table[..best.len()];
+    let cost = begin_in_cells(ready, allowed, marks, cells, plan);
+    best.copy_from_slice(plan);
     cost
 }
 
@@ -110,7 +128,7 @@ fn step(
 }
 
 // The trials after the first, until they are used up or a round has forbidden none; how many were made, with the first.
-pub fn run(
+pub fn run_in_cells(
     ready: Ready,
     allowed: &mut [u16],
     marks: &mut [u64],
@@ -136,4 +154,27 @@ pub fn run(
         s = step(ready, allowed, marks, best, plan, s, turn);
     }
     trials
+}
+
+// Likewise, with the best plan in slots.
+pub fn run(
+    ready: Ready,
+    allowed: &mut [u16],
+    marks: &mut [u64],
+    best: &mut [u16],
+    plan: &mut [u16],
+    first: u64,
+    trials: usize,
+) -> usize
+    requires held { Held (lent_day ready.day) allowed.old marks.old best.old plan.old first }
+    requires first_trial { FirstTrial (lent_day ready.day) (state_in marks.old best.old (periods (lent_day ready.day)) false) }
+    requires trials_nonzero { 0 < trials }
+    ensures { Finished (lent_day ready.entry.day) trials result marks.new best.new }
+{
+    let mut table = [0u64; 96];
+    let cells = &mut table[..best.len()];
+    rounds::keep(best, cells);
+    let used = run_in_cells(ready, allowed, marks, cells, plan, first, trials);
+    rounds::hand_out(cells, best);
+    used
 }

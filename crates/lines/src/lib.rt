@@ -75,8 +75,8 @@ pub fn amount_line(day: Day, plan: &[u16], i: usize) -> Line
     line(&[("", (i + 1) as u64), (" made ", made), (" left ", left)])
 }
 
-// A refusal, which is the whole text where it stands.
-pub fn refusal_line(refusal: Refusal) -> Line
+// A refusal.
+pub fn short_refusal_line(refusal: Refusal) -> Line
     ensures said { result.bytes ≡ refusal_line refusal }
     ensures few { length result.bytes ≤ line_bytes }
 {
@@ -90,7 +90,17 @@ pub fn say_refusal(refusal: Refusal, text: &mut Text)
     ensures { text.new.bytes ≡ refusal_line refusal }
 {
     text.clear();
-    text.push_str(&refusal_line(refusal));
+    text.push_str(&short_refusal_line(refusal));
+}
+
+// Likewise, where there is room for a text of its own.
+pub fn refusal_line(refusal: Refusal) -> Text
+    ensures said { result.bytes ≡ refusal_line refusal }
+    ensures few { length result.bytes ≤ line_bytes }
+{
+    let mut whole = Text::new();
+    whole.push_str(&short_refusal_line(refusal));
+    whole
 }
 
 // A margin with the cost of its plan, and what that missed and spilled when it was played.

@@ -94,7 +94,7 @@ fn margin_lines(day: Day, actual: &[u16], text: &mut Text)
     }
 }
 
-// The actual needs of a day: 2 and 3 on them decide whether they are taken. `Limits` is asked of the day, here, in `day_text` and in program_text: a type
+// The actual needs of a day: 2 and 3 on them decide whether they are taken. `Limits` is asked of the day, here, in `say_day` and in program_text: a type
 // of tested days would be made for one call, and opened by the next.
 fn actual_needs(day: Day, file: &[u8]) -> Result<Needs, Refusal>
     requires { Limits (lent_day day) }
@@ -112,7 +112,7 @@ fn actual_needs(day: Day, file: &[u8]) -> Result<Needs, Refusal>
 }
 
 // The text of a day that has passed 1, 2 and 3: that of a refusal of the actual needs, or the lines. It is lent, as in plan_text.
-pub fn day_text(day: Day, file: &[u8], text: &mut Text)
+pub fn say_day(day: Day, file: &[u8], text: &mut Text)
     requires { Limits (lent_day day) }
     ensures { SaysMarginsOf file.now (lent_day day.entry) text.new.bytes }
 {
@@ -120,4 +120,14 @@ pub fn day_text(day: Day, file: &[u8], text: &mut Text)
         Ok(actual) => margin_lines(day, &actual, text),
         Err(refusal) => lines::say_refusal(refusal, text),
     }
+}
+
+// Likewise, where there is room for a text of its own.
+pub fn day_text(day: Day, file: &[u8]) -> Text
+    requires { Limits (lent_day day) }
+    ensures { SaysMarginsOf file.now (lent_day day.entry) result.bytes }
+{
+    let mut text = Text::new();
+    say_day(day, file, &mut text);
+    text
 }

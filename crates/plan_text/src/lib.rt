@@ -27,7 +27,7 @@ fn plan_lines(day: Day, plan: &[u16], totals: Totals, text: &mut Text)
 
 // The text of a day: its plan by the full path, or the refusal. It goes into a text that is lent, here and in what calls this, whatever that held: given
 // back by value its 9,312 bytes would lie on the stack once for each of them.
-pub fn day_text(day: Day, text: &mut Text)
+pub fn say_day(day: Day, text: &mut Text)
     ensures { SaysPlanOf (lent_day day.entry) text.new.bytes }
 {
     // An array, as the areas in program_plan, and for their reason.
@@ -36,4 +36,13 @@ pub fn day_text(day: Day, text: &mut Text)
         Ok(totals) => plan_lines(day, &slots, totals, text),
         Err(refusal) => lines::say_refusal(refusal, text),
     }
+}
+
+// Likewise, where there is room for a text of its own.
+pub fn day_text(day: Day) -> Text
+    ensures { SaysPlanOf (lent_day day.entry) result.bytes }
+{
+    let mut text = Text::new();
+    say_day(day, &mut text);
+    text
 }

@@ -14,7 +14,7 @@ ghost use Rattle.program_text.specs.Text.{expected_in, Inputs, SaysDay, PrintedT
 use day::{Day, Ends, Refusal, Stamp};
 use dayfile::layout;
 use lines::Text;
-pub use running::run;
+pub use running::{run, run_between};
 use tables::Tables;
 
 // The programs that read a day file.
@@ -61,8 +61,8 @@ fn day_text(program: Program, day: Day, needs: &[u8], text: &mut Text)
     ensures { SaysDay program needs.now (lent_day day.entry) text.new.bytes }
 {
     match program {
-        Program::Dayplan => plan_text::day_text(day, text),
-        Program::Margins => margin_text::day_text(day, needs, text),
+        Program::Dayplan => plan_text::say_day(day, text),
+        Program::Margins => margin_text::say_day(day, needs, text),
     }
 }
 
@@ -76,7 +76,7 @@ fn refused_text(answer: Result<(usize, Ends), Refusal>, text: &mut Text)
 }
 
 // The text of a file; goes on only with an accepted one. `dayplan` needs no actual needs.
-pub fn text_of(program: Program, file: &[u8], needs: &[u8], id: &[u8], text: &mut Text)
+pub fn say_text_of(program: Program, file: &[u8], needs: &[u8], id: &[u8], text: &mut Text)
     ensures { PrintedText program file.now needs.now id.now text.new.bytes }
 {
     let mut tables = Tables::new();
@@ -85,4 +85,13 @@ pub fn text_of(program: Program, file: &[u8], needs: &[u8], id: &[u8], text: &mu
         return refused_text(answer, text);
     };
     day_text(program, tables.day(n, ends), needs, text)
+}
+
+// Likewise, where there is room for a text of its own.
+pub fn text_of(program: Program, file: &[u8], needs: &[u8], id: &[u8]) -> Text
+    ensures { PrintedText program file.now needs.now id.now result.bytes }
+{
+    let mut text = Text::new();
+    say_text_of(program, file, needs, id, &mut text);
+    text
 }

@@ -4,7 +4,7 @@ ghost use Rattle.std.specs.Process.{exit_status};
 ghost use Rattle.std.specs.Io.KnownBytes.{Appends};
 ghost use Rattle.program_text.specs.Run.{Writes};
 
-use crate::{Program, text_of};
+use crate::{Program, say_text_of};
 use lines::Text;
 use std::io;
 use std::io::{Read, Write};
@@ -46,13 +46,13 @@ fn write_text<R: Files + Eprint, I: Read, O: Write>(
     let mut id = [0u8; 5];
     let id = input::read_named(rt, b"station.id", &mut id);
     let mut text = Text::new();
-    text_of(program, &file[..n], needs, id, &mut text);
+    say_text_of(program, &file[..n], needs, id, &mut text);
     output.write_all(text.as_bytes()).map_err(Stopped::Output)?;
     Ok(())
 }
 
-// Runs a program. What could not be read or written is said on standard error, and the status is not 0.
-pub fn run<R: Files + Eprint, I: Read, O: Write>(
+// Runs a program. What could not be read or written is said on standard error, and the status is not 0. I and O have names for the clause.
+pub fn run_between<R: Files + Eprint, I: Read, O: Write>(
     rt: &R,
     program: Program,
     input: &mut I,
@@ -68,4 +68,14 @@ pub fn run<R: Files + Eprint, I: Read, O: Write>(
             ExitCode::FAILURE
         }
     }
+}
+
+// Likewise; where R is written out, I and O need not be.
+pub fn run<R: Files + Eprint>(
+    rt: &R,
+    program: Program,
+    input: &mut impl Read,
+    output: &mut impl Write,
+) -> ExitCode {
+    run_between(rt, program, input, output)
 }

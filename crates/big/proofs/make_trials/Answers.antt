@@ -6,4 +6,4 @@ pub keys-requires : goal.keys-requires
 keys-requires c = keys_ask c.requires c.problem-p.ensures
 
 pub returns : goal.returns
-returns c = trials_give c.requires _ _ _ _ _ c.begin-cost.ensures _ _ _ c.run.ensures
+returns c = trials_give c.requires _ _ _ _ _ c.begin_in_cells-cost.ensures _ _ _ c.run_in_cells.ensures

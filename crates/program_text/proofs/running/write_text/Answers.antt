@@ -23,6 +23,6 @@ returns g c =
       text = _;
       read = IfOk-at_ok _ read c.read.ensures.bytes;
       all = λ short. IfOk-at_ok _ read c.read.ensures.end (omega (arith, length-take-le n c.read.new.room (omega arith)));
-      says = c.text_of.ensures;
+      says = c.say_text_of.ensures;
       put = rw (c.as_bytes.ensures.value, c.deref.ensures.0) at (IfOk-at_ok _ wrote c.write_all.ensures.bytes);
     }

@@ -3,8 +3,8 @@ use Rattle.day.specs.Tests.{gives_is}
 use Rattle.tables.specs.Longest.{held}
 use Rattle.program_text.specs.Laws.{Taken, input_taken, taken_limits, file_taken}
 use Rattle.program_text.specs.Text.{expected_in}
-use Rattle.program_text.proofs.text_of.Goals as goal
-use Rattle.program_text.proofs.text_of.Goals.{In-Ok}
+use Rattle.program_text.proofs.say_text_of.Goals as goal
+use Rattle.program_text.proofs.say_text_of.Goals.{In-Ok}
 
 taken : (c : In-Ok) → Taken (expected_in c.args.id.now) c.args.file.now (held c.read-answer.new.tables) c.in-Ok.n c.in-Ok.ends
 taken c =

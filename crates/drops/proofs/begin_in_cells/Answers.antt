@@ -1,7 +1,7 @@
 -- With all capacities allowed there is a plan, which is kept.
 use Rattle.day.specs.Lent.{lent_day}
 use Rattle.drops.proofs.Stepping.{some_plan, begun}
-use Rattle.drops.proofs.begin.Goals as goal
+use Rattle.drops.proofs.begin_in_cells.Goals as goal
 
 pub unwrap-cost-requires : goal.unwrap-cost-requires
 unwrap-cost-requires c =
