@@ -4,7 +4,7 @@ use day::{Day, Refusal, Totals, Trials};
 use plain::Best;
 use std::io;
 use trial_paths::tiny::days_of;
-use trial_text::cells::{MARK, Memory};
+use trial_text::cells::{LentMemory, MARK};
 use trial_text::counts::Counts;
 use trial_text::line::Line;
 use trial_text::show::text;
@@ -127,12 +127,12 @@ fn call(
     allowed: usize,
     counts: &mut Counts,
 ) -> Option<Given> {
-    let mut memory = Memory {
+    let mut memory = LentMemory {
         costs: &mut [MARK.into(); 14],
         choices: &mut [],
         slots: &mut [MARK.into(); 5],
     };
-    let outcome = call::run(day, &mut memory, allowed);
+    let outcome = call::run_lent(day, &mut memory, allowed);
     counts.count_if(Seen::Kept, outcome.kept);
     let (totals, trials) = match outcome.answer {
         Ok(planned) => planned,
@@ -179,12 +179,12 @@ fn calls(day: Day<'_>, trials: usize, counts: &mut Counts) {
 }
 
 // Made-up days, laid out as those of the paths; the most trials allowed are in field 5.
-pub fn made_up(rt: &impl Print, asked: &[u8]) -> io::Result<()> {
-    let line = Line::whole(asked);
+pub fn made_up(rt: &impl Print, line: &[u8]) -> io::Result<()> {
+    let asked = Line::whole(line);
     let mut counts = Counts::new();
-    for tiny in days_of(line) {
-        calls(tiny.day(), line.number(5), &mut counts);
+    for tiny in days_of(asked) {
+        calls(tiny.day(), asked.amount(5), &mut counts);
     }
-    text(rt, asked)?;
+    text(rt, line)?;
     println!(rt; "{counts}")
 }

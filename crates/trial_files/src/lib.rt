@@ -8,8 +8,8 @@ use day::{Day, Ends, Refusal, Stamp};
 use std::io;
 use trial_text::cells::{MARK, marked};
 use trial_text::counts::Counts;
-use trial_text::days::Tables;
-use trial_text::line::{Line, digit, numbers, repeated};
+use trial_text::days::FixedTables;
+use trial_text::line::{Line, amounts, digit, repeated_bytes};
 use trial_text::show::{Charge, Kept, Refused, Stores, text};
 
 // The longest file has 1,837 bytes; a line's has room for some more, and what comes after that is passed over.
@@ -21,7 +21,7 @@ fn bytes<'a>(field: &[u8], file: &'a mut File) -> &'a mut [u8]
     ensures { length result.now ≤ 1900 }
 {
     for word in field.split(|byte| *byte == b' ') {
-        let (digits, times) = repeated(word);
+        let (digits, times) = repeated_bytes(word);
         for _ in 0..times.min(98) {
             append(file, digits);
         }
@@ -47,7 +47,7 @@ const OWN: Stamp = Stamp {
 // The stamp that the reader is to expect: the two numbers of field 3, or its own where the field is left out. Fewer or more are no stamp.
 // Not by `codes::expected`, which takes a C program's numbers: there no number at all is no stamp either.
 fn expected(line: Line<'_>) -> Option<Stamp> {
-    let numbers: ArrayVec<u16, 3> = numbers(line.field(3));
+    let numbers: ArrayVec<u16, 3> = amounts(line.field_bytes(3));
     match numbers.as_slice() {
         [] => Some(OWN),
         [station, date] => Some(Stamp {
@@ -61,7 +61,7 @@ fn expected(line: Line<'_>) -> Option<Stamp> {
 // The reader, on tables of its own.
 fn read_into<const CELLS: usize>(
     file: &[u8],
-    tables: &mut Tables<CELLS>,
+    tables: &mut FixedTables<CELLS>,
     expected: Option<Stamp>,
 ) -> Result<(usize, Ends), Refusal> {
     dayfile_reader::read(
@@ -109,7 +109,7 @@ fn rewritten(file: &[u8], day: Day<'_>) -> Fare {
 
 // How a file of two periods fares. Where it is refused the needs' cells are left as they were.
 fn fare_of(file: &[u8]) -> Fare {
-    let mut tables = Tables::<2>::marked(2);
+    let mut tables = FixedTables::<2>::marked(2);
     match read_into(file, &mut tables, Some(OWN)) {
         Err(refusal) if marked(tables.demand.as_slice()) => Fare::Refused(refusal),
         Ok((_, ends)) => rewritten(file, tables.day(ends)),
@@ -152,7 +152,7 @@ fn change(file: &mut [u8]) -> Counts
 
 // The reader, with so many cells in each table, at most two more than the longest day needs, and the stamp that it expects.
 fn read(rt: &impl Print, file: &[u8], cells: usize, expected: Option<Stamp>) -> io::Result<()> {
-    let mut tables = Tables::<98>::marked(cells);
+    let mut tables = FixedTables::<98>::marked(cells);
     match read_into(file, &mut tables, expected) {
         Err(refusal) => print!(rt; "{}", Refused(refusal)),
         Ok((n, ends)) => {
@@ -180,13 +180,13 @@ fn look(rt: &impl Print, file: &[u8], period: usize) -> io::Result<()> {
 }
 
 // A trial of the file in field 1, by the first word of the name.
-pub fn file(rt: &impl Print, line: Line<'_>) -> io::Result<()> {
+pub fn file<R: Print>(rt: &R, line: Line<'_>) -> io::Result<()> {
     let mut file = File::new();
-    let file = bytes(line.field(1), &mut file);
+    let file = bytes(line.field_bytes(1), &mut file);
     text(rt, line.name)?;
-    match line.first_word() {
-        b"read" => read(rt, file, line.number(2), expected(line))?,
-        b"look" => look(rt, file, line.number(2))?,
+    match line.first_word_bytes() {
+        b"read" => read(rt, file, line.amount(2), expected(line))?,
+        b"look" => look(rt, file, line.amount(2))?,
         b"cut" => print!(rt; "{}", cut(file))?,
         _ => print!(rt; "{}", change(file))?,
     }
@@ -198,9 +198,9 @@ const ROOM: usize = 1842;
 
 // The writer, and what the reader says of the file that it made. There are as many bytes of room as field 6 says of a line that asks for it, all where
 // that is more.
-pub fn write(rt: &impl Print, line: Line<'_>, day: Day<'_>) -> io::Result<()> {
+pub fn write<R: Print>(rt: &R, line: Line<'_>, day: Day<'_>) -> io::Result<()> {
     let room = if matches!(line.kind, b"write") {
-        line.number(6)
+        line.amount(6)
     } else {
         ROOM
     };

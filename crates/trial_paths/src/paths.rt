@@ -3,7 +3,7 @@ ghost use Rattle.std.specs.Prelude.{◌≤◌};
 
 use day::{Day, Loads, Refusal, Sizes, Totals};
 use std::{fmt, io};
-use trial_text::cells::{MARK, Memory, Outcome};
+use trial_text::cells::{LentMemory, MARK, Memory, Outcome};
 use trial_text::days::total;
 use trial_text::line::Line;
 use trial_text::show::{Amounts, Cost, LoadCounts, text};
@@ -66,7 +66,7 @@ pub fn needed(path: Path, day: Day<'_>) -> Sizes
 pub type Planned = (Totals, Option<Loads>);
 
 // The free path takes no choice area.
-fn plan(path: Path, day: Day<'_>, memory: &mut Memory<'_>) -> Result<Planned, Refusal> {
+fn plan(path: Path, day: Day<'_>, memory: &mut LentMemory<'_>) -> Result<Planned, Refusal> {
     let costs = &mut *memory.costs;
     let choices = &mut *memory.choices;
     let slots = &mut *memory.slots;
@@ -82,9 +82,14 @@ fn plan(path: Path, day: Day<'_>, memory: &mut Memory<'_>) -> Result<Planned, Re
 }
 
 // A path in lent memory.
-pub fn run(path: Path, day: Day<'_>, memory: &mut Memory<'_>) -> Outcome<Planned> {
+pub fn run_lent(path: Path, day: Day<'_>, memory: &mut LentMemory<'_>) -> Outcome<Planned> {
     let answer = plan(path, day, memory);
     memory.outcome(answer, needed(path, day))
+}
+
+// Likewise, in a heap's memory.
+pub fn run(path: Path, day: Day<'_>, memory: &mut Memory) -> Outcome<Planned> {
+    run_lent(path, day, &mut memory.lent())
 }
 
 // The most cost cells that are lent to a path: two more than the full path needs for the largest day. On the stack, since a path takes no heap.
@@ -107,8 +112,8 @@ fn within(
     let mut costs = [MARK.into(); COSTS];
     let mut choices = [MARK.into(); CHOICES];
     let mut slots = [MARK.into(); SLOTS];
-    let mut memory = Memory::new(lent, &mut costs, &mut choices, &mut slots);
-    let outcome = run(path, day, &mut memory);
+    let mut memory = LentMemory::new(lent, &mut costs, &mut choices, &mut slots);
+    let outcome = run_lent(path, day, &mut memory);
     text(rt, line.name)?;
     print!(rt; " {path}")?;
     outcome.print(rt, |(totals, loads)| {
@@ -121,7 +126,7 @@ fn within(
 }
 
 // Each path in two cells and a slot more than it needs.
-pub fn all(rt: &impl Print, line: Line<'_>, day: Day<'_>) -> io::Result<()> {
+pub fn all<R: Print>(rt: &R, line: Line<'_>, day: Day<'_>) -> io::Result<()> {
     for path in Path::ALL {
         let need = needed(path, day);
         let lent = Sizes {
@@ -135,11 +140,11 @@ pub fn all(rt: &impl Print, line: Line<'_>, day: Day<'_>) -> io::Result<()> {
 }
 
 // One path in as many cost cells, choice cells and slots as fields 6, 7 and 8 say.
-pub fn lent(rt: &impl Print, line: Line<'_>, day: Day<'_>) -> io::Result<()> {
+pub fn lent<R: Print>(rt: &R, line: Line<'_>, day: Day<'_>) -> io::Result<()> {
     let lent = Sizes {
-        costs: line.number(6),
-        choices: line.number(7),
-        slots: line.number(8),
+        costs: line.amount(6),
+        choices: line.amount(7),
+        slots: line.amount(8),
     };
     within(rt, line, Path::of(line.kind), day, lent)
 }

@@ -7,7 +7,7 @@ use day::{Day, Refusal};
 use plain::Best;
 use std::io;
 use tiny_days::{Capacities, Days, Kind, Stores};
-use trial_text::cells::{MARK, Memory};
+use trial_text::cells::{LentMemory, MARK};
 use trial_text::counts::Counts;
 use trial_text::line::Line;
 use trial_text::show::text;
@@ -68,12 +68,12 @@ fn refused(refusal: Refusal) -> Option<Seen> {
 
 // One path's call, in memory that suffices for every path.
 fn call(path: Path, best: Option<Best>, day: Day<'_>, counts: &mut Counts) {
-    let mut memory = Memory {
+    let mut memory = LentMemory {
         costs: &mut [MARK.into(); 32],
         choices: &mut [MARK.into(); 102],
         slots: &mut [MARK.into(); 5],
     };
-    let outcome = paths::run(path, day, &mut memory);
+    let outcome = paths::run_lent(path, day, &mut memory);
     let answer = outcome.answer.map(|(totals, _)| totals);
     let agrees = plain::agrees(best, day, answer, memory.slots);
     counts.count_if(agreement(path), agrees);
@@ -105,20 +105,20 @@ pub fn days_of(line: Line<'_>) -> Days {
                 _ => Capacities::Any,
             },
             // A field begins with the space after its ';'.
-            stores: match line.field(4) {
+            stores: match line.field_bytes(4) {
                 b" low" => Stores::Low,
                 b" ample" => Stores::Ample,
                 _ => Stores::Unlimited,
             },
-            most: line.number(3),
+            most: line.amount(3),
         },
-        seed: line.number(1),
-        left: line.number(2),
+        seed: line.amount(1),
+        left: line.amount(2),
     }
 }
 
 // Made-up days; those of a trial named free have no setup cost.
-pub fn made_up(rt: &impl Print, line: Line<'_>) -> io::Result<()> {
+pub fn made_up<R: Print>(rt: &R, line: Line<'_>) -> io::Result<()> {
     let mut counts = Counts::new();
     for mut tiny in days_of(line) {
         if matches!(line.name, b"free") {
@@ -130,7 +130,7 @@ pub fn made_up(rt: &impl Print, line: Line<'_>) -> io::Result<()> {
     text(rt, line.name)?;
     // By number, as a line gives its fields.
     for k in 1..5 {
-        text(rt, line.field(k))?;
+        text(rt, line.field_bytes(k))?;
     }
     println!(rt; "{counts}")
 }

@@ -4,7 +4,7 @@
 use day::Day;
 use std::{fmt, io};
 use trial_text::days::total;
-use trial_text::line::{Line, Numbers, numbers};
+use trial_text::line::{Line, Numbers, amounts};
 use trial_text::show::{Amounts, Cost, Refused, text};
 use weigher::{Breach, Fault};
 
@@ -24,9 +24,9 @@ impl fmt::Display for Failed {
 }
 
 // The plan of field 6, alone or, where the kind is `compare`, beside that of field 7.
-pub fn plans(rt: &impl Print, line: Line<'_>, day: Day<'_>) -> io::Result<()> {
-    let plan: Numbers<u16> = numbers(line.field(6));
-    let other: Numbers<u16> = numbers(line.field(7));
+pub fn plans<R: Print>(rt: &R, line: Line<'_>, day: Day<'_>) -> io::Result<()> {
+    let plan: Numbers<u16> = amounts(line.field_bytes(6));
+    let other: Numbers<u16> = amounts(line.field_bytes(7));
     text(rt, line.name)?;
     if matches!(line.kind, b"compare") {
         match weigher::compare(day, plan.as_slice(), other.as_slice()) {

@@ -8,13 +8,13 @@ use trial_paths::tiny::days_of;
 use trial_plans::Failed;
 use trial_text::counts::Counts;
 use trial_text::days::summed;
-use trial_text::line::{Line, Numbers, numbers};
+use trial_text::line::{Line, Numbers, amounts};
 use trial_text::show::text;
 
 // The plan of field 6 against the needs of field 7.
-pub fn play(rt: &impl Print, line: Line<'_>, day: Day<'_>) -> io::Result<()> {
-    let plan: Numbers<u16> = numbers(line.field(6));
-    let actual: Numbers<u16> = numbers(line.field(7));
+pub fn play<R: Print>(rt: &R, line: Line<'_>, day: Day<'_>) -> io::Result<()> {
+    let plan: Numbers<u16> = amounts(line.field_bytes(6));
+    let actual: Numbers<u16> = amounts(line.field_bytes(7));
     text(rt, line.name)?;
     print!(rt; " play")?;
     match play::play(day, plan.as_slice(), actual.as_slice()) {
@@ -84,8 +84,8 @@ fn compare(day: Day<'_>, other: &[u16], counts: &mut Counts) {
 }
 
 // Made-up days, laid out as those of the paths; each day's plan is played against the needs of the day after it too.
-pub fn made_up(rt: &impl Print, asked: &[u8]) -> io::Result<()> {
-    let days = days_of(Line::whole(asked));
+pub fn made_up(rt: &impl Print, line: &[u8]) -> io::Result<()> {
+    let days = days_of(Line::whole(line));
     let kind = days.kind;
     let mut counts = Counts::new();
     for tiny in days {
@@ -93,6 +93,6 @@ pub fn made_up(rt: &impl Print, asked: &[u8]) -> io::Result<()> {
         let other = kind.make_up(tiny.seed).demand;
         compare(day, &other[..day.periods().min(4)], &mut counts);
     }
-    text(rt, asked)?;
+    text(rt, line)?;
     println!(rt; "{counts}")
 }

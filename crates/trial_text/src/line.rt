@@ -1,9 +1,17 @@
-//! Lines: their kind, their name and their fields; numbers. All of it is bytes, as standard input is: each byte means something in each place.
-ghost use Rattle.std.specs.Prelude.{◌≡◌, ◌%◌, ◌<◌, []};
+//! Lines: their kind, their name and their fields; numbers. What is read of them stands here as text, with vectors of the heap; in `bytes`, as the
+//! trials read it.
+mod bytes;
 
-use arrayvec::ArrayVec;
+pub(crate) use self::bytes::fill;
+pub use self::bytes::{
+    Amount, Numbers, ROOM, amounts, amounts_for_all, digit, first_amount, repeated_bytes,
+};
+use std::alloc::{AllocError, Global};
+use std::num::ParseIntError;
+use std::str::FromStr;
 
-// A line of the trials: `KIND NAME; FIELD; FIELD .. | ENDS / STORES`. What it leaves out is empty.
+// A line of the trials: `KIND NAME; FIELD; FIELD .. | ENDS / STORES`. What it leaves out is empty. All of it is bytes, as standard input is: each byte
+// means something in each place.
 #[derive(Clone, Copy)]
 pub struct Line<'a> {
     pub kind: &'a [u8],
@@ -13,153 +21,72 @@ pub struct Line<'a> {
     row: &'a [u8],
 }
 
-// What stands before and after the first such byte; all, and nothing, where there is none.
-fn parted(text: &[u8], at: u8) -> (&[u8], &[u8]) {
-    let mut parts = text.splitn(2, |byte| *byte == at);
-    (parts.next().unwrap_or(&[]), parts.next().unwrap_or(&[]))
+// A part of a line as text; empty where it is none. Each part of a line that was made of text is text.
+pub(crate) fn text_of(part: &[u8]) -> &str {
+    std::str::from_utf8(part).unwrap_or("")
 }
 
 impl<'a> Line<'a> {
-    pub fn new(text: &'a [u8]) -> Line<'a> {
-        let (row, after) = parted(text, b'|');
-        let (ends, stores) = parted(after, b'/');
-        Line {
-            ends,
-            stores,
-            ..Line::whole(row)
-        }
-    }
-
-    // A line of a kind that has no day: a '|' is a byte like others there.
-    pub fn whole(text: &'a [u8]) -> Line<'a>
-        ensures { (result.ends.now ≡ []) × (result.stores.now ≡ []) }
-    {
-        let (head, _) = parted(text, b';');
-        Line {
-            kind: parted(text, b' ').0,
-            name: parted(head, b' ').1,
-            ends: &[],
-            stores: &[],
-            row: text,
-        }
+    pub fn new(text: &'a str) -> Line<'a> {
+        Line::of_bytes(text.as_bytes())
     }
 
     // The first word of the name.
-    pub fn first_word(self) -> &'a [u8] {
-        parted(self.name, b' ').0
+    pub fn first_word(self) -> &'a str {
+        text_of(self.first_word_bytes())
     }
 
     // Field k, counted from 1: what stands after the k-th ';'.
-    pub fn field(self, k: usize) -> &'a [u8] {
-        self.row.split(|byte| *byte == b';').nth(k).unwrap_or(&[])
+    pub fn field(self, k: usize) -> &'a str {
+        text_of(self.field_bytes(k))
     }
 
     // The first number of field k; 0 where it has none.
-    pub fn number<N: Amount>(self, k: usize) -> N {
+    pub fn number<N: FromStr<Err = ParseIntError> + Default + Drop>(self, k: usize) -> N {
         first(self.field(k))
     }
 }
 
-// What a line's numbers are read as.
-pub trait Amount: Copy + Default {
-    // The lowest bits of a number, as many as there are.
-    fn low(n: u32) -> Self;
+// A decimal number; 0 where it is none.
+fn number<N: FromStr<Err = ParseIntError> + Default + Drop>(word: &str) -> N {
+    word.parse().unwrap_or_default()
 }
 
-impl Amount for u16 {
-    fn low(n: u32) -> u16
-        ensures { result ≡ n % 65536 }
-    {
-        (n % 65536) as u16
-    }
-}
-
-impl Amount for u32 {
-    fn low(n: u32) -> u32 {
-        n
-    }
-}
-
-impl Amount for usize {
-    fn low(n: u32) -> usize {
-        n as usize
-    }
-}
-
-// A digit's value, decimal or hexadecimal, of a large letter alone; 0 of any other byte.
-pub fn digit(byte: u8) -> u8
-    ensures { result < 16 }
-{
-    match byte {
-        b'0'..=b'9' => byte - b'0',
-        b'A'..=b'F' => byte - b'A' + 10,
-        _ => 0,
-    }
-}
-
-// A decimal number, modulo 2^32. Not by `parse`: no word is refused, and each byte counts.
-fn number<N: Amount>(word: &[u8]) -> N {
-    N::low(
-        word.iter().fold(0, |n: u32, byte| {
-            n.wrapping_mul(10).wrapping_add(u32::from(digit(*byte)))
-        }),
-    )
-}
-
-// The value of a text's first word; 0 where it has none.
-pub fn first<N: Amount>(text: &[u8]) -> N {
-    text.split(|byte| *byte == b' ')
-        .find(|word| !word.is_empty())
-        .map_or(N::low(0), |word| number(repeated(word).0))
+// The first number of a text; 0 where it has none.
+pub fn first<N: FromStr<Err = ParseIntError> + Default + Drop>(text: &str) -> N {
+    number(text.split_whitespace().next().unwrap_or(""))
 }
 
 // A word `VxN` stands for N times V, one without an 'x' for itself.
-pub fn repeated(word: &[u8]) -> (&[u8], usize) {
-    if word.contains(&b'x') {
-        let (value, times) = parted(word, b'x');
-        (value, number(times))
-    } else {
-        (word, 1)
+pub fn repeated(word: &str) -> (&str, usize) {
+    match word.split_once('x') {
+        Some((value, times)) => (value, number(times)),
+        None => (word, 1),
     }
 }
 
-// A table that is read from a line has room for more than the longest day, which has 96 periods. What comes after 128 numbers is passed over: a trial
-// takes no heap, as the calls that it tries take none.
-pub const ROOM: usize = 128;
-
-pub type Numbers<N> = ArrayVec<N, ROOM>;
-
-// So many times the same number behind those that are there, as far as there is room.
-pub(crate) fn fill<N: Amount, const CAP: usize>(
-    numbers: &mut ArrayVec<N, CAP>,
-    value: N,
-    n: usize,
-) {
-    for _ in 0..n {
-        if numbers.try_push(value).is_err() {
-            return;
-        }
+// The numbers of a text.
+pub fn numbers<N>(alloc: Global, text: &str) -> Result<Vec<N>, AllocError>
+where
+    N: FromStr<Err = ParseIntError> + Default + Copy,
+{
+    let mut numbers = Vec::new(alloc);
+    for word in text.split_whitespace() {
+        let (value, times) = repeated(word);
+        let n = numbers.len().saturating_add(times);
+        numbers.resize(n, number(value))?;
     }
-}
-
-// The numbers of a text, as far as there is room; here a word that says 0 times stands for itself.
-pub fn numbers<N: Amount, const CAP: usize>(text: &[u8]) -> ArrayVec<N, CAP> {
-    let mut numbers = ArrayVec::new();
-    for word in text.split(|byte| *byte == b' ') {
-        if !word.is_empty() {
-            let (value, times) = repeated(word);
-            fill(&mut numbers, number(value), times.max(1));
-        }
-    }
-    numbers
+    Ok(numbers)
 }
 
 // Likewise; one that stands alone stands for all n periods.
-pub fn for_all<N: Amount, const CAP: usize>(text: &[u8], n: usize) -> ArrayVec<N, CAP> {
-    let mut numbers = numbers(text);
+pub fn for_all<N>(alloc: Global, text: &str, n: usize) -> Result<Vec<N>, AllocError>
+where
+    N: FromStr<Err = ParseIntError> + Default + Copy,
+{
+    let mut numbers = numbers(alloc, text)?;
     if let [alone] = *numbers.as_slice() {
-        numbers.clear();
-        fill(&mut numbers, alone, n);
+        numbers.resize(n, alone)?;
     }
-    numbers
+    Ok(numbers)
 }

@@ -4,7 +4,7 @@
 
 use std::io;
 use trial_paths::paths;
-use trial_text::days::{Tables, ends_of};
+use trial_text::days::{FixedTables, ends_of};
 use trial_text::line::{Line, ROOM};
 
 // The trials of a line that begins with five of a day's tables: demands; capacities; setup, unit and holding costs. After a '|' it has the day's
@@ -12,7 +12,7 @@ use trial_text::line::{Line, ROOM};
 // From here on `rt`, `line` and `day` go side by side: where to print, what is asked, and of which day. A struct of the three would hold two borrows
 // and a type parameter, and most trials would take it apart.
 fn day(rt: &impl Print, line: Line<'_>) -> io::Result<()> {
-    let tables = Tables::<ROOM>::of(line);
+    let tables = FixedTables::<ROOM>::of(line);
     let day = tables.day(ends_of(line));
     match line.kind {
         b"day" => {
@@ -40,7 +40,7 @@ fn trial(rt: &impl Print, text: &[u8]) -> io::Result<()> {
         b"made-up" => trial_paths::tiny::made_up(rt, line),
         b"made-up-big" => trial_big::tiny::made_up(rt, text),
         b"made-up-play" => trial_play::made_up(rt, text),
-        _ => day(rt, Line::new(text)),
+        _ => day(rt, Line::of_bytes(text)),
     }
 }
 
